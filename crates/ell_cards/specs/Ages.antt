@@ -3,8 +3,10 @@ use mathlib.Core.Option.{some}
 use lib.ListN.{get_elem?}
 use Rattle.ell_word.specs.Node.{card}
 use Rattle.ell_grace.specs.Dead.{IsDead, HasUses}
+use Rattle.ell_layout.specs.Words.{Words}
 use Rattle.ell_cards.specs.declared.call.Call.{Call}
 use Rattle.ell_cards.specs.declared.view.Known.{Known}
+use Rattle.ell_cards.specs.declared.view.Retired.{Retired}
 use Rattle.ell_cards.specs.declared.view.SlotRead.{SlotRead}
 use Rattle.ell_cards.specs.declared.view.Slots.{Slots}
 use Rattle.ell_cards.specs.declared.view.View.{View}
@@ -14,7 +16,8 @@ use Rattle.ell_cards.specs.Laws.{machine_of_table}
 use Rattle.ell_cards.specs.Machines.{HasMachine}
 use Rattle.ell_cards.specs.Models.{TablePlan}
 use Rattle.ell_cards.specs.Periods.{WholeState, IsAtRest, LieInSlots, PeriodsAreSound, slot_word}
-use Rattle.ell_cards.specs.SlotWords.{card_by, is_noted}
+use Rattle.ell_cards.specs.CardNodes.{has_node}
+use Rattle.ell_cards.specs.SlotWords.{card_by, is_noted, slot_of}
 use Rattle.ell_cards.specs.Starts.{IsReached}
 use Rattle.ell_cards.specs.States.{TableState}
 use Rattle.ell_cards.specs.Tied.{IsTied}
@@ -47,10 +50,21 @@ pub record ForgotWhen (plan : TablePlan) (tree : TableState) (seat : ℕ) (dead 
   pub turns : List Turn
   pub run : TableRun plan begun turns tree
 
+-- If a card lies in its slot, and the slot is in use, the slot's word notes this one of its nodes; and so it is of a
+-- node.
+abbrev pub NotesThere : Slots → List ℕ → (ℕ → ℕ) → ℕ → ℕ → Type 0
+NotesThere s words lie c i =
+    slot_of c ≤ s.last → lie (slot_of c) ≡ c → slice_index words (slot_word s (slot_of c)) % 8 ≢ 7
+    → is_noted (slice_index words (slot_word s (slot_of c))) i ≡ true
+
+abbrev pub IsNotedThere : Slots → List ℕ → (ℕ → ℕ) → ℕ → Type 0
+IsNotedThere s words lie x = NotesThere s words lie (card x) (x % 4)
+
 -- What the grace periods of a table take for dead is so in its tree, and what was dead when a period began is dead
 -- still: cards of which each node is dead, or which were laid aside. The pass of each period is at rest, or it has
 -- forgotten what it was told since that was dead. The nodes that a slot's word notes as dead are out, and so are those
--- that a word of a slot in use noted which a pass has read. And the card whose flag a pass lost last was laid aside.
+-- that a word of a slot in use noted which a pass has read; and they are noted there still. And the card whose flag a
+-- pass lost last was laid aside.
 pub record AgesAreSound (plan : TablePlan) (s : Slots) (tree : TableState) (t : WholeState) (lie : ℕ → ℕ)
     (dead : ℕ → Bool) (was_dead : ℕ → ℕ → Bool) : Type 0 where
   pub now : AreDead plan tree dead
@@ -62,11 +76,28 @@ pub record AgesAreSound (plan : TablePlan) (s : Slots) (tree : TableState) (t : 
   pub read : (seat : ℕ) (k : Known) (r : SlotRead) → get_elem? t.views seat ≡ some k → k.period.read ≡ Some r
       → r.word % 8 ≢ 7 → (i : ℕ) → is_noted r.word i ≡ true
       → IsOut plan tree now.machine now.uses (4 * card_by r.slot r.word + i)
+      × IsNotedThere s t.words lie (4 * card_by r.slot r.word + i)
   pub lost : (seat c : ℕ) (k : Known) → get_elem? t.views seat ≡ some k → k.period.lost ≡ Some c
       → IsAside now.machine.stages tree.views c
 
+-- What a pass has noted of the nodes that a card made dead: the parent and the leaf that it took out, and its own ones
+-- that never come. Of each this is so.
+pub record AreRetired (w : Words) (c : ℕ) (retired : Retired) (P : ℕ → Type 0) : Type 0 where
+  pub parent : retired.parent ≡ true → P (w.p c)
+  pub leaf : retired.leaf ≡ true → P (w.l c)
+  pub own : (i : ℕ) → has_node retired.own i ≡ true → P (4 * c + i)
+
+-- What each pass has noted for its card in hand, whose slot it has taken, is out, and is noted still.
+abbrev pub RetiredStaysNoted : (plan : TablePlan) (s : Slots) (tree : TableState) (t : WholeState)
+    (machine : HasMachine plan tree) → HasUses (machine_of_table plan tree machine) → (ℕ → ℕ) → Type 0
+RetiredStaysNoted plan s tree t machine uses lie =
+    (seat c : ℕ) (k : Known) → get_elem? t.views seat ≡ some k → k.period.slot ≡ Some c → k.tree.worker.card ≡ Some c
+    → AreRetired machine.words c k.period.sought.retired
+    (λ x. IsOut plan tree machine uses x × IsNotedThere s t.words lie x)
+
 -- The periods of a table are sound, by which cards lie in its slots, which are dead in its tree, what the clock was
--- when each period began, and which were dead then; and its memory is tied to its tree.
+-- when each period began, and which were dead then; its memory is tied to its tree; and what passes have noted for
+-- their cards stays noted.
 pub record HasPeriods (plan : TablePlan) (s : Slots) (tree : TableState) (t : WholeState) : Type 0 where
   pub lie : ℕ → ℕ
   pub dead : ℕ → Bool
@@ -76,6 +107,7 @@ pub record HasPeriods (plan : TablePlan) (s : Slots) (tree : TableState) (t : Wh
   pub periods : PeriodsAreSound s t lie dead began was_dead
   pub ages : AgesAreSound plan s tree t lie dead was_dead
   pub tied : IsTied s tree t ages.now.machine.stages lie dead was_dead
+  pub retired : RetiredStaysNoted plan s tree t ages.now.machine ages.now.uses lie
 
 -- by what a pass knows of some card, a node is dead
 abbrev pub KnowsDeadNode : View → ℕ → Type 0

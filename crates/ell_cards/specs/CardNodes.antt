@@ -1,8 +1,6 @@
-use Rattle.std.specs.Prelude.{◌≡◌, ℕ, zero, suc, ◌+◌, ◌*◌, ◌==◌, ◌||◌, Bool, true, false}
+use Rattle.std.specs.Prelude.{◌≡◌, ◌↔◌, ℕ, zero, suc, ◌⊎◌, ◌==◌, ◌||◌, ◌&&◌, not, Bool, true, false}
 use Rattle.ell_cards.specs.declared.card_nodes.CardNodes.{CardNodes}
-use Rattle.ell_cards.specs.declared.view.View.{View}
-use Rattle.ell_cards.specs.Ages.{KnowsDeadNode}
-use Rattle.ell_cards.specs.Dead.{HasTakenOut, KnowsNeverComes}
+use Rattle.ell_cards.specs.SlotWords.{is_noted, turn_in}
 
 -- whether a node of the card is one of these, by its place among the three
 abbrev pub has_node : CardNodes → ℕ → Bool
@@ -11,9 +9,12 @@ has_node nodes (suc zero) = nodes.left
 has_node nodes (suc (suc zero)) = nodes.right
 has_node nodes (suc (suc (suc i))) = false
 
--- all three, one alone, and those of two
+-- all three, none, one alone, and those of two
 abbrev pub all_nodes : CardNodes
 all_nodes = record { internal = true; left = true; right = true }
+
+abbrev pub no_nodes : CardNodes
+no_nodes = record { internal = false; left = false; right = false }
 
 abbrev pub node_alone : ℕ → CardNodes
 node_alone place = record { internal = place == 0; left = place == 1; right = place == 2 }
@@ -25,17 +26,12 @@ nodes_of_both nodes others = record {
   right = nodes.right || others.right;
 }
 
--- this is so of each of these nodes of a card
-abbrev pub AllOfCard : (ℕ → Type 0) → ℕ → CardNodes → Type 0
-AllOfCard P c nodes = (i : ℕ) → has_node nodes i ≡ true → P (4 * c + i)
+-- whether the word of the card's slot notes all of these
+abbrev pub all_noted : CardNodes → ℕ → Bool
+all_noted nodes word =
+    (not nodes.internal || is_noted word 0) && (not nodes.left || is_noted word 1) && (not nodes.right || is_noted word 2)
 
--- by what a pass knows, each of these nodes of a card is dead; or never comes into the tree; or its card in hand has
--- taken each of them out
-abbrev pub KnowsDeadNodes : View → ℕ → CardNodes → Type 0
-KnowsDeadNodes v = AllOfCard (KnowsDeadNode v)
-
-abbrev pub NeverCome : View → ℕ → CardNodes → Type 0
-NeverCome v c = AllOfCard (KnowsNeverComes v c) c
-
-abbrev pub AreTakenOut : View → ℕ → CardNodes → Type 0
-AreTakenOut v = AllOfCard (HasTakenOut v)
+-- another word of the slot notes them too, and is of the same turn
+pub record NotesToo (nodes : CardNodes) (word noted : ℕ) : Type 0 where
+  pub turn : turn_in noted ≡ turn_in word
+  pub each : (i : ℕ) → (is_noted noted i ≡ true) ↔ ((is_noted word i ≡ true) ⊎ (has_node nodes i ≡ true))

@@ -1,41 +1,61 @@
 -- That dead nodes are noted in the words of slots.
-use Rattle.std.specs.Prelude.{◌≡◌, ◌≢◌, ℕ, ◌⊎◌, ◌+◌, ◌%◌, Bool, true, false, Some}
+use Rattle.std.specs.Prelude.{◌≡◌, ◌≢◌, ℕ, ◌+◌, ◌*◌, ◌%◌, ◌<◌, if◌then◌else◌, Bool, true, false, Some}
+use Rattle.ell_word.specs.Node.{card}
 use Rattle.ell_cards.specs.declared.card_nodes.CardNodes.{CardNodes}
 use Rattle.ell_cards.specs.declared.view.Seek.{Seek}
 use Rattle.ell_cards.specs.declared.view.Slots.{Slots}
+use Rattle.ell_cards.specs.declared.view.Told.TheVariants.{Met}
+use Rattle.ell_cards.specs.declared.view.View.{View}
+use Rattle.ell_cards.specs.Ages.{KnowsDeadNode}
 use Rattle.ell_cards.specs.CardNodes.{has_node}
-use Rattle.ell_cards.specs.Models.{PassModel}
-use Rattle.ell_cards.specs.SlotWords.{has_slot_in, is_noted, slot_of, turn_in, turn_of}
+use Rattle.ell_cards.specs.Dead.{HasTakenOut, KnowsNeverComes}
+use Rattle.ell_cards.specs.Models.{PassModel, IsTold}
+use Rattle.ell_cards.specs.Seeking.{how_many_noted, is_done, retires}
+use Rattle.ell_cards.specs.SlotWords.{card_by, has_slot_in, slot_of, turn_in, turn_of}
 
--- by the word of a slot these nodes of the card there are noted, or the slot is free, as it is once all three are
-abbrev pub NotesNodes : CardNodes → ℕ → Type 0
-NotesNodes nodes word = (word % 8 ≡ 7) ⊎ ((i : ℕ) → has_node nodes i ≡ true → is_noted word i ≡ true)
+-- this is so of each of these nodes of a card
+abbrev pub AllOfCard : (ℕ → Type 0) → ℕ → CardNodes → Type 0
+AllOfCard P c nodes = (i : ℕ) → has_node nodes i ≡ true → P (4 * c + i)
 
--- so it is by the word that a pass left in a slot, or read there, as it noted nodes last; or this is so of that word
-abbrev pub NotedThere : Seek → ℕ → CardNodes → (ℕ → Type 0) → Type 0
-NotedThere k slot nodes Other =
-    (word : ℕ) × (k.noted ≡ Some (record { slot = slot; word = word })) × (NotesNodes nodes word ⊎ Other word)
+-- by what a pass knows, each of these nodes of a card is dead; or never comes into the tree; or its card in hand has
+-- taken each of them out
+abbrev pub KnowsDeadNodes : View → ℕ → CardNodes → Type 0
+KnowsDeadNodes v = AllOfCard (KnowsDeadNode v)
 
--- the word of a slot is of another turn than a card's
-abbrev pub IsOfOtherTurn : ℕ → ℕ → Type 0
-IsOfOtherTurn c word = turn_in word ≢ turn_of c
+abbrev pub NeverCome : View → ℕ → CardNodes → Type 0
+NeverCome v c = AllOfCard (KnowsNeverComes v c) c
 
--- which a pass may find that notes nodes that never come, and not one that notes what its card in hand has taken out
-abbrev pub WasReplaced : Bool → ℕ → ℕ → Type 0
-WasReplaced true c word = ⊥
-WasReplaced false c word = IsOfOtherTurn c word
+abbrev pub AreTakenOut : View → ℕ → CardNodes → Type 0
+AreTakenOut v = AllOfCard (HasTakenOut v)
 
--- what a pass has sought is as it was, whatever it noted meanwhile
-abbrev pub IsSoughtAs : Seek → Seek → Type 0
-IsSoughtAs old new = new ≡ record old { noted = new.noted; outrun = new.outrun }
+-- a pass may note these nodes of a card: its card in hand has taken them out, or it is that card, and they never come
+abbrev pub MayRetire : View → Bool → ℕ → CardNodes → Type 0
+MayRetire v true c nodes = AreTakenOut v c nodes
+MayRetire v false c nodes = NeverCome v c nodes × (v.worker.card ≡ Some c)
 
--- so is all else that contracts see of it
+-- By the word of its slot, a card whose nodes a pass is to note lies there: it is that of a node which the pass has met;
+-- or it has this number, and the word is of its turn.
+abbrev pub LiesThereStill : View → Bool → ℕ → ℕ → Type 0
+LiesThereStill v true c word = (x : ℕ) × IsTold v (Met x) × (card x ≡ card_by (slot_of c) word)
+LiesThereStill v false c word = turn_in word ≡ turn_of c
+
+-- so a pass may note these nodes of the card in that word
+pub record MayNote (v : View) (taken_out : Bool) (c : ℕ) (nodes : CardNodes) (word : ℕ) : Type 0 where
+  pub used : word % 8 ≢ 7
+  pub there : LiesThereStill v taken_out c word
+  pub dead : KnowsDeadNodes v (card_by (slot_of c) word) nodes
+
+-- A pass that was to exchange that word has found another one: if some of the nodes are left by it, the pass may note
+-- them there, and it notes more of the three than the first one does.
+abbrev pub MayNoteNext : View → Bool → ℕ → CardNodes → ℕ → ℕ → Type 0
+MayNoteNext v taken_out c nodes word found =
+    found ≢ word → is_done taken_out c nodes found ≡ false
+    → MayNote v taken_out c nodes found × (how_many_noted word < how_many_noted found)
+
+-- what a pass has noted for its card in hand after it has noted these nodes of a card, if that has a slot
+abbrev pub retires_in : Slots → Bool → ℕ → CardNodes → Seek → Seek
+retires_in s taken_out c nodes k = if has_slot_in s.last c then retires taken_out nodes k else k
+
+-- all that contracts see of a pass is as it was, but what it has noted for its card in hand
 abbrev pub HasNoted : PassModel → PassModel → Type 0
-HasNoted old new =
-    new ≡ record old { sought = record (old.sought) { noted = new.sought.noted; outrun = new.sought.outrun } }
-
--- A pass noted nodes of a card that has a slot, unless another word stood there by then, three times in a row; and this
--- may be so of the word instead.
-abbrev pub IsNotedBy : Seek → Seek → Slots → ℕ → CardNodes → (ℕ → Type 0) → Type 0
-IsNotedBy old new s c nodes Other =
-    has_slot_in s.last c ≡ true → NotedThere new (slot_of c) nodes Other ⊎ (new.outrun ≡ old.outrun + 3)
+HasNoted old new = new ≡ record old { sought = record (old.sought) { retired = new.sought.retired } }

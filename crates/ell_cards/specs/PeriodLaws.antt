@@ -1,15 +1,19 @@
-use Rattle.std.specs.Prelude.{◌≡◌, ◌≢◌, ℕ, ◌%◌, ◌<◌, ◌≤◌, Some, slice_index}
+use Rattle.std.specs.Prelude.{◌≡◌, ◌≢◌, ℕ, ◌+◌, ◌*◌, ◌%◌, ◌<◌, ◌≤◌, true, Some, slice_index}
 use mathlib.Core.Option.{some}
 use lib.ListN.{get_elem?}
 use Rattle.ell_cards.specs.declared.view.Known.{Known}
 use Rattle.ell_cards.specs.declared.view.Slots.{Slots}
+use Rattle.ell_cards.specs.declared.view.Told.TheVariants.{Info}
+use Rattle.ell_word.specs.Node.{card}
 use Rattle.ell_layout.specs.declared.field.Field.{Field}
+use Rattle.ell_layout.specs.declared.field.Field.TheVariants as field
 use Rattle.ell_layout.specs.Layout.{address}
 use Rattle.ell_cards.specs.declared.call.Call.{Call}
 use Rattle.ell_cards.specs.Calls.{May, word_of}
-use Rattle.ell_cards.specs.Models.{TablePlan}
+use Rattle.ell_cards.specs.Models.{TablePlan, IsTold}
 use Rattle.ell_cards.specs.Periods.{WholeState, clock_word, slot_word}
-use Rattle.ell_cards.specs.SlotWords.{slot_of, stamp_in}
+use Rattle.ell_cards.specs.SlotWords.{card_by, is_noted, slot_of, stamp_in}
+use Rattle.ell_cards.specs.CardNodes.{has_node}
 use Rattle.ell_cards.specs.Tied.{MayInMemory}
 use Rattle.ell_cards.specs.Whole.{IsWhole}
 
@@ -49,3 +53,23 @@ FreeSlotsAreUntouched = (plan : TablePlan) (s : Slots) (t : WholeState) → plan
     → IsWhole plan t → (slot : ℕ) → IsSafelyFree s t slot
     → (seat : ℕ) (k : Known) → get_elem? t.views seat ≡ some k → (c : Call) → May plan c k.tree
     → MayInMemory k.period.slot k.tree c → (d : ℕ) → slot_of d ≡ slot → (f : Field) → word_of c ≢ address d f
+
+-- If by the word of its slot, which is in use, the card of a node lies there, the word notes the node.
+abbrev pub IsNotedInSlot : Slots → WholeState → ℕ → Type 0
+IsNotedInSlot s t x =
+    slot_of (card x) ≤ s.last → slice_index t.words (slot_word s (slot_of (card x))) % 8 ≢ 7
+    → card_by (slot_of (card x)) (slice_index t.words (slot_word s (slot_of (card x)))) ≡ card x
+    → is_noted (slice_index t.words (slot_word s (slot_of (card x)))) (x % 4) ≡ true
+
+-- so it is of what a pass has noted for a card: of the parent and the leaf of the card, as the pass was told of them, and
+-- of nodes of the card itself
+pub record RetiredIsNoted (s : Slots) (t : WholeState) (k : Known) (c : ℕ) : Type 0 where
+  pub parent : (x : ℕ) → IsTold k.tree (Info c field.P x) → k.period.sought.retired.parent ≡ true → IsNotedInSlot s t x
+  pub leaf : (x : ℕ) → IsTold k.tree (Info c field.L x) → k.period.sought.retired.leaf ≡ true → IsNotedInSlot s t x
+  pub own : (i : ℕ) → has_node k.period.sought.retired.own i ≡ true → IsNotedInSlot s t (4 * c + i)
+
+-- and so it is of each pass for its card in hand, whose slot it has taken, wherever steps have led a table with places
+abbrev pub RetiredNodesAreNoted : Type 0
+RetiredNodesAreNoted = (plan : TablePlan) (s : Slots) (t : WholeState) → plan.slots ≡ Some s → IsWhole plan t
+    → (seat c : ℕ) (k : Known) → get_elem? t.views seat ≡ some k → k.period.slot ≡ Some c → k.tree.worker.card ≡ Some c
+    → RetiredIsNoted s t k c

@@ -7,6 +7,7 @@ use Rattle.ell_layout.specs.Layout.{table_size}
 use Rattle.ell_word.specs.Node.{greatest_number}
 use Rattle.ell_grace.specs.Grace.{Grace, least_with}
 use Rattle.ell_grace.specs.Periods.{GraceIsSound}
+use Rattle.ell_cards.specs.declared.card_nodes.CardNodes.{CardNodes}
 use Rattle.ell_cards.specs.declared.view.Known.{Known}
 use Rattle.ell_cards.specs.declared.view.Period.{Period}
 use Rattle.ell_cards.specs.declared.view.Slots.{Slots}
@@ -15,7 +16,7 @@ use Rattle.ell_cards.specs.declared.view.Told.{Told}
 use Rattle.ell_cards.specs.declared.view.Told.TheVariants.{Met, Key}
 use Rattle.ell_cards.specs.declared.view.View.{View}
 use Rattle.ell_cards.specs.Models.{TablePlan, IsFree, IsTold}
-use Rattle.ell_cards.specs.Seeking.{could_have, could_take, missed_none, missed_one, no_seek, noted_in, outrun_once, sought_on}
+use Rattle.ell_cards.specs.Seeking.{could_have, could_take, is_done, missed_none, missed_one, no_seek, retires, retires_if, sought_on}
 use Rattle.ell_cards.specs.SlotWords.{slot_of, card_by, free_word, freed_by, has_slot_in}
 
 -- the state of a table, with all that its passes know
@@ -202,16 +203,15 @@ after_seek s begins for_delete c made n p = record (after_read (slot_of c) n p) 
   sought = sought_on s begins for_delete c made (could_have s for_delete c n p.safe) p.sought;
 }
 
--- the word of a slot was read by a pass that is to note nodes there
-abbrev pub after_noting_read : ℕ → ℕ → Period → Period
-after_noting_read slot n p = record (after_read slot n p) { sought = noted_in slot n p.sought }
+-- the word of a card's slot was read by a pass that is to note nodes of the card there, and none of them may be left
+abbrev pub after_noting_read : Bool → ℕ → CardNodes → ℕ → Period → Period
+after_noting_read taken_out c nodes n p =
+    record (after_read (slot_of c) n p) { sought = retires_if (is_done taken_out c nodes n) taken_out nodes p.sought }
 
--- A pass exchanged the word of a slot for this one: to note nodes there, which it did or was outrun; or to set the slot of
--- a card free that it has laid aside, which notes no nodes.
-abbrev pub after_noting : Bool → Bool → ℕ → ℕ → Period → Period
-after_noting false won slot n p = p
-after_noting true true slot n p = record p { sought = noted_in slot n p.sought }
-after_noting true false slot n p = record p { sought = outrun_once p.sought }
+-- it exchanged that word for one that notes them too; or it found another one, by which it goes on
+abbrev pub after_noting : Bool → Bool → ℕ → CardNodes → ℕ → Period → Period
+after_noting true taken_out c nodes n p = record p { sought = retires taken_out nodes p.sought }
+after_noting false taken_out c nodes n p = after_noting_read taken_out c nodes n p
 
 -- the slot of a card was taken
 abbrev pub after_taking : ℕ → Period → Period

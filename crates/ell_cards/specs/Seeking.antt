@@ -1,8 +1,11 @@
 -- What a search for a slot has read.
-use Rattle.std.specs.Prelude.{◌≡◌, ℕ, ◌⊎◌, ◌+◌, ◌-◌, ◌*◌, ◌/◌, ◌<◌, ◌≤◌, ◌%◌, ◌==◌, ◌&&◌, nat_lt, nat_le, not, if◌then◌else◌, Bool, true, false, Option, Some, None, IfSome}
+use Rattle.std.specs.Prelude.{◌≡◌, ℕ, ◌⊎◌, ◌+◌, ◌-◌, ◌*◌, ◌/◌, ◌<◌, ◌≤◌, ◌%◌, ◌==◌, ◌&&◌, ◌||◌, nat_lt, nat_le, not, if◌then◌else◌, Bool, true, false, Option, IfSome}
+use Rattle.ell_cards.specs.declared.card_nodes.CardNodes.{CardNodes}
+use Rattle.ell_cards.specs.declared.view.Retired.{Retired}
 use Rattle.ell_cards.specs.declared.view.Seek.{Seek}
 use Rattle.ell_cards.specs.declared.view.Slots.{Slots}
-use Rattle.ell_cards.specs.SlotWords.{has_slot_in, slot_of, turn_of, stamp_in}
+use Rattle.ell_cards.specs.CardNodes.{all_noted, no_nodes, nodes_of_both}
+use Rattle.ell_cards.specs.SlotWords.{has_slot_in, is_noted, slot_of, turn_in, turn_of, stamp_in}
 
 -- how many of the numbers that have slots come before this one, which has one: each turn has as many as there are slots,
 -- but for those that child words do not tell from the first, which have none
@@ -22,6 +25,10 @@ may_have s for_delete c = if for_delete then true else nat_le (slot_of c + 2) s.
 abbrev pub could_have : Slots → Bool → ℕ → ℕ → ℕ → Bool
 could_have s for_delete c n safe = could_take n safe && may_have s for_delete c
 
+-- a pass that has noted nothing for its card in hand
+abbrev pub none_retired : Retired
+none_retired = record { parent = false; leaf = false; own = no_nodes }
+
 -- a pass that has not sought a slot has read none
 abbrev pub no_seek : Seek
 no_seek = record {
@@ -31,8 +38,7 @@ no_seek = record {
   takeable = 0;
   made = 0;
   missed = 0;
-  noted = None;
-  outrun = 0;
+  retired = none_retired;
 }
 
 -- whether this number is the next one of the row
@@ -54,17 +60,32 @@ sought_on s begins for_delete c made takes k =
 abbrev pub missed_one : Seek → Seek
 missed_one k = record k { missed = k.missed + 1 }
 
--- or it was taken, and the count begins anew
+-- or it was taken, and the count begins anew; and for this card nothing was noted yet
 abbrev pub missed_none : Seek → Seek
-missed_none k = record k { missed = 0 }
+missed_none k = record k { missed = 0; retired = none_retired }
 
--- the word of a slot that a pass left there, or else read, as it noted nodes
-abbrev pub noted_in : ℕ → ℕ → Seek → Seek
-noted_in slot word k = record k { noted = Some (record { slot = slot; word = word }) }
+-- What a pass has noted for its card in hand, once it has noted these nodes of one card too: nodes that the card in
+-- hand has taken out, of which the internal one is the parent and another one the leaf; or nodes of that card itself.
+abbrev pub with_retired : Bool → CardNodes → Retired → Retired
+with_retired true nodes r =
+    record r { parent = r.parent || nodes.internal; leaf = r.leaf || (nodes.left || nodes.right) }
+with_retired false nodes r = record r { own = nodes_of_both r.own nodes }
 
--- or another word stood there by then
-abbrev pub outrun_once : Seek → Seek
-outrun_once k = record k { outrun = k.outrun + 1 }
+abbrev pub retires : Bool → CardNodes → Seek → Seek
+retires taken_out nodes k = record k { retired = with_retired taken_out nodes k.retired }
+
+-- Whether by the word of a card's slot none of these nodes of the card is left to be noted: the word notes them all, as
+-- it does where it sets the slot free; or it is of another turn than the card, which is the one in hand.
+abbrev pub is_done : Bool → ℕ → CardNodes → ℕ → Bool
+is_done taken_out c nodes word = all_noted nodes word || (not taken_out && not (turn_in word == turn_of c))
+
+-- a pass has read such a word, or another one
+abbrev pub retires_if : Bool → Bool → CardNodes → Seek → Seek
+retires_if done taken_out nodes k = if done then retires taken_out nodes k else k
+
+-- how many of the three nodes a word notes
+abbrev pub how_many_noted : ℕ → ℕ
+how_many_noted n = one_if (is_noted n 0) + one_if (is_noted n 1) + one_if (is_noted n 2)
 
 -- of the numbers from one on and up to the last one of a table none has a slot
 abbrev pub NumbersEnd : Slots → ℕ → ℕ → Type 0

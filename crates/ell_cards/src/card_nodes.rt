@@ -1,6 +1,7 @@
 //! Some of the three nodes of a card.
 ghost use Rattle.std.specs.Prelude.{◌≡◌, ◌<◌, ◌%◌, ℕ};
-ghost use Rattle.ell_cards.specs.CardNodes.{all_nodes, has_node, node_alone, nodes_of_both};
+ghost use Rattle.ell_cards.specs.CardNodes.{all_nodes, all_noted, has_node, node_alone, nodes_of_both};
+ghost use Rattle.ell_cards.specs.CardNodes.{NotesToo};
 ghost use Rattle.ell_cards.specs.SlotWords.{is_noted};
 
 /// Some of the three nodes of a card.
@@ -51,9 +52,27 @@ impl CardNodes {
         }
     }
 
-    /// Returns the bits that note them in the word of the card's slot.
+    /// Returns whether the word of the card's slot notes them all.
     #[inline(always)]
-    pub(crate) fn bits(self) -> u64
+    pub(crate) fn are_noted(self, word: u64) -> bool
+        ensures { result ≡ all_noted self word }
+    {
+        (!self.internal || word % 2 == 1)
+            && (!self.left || word / 2 % 2 == 1)
+            && (!self.right || word / 4 % 2 == 1)
+    }
+
+    /// Returns another word for the slot, which notes them too.
+    #[inline(always)]
+    pub(crate) fn noted_in(self, word: u64) -> u64
+        ensures { NotesToo self word result }
+    {
+        word | self.bits()
+    }
+
+    // Returns the bits that note them in the word of the card's slot.
+    #[inline(always)]
+    fn bits(self) -> u64
         ensures low { result < 8 }
         ensures each { (i : ℕ) → is_noted result i ≡ has_node self i }
     {

@@ -30,7 +30,7 @@ ghost use Rattle.ell_cards.specs.Tellings.{NoGreaterNext, NoGreaterUpdate, NoOth
 ghost use Rattle.ell_cards.specs.Laws.{StepsAreEvents, SplitsAreHandovers, JoinsAreHandovers, MachineIsSound, MachineHasOwnWords};
 ghost use Rattle.ell_cards.specs.Runs.{RunsAreLawful, RunsAreSchedules};
 ghost use Rattle.ell_cards.specs.RunLaws.{TableWinsAreInOrder, StartsAreKept, ReachedHasMachine};
-ghost use Rattle.ell_cards.specs.PeriodLaws.{SafeNumbersAreSafe, FreeSlotsAreUntouched};
+ghost use Rattle.ell_cards.specs.PeriodLaws.{SafeNumbersAreSafe, FreeSlotsAreUntouched, RetiredNodesAreNoted};
 ghost use Rattle.ell_cards.specs.Ties.{CallsKeepTies, SplitsKeepTies, JoinsKeepTies, PeriodsKeepTies, TakesKeepTies, OpeningsAreTied, CardsInSlotsAreFew, ExchangesAreNear, PassesTellApart, ChildrenAreApart};
 ghost use Rattle.ell_cards.specs.ShownTakings.{TakingsAreShown};
 ghost use Rattle.ell_cards.specs.Shown.{StepsAreShown, CallsCanBeShown, GuardsAreLifted, ClaimsAreShown, StoresStayWhole, TellingsAreShown, CallsActAlike, HandoversAreShown};
@@ -365,6 +365,8 @@ pub fn safe_numbers_are_safe()
     ensures began { SafeNumbersAreSafe }
     // No pass may touch a word of any card whose slot was set free with a stamp below some pass's safe number.
     ensures free { FreeSlotsAreUntouched }
+    // What a pass has noted for its card in hand is noted still, unless its slot is free or has another card by now.
+    ensures retired { RetiredNodesAreNoted }
 {}
 
 /// How a table with places uses slots anew. Its memory, which has words for slots alone, in each of which a card lies, is tied

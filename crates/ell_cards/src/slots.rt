@@ -3,15 +3,15 @@
 //! the clock as its stamp, and a pass takes the slot for another card once that stamp is safe. The numbers of a later
 //! turn that child words do not tell from the first have no slots. The steps are not counted.
 ghost use prog.Atomic.{either};
-ghost use Rattle.std.specs.Prelude.{◌==◌, ◌≡◌, ◌≢◌, ◌+◌, ◌*◌, ◌<◌, ◌≤◌, ◌%◌, ◌⊎◌, nat_le, ℕ, IfSome, None, Some, [], true, false};
+ghost use Rattle.std.specs.Prelude.{◌==◌, ◌≡◌, ◌≢◌, ◌+◌, ◌*◌, ◌<◌, ◌≤◌, ◌%◌, ◌⊎◌, ◌||◌, nat_le, ℕ, IfSome, None, Some, [], true, false};
 ghost use Rattle.ell_word.specs.Node.{card, greatest_card, greatest_number};
-ghost use Rattle.ell_cards.specs.Ages.{KnowsDeadNode, MayStamp};
-ghost use Rattle.ell_cards.specs.CardNodes.{AreTakenOut, KnowsDeadNodes, NeverCome, node_alone};
+ghost use Rattle.ell_cards.specs.Ages.{MayStamp};
+ghost use Rattle.ell_cards.specs.CardNodes.{NotesToo, has_node, node_alone};
 ghost use Rattle.ell_cards.specs.Dead.{HasTakenOut};
 ghost use Rattle.ell_cards.specs.Guards.{MayFill};
 ghost use Rattle.ell_cards.specs.Periods.{StandsAs, after_missing, after_noting, after_noting_read, after_own, after_read, after_seek, after_stamp, after_taking, has_slot, last_reading, slot_word, spread};
-ghost use Rattle.ell_cards.specs.Seeking.{could_take, FindsNone, FindsNoneIn, FindsOneFor, may_have, missed_none, missed_one, noted_in, outrun_once, sought_on};
-ghost use Rattle.ell_cards.specs.Noting.{HasNoted, IsNotedBy, IsOfOtherTurn, IsSoughtAs, NotedThere, WasReplaced};
+ghost use Rattle.ell_cards.specs.Seeking.{could_take, FindsNone, FindsNoneIn, FindsOneFor, may_have, is_done, missed_none, missed_one, retires, retires_if, sought_on};
+ghost use Rattle.ell_cards.specs.Noting.{AreTakenOut, HasNoted, MayNote, MayNoteNext, MayRetire, NeverCome, retires_in};
 ghost use Rattle.ell_cards.specs.SlotWords.{card_by, has_slot_in, has_slots, is_noted, slot_of, stamp_in, turn_in, turn_of};
 ghost use Rattle.ell_cards.specs.Stepping.{MayGoOn};
 ghost use Rattle.ell_cards.specs.Tied.{HoldsWaiting};
@@ -77,6 +77,14 @@ fn stamp_in(word: u64) -> u64
     ensures { result ≡ stamp_in word }
 {
     word / 8
+}
+
+// Returns whether by the word of a card's slot none of these nodes of the card is left to be noted.
+#[inline(always)]
+fn is_done(taken_out: bool, card: u64, nodes: CardNodes, word: u64) -> bool
+    ensures { result ≡ is_done taken_out card nodes word }
+{
+    nodes.are_noted(word) || (!taken_out && turn_in(word) != turn_of(card))
 }
 
 // Returns whether a slot was set free with a stamp below a safe number, by the slot's word.
@@ -199,161 +207,196 @@ impl<A: Allocator + Copy> CardTable<A> {
         self.period_load::<Brand>(seat, self.clock_address(slots))
     }
 
-    // Exchanges the word of a slot for another one, if it is this still, and tells what its caller picked. Returns the
-    // word that it found.
+    // Loads the word of the slot of a card of which the pass is to note nodes, and tells what its caller picked.
     #[inline(always)]
-    fn exchange_slot<J: PeriodTelling>(
+    fn load_noted<J: PeriodTelling>(
         &self,
         seat: &mut Seat<(), Known>,
         slots: Slots,
-        slot: u64,
-        word: u64,
-        other: u64,
-        notes: bool,
+        card: u64,
+        nodes: CardNodes,
+        taken_out: bool,
     ) -> u64
         requires own { seat.old.table_id ≡ self.now.id }
         requires empty { seat.old.me.1 ≡ [] }
         requires slots { self.now.plan.slots ≡ Some slots }
-        requires slot { slot ≤ slots.last }
-        requires rule { MayGoOn self.now.plan seat.old.me.0 (slot_word slots slot) (λ n. either (n == word) other n) J.then }
+        requires slot { slot_of card ≤ slots.last }
+        requires rule { MayGoOn self.now.plan seat.old.me.0 (slot_word slots (slot_of card)) (λ n. n) J.then }
         ensures told { J.then result seat.new.me.0.period }
         ensures tree { seat.new.me.0.tree ≡ seat.old.me.0.tree }
         ensures seat { (seat.new.table_id ≡ seat.old.table_id) × (seat.new.me.1 ≡ []) }
     {
-        let _ = notes;
-        self.period_exchange::<J>(seat, self.slot_address(slots, slot), word, other)
+        let _ = (nodes, taken_out);
+        self.period_load::<J>(seat, self.slot_address(slots, slot_of(card)))
     }
 
-    // Notes more nodes of the card in a slot as dead, by another word of the slot that notes them too, if its word is
-    // this still. Returns `true` if it was.
-    fn note_more(
+    // Exchanges the word of the slot of a card of which the pass notes nodes for another one, if it is this still, and
+    // tells what its caller picked. Returns the word that it found.
+    #[inline(always)]
+    fn exchange_noted<J: PeriodTelling>(
         &self,
         seat: &mut Seat<(), Known>,
         slots: Slots,
-        slot: u64,
-        word: u64,
-        noted: u64,
-    ) -> bool
-        requires own { seat.old.table_id ≡ self.now.id }
-        requires empty { seat.old.me.1 ≡ [] }
-        requires slots { self.now.plan.slots ≡ Some slots }
-        requires slot { slot ≤ slots.last }
-        requires turn { turn_in noted ≡ turn_in word }
-        requires taken { word % 8 ≢ 7 }
-        requires others { noted % 8 ≢ 7 }
-        requires dead { (i : ℕ) → is_noted noted i ≡ true →
-            (is_noted word i ≡ true) ⊎ KnowsDeadNode seat.old.me.0.tree (4 * card_by slot word + i) }
-        ensures period { seat.new.me.0.period ≡ after_noting true result slot noted seat.old.me.0.period }
-        ensures tree { seat.new.me.0.tree ≡ seat.old.me.0.tree }
-        ensures seat { (seat.new.table_id ≡ seat.old.table_id) × (seat.new.me.1 ≡ []) }
-    {
-        self.exchange_slot::<Brand>(seat, slots, slot, word, noted, true) == word
-    }
-
-    // Sets a slot free, all nodes of whose card the pass knows to be dead, as it notes the last of them, or whose card it
-    // has laid aside, if the slot's word is this still. Returns `true` if it was.
-    fn set_free(
-        &self,
-        seat: &mut Seat<(), Known>,
-        slots: Slots,
-        slot: u64,
-        word: u64,
-        notes: bool,
-    ) -> bool
-        requires own { seat.old.table_id ≡ self.now.id }
-        requires empty { seat.old.me.1 ≡ [] }
-        requires slots { self.now.plan.slots ≡ Some slots }
-        requires slot { slot ≤ slots.last }
-        requires low { slots.last < 2097152 }
-        requires taken { word % 8 ≢ 7 }
-        requires read { seat.old.me.0.period.read ≡ Some (record { slot = slot; word = word }) }
-        requires may { MayStamp seat.old.me.0 (card_by slot word) }
-        ensures stands { StandsAs seat.old.me.0.period seat.new.me.0.period }
-        ensures slot { seat.new.me.0.period.slot ≡ seat.old.me.0.period.slot }
-        ensures aside { notes ≡ false → seat.new.me.0.period.sought ≡ seat.old.me.0.period.sought }
-        ensures outrun { notes ≡ true → result ≡ false →
-            seat.new.me.0.period.sought ≡ outrun_once seat.old.me.0.period.sought }
-        ensures noted { notes ≡ true → result ≡ true → (word : ℕ) × (word % 8 ≡ 7)
-            × (seat.new.me.0.period.sought ≡ noted_in slot word seat.old.me.0.period.sought) }
-        ensures safe { seat.new.me.0.period.safe ≡ seat.old.me.0.period.safe }
-        ensures tree { seat.new.me.0.tree ≡ seat.old.me.0.tree }
-        ensures seat { (seat.new.table_id ≡ seat.old.table_id) × (seat.new.me.1 ≡ []) }
-    {
-        let reading = self.stamp(seat, slots, slot, word);
-        self.exchange_slot::<Brand>(seat, slots, slot, word, 8 * reading + 7, notes) == word
-    }
-
-    // Reads the word of the slot of a card of which the pass is to note nodes. If its card in hand has taken these out of
-    // the tree, of whose numbers it knows the low bits, the card that lies there by that word is theirs, unless the slot
-    // is free.
-    fn read_to_note(
-        &self,
-        seat: &mut Seat<(), Known>,
-        slots: Slots,
-        slot: u64,
         card: u64,
         nodes: CardNodes,
+        taken_out: bool,
+        word: u64,
+        other: u64,
     ) -> u64
         requires own { seat.old.table_id ≡ self.now.id }
         requires empty { seat.old.me.1 ≡ [] }
         requires slots { self.now.plan.slots ≡ Some slots }
-        requires slot { slot ≤ slots.last }
-        requires card { slot_of card ≡ slot }
-        ensures read { seat.new.me.0.period ≡ after_noting_read slot result seat.old.me.0.period }
-        ensures dead { AreTakenOut (shown seat.old.me.0.tree) card nodes →
-            result % 8 ≢ 7 → KnowsDeadNodes seat.old.me.0.tree (card_by slot result) nodes }
+        requires slot { slot_of card ≤ slots.last }
+        requires rule { MayGoOn self.now.plan seat.old.me.0 (slot_word slots (slot_of card)) (λ n. either (n == word) other n) J.then }
+        ensures told { J.then result seat.new.me.0.period }
         ensures tree { seat.new.me.0.tree ≡ seat.old.me.0.tree }
         ensures seat { (seat.new.table_id ≡ seat.old.table_id) × (seat.new.me.1 ≡ []) }
     {
-        let _ = (card, nodes);
-        self.period_load::<Brand>(seat, self.slot_address(slots, slot))
+        let _ = (nodes, taken_out);
+        self.period_exchange::<J>(seat, self.slot_address(slots, slot_of(card)), word, other)
     }
 
-    // Notes nodes that the pass knows to be dead of the card that lies in a slot by the word that was read there, by
-    // one exchange for all, unless the word does so already. Returns whether it set the slot free by that, or `None` if
-    // the word changed meanwhile.
-    fn note_word(
-        &self,
-        seat: &mut Seat<(), Known>,
-        slots: Slots,
-        slot: u64,
-        word: u64,
-        nodes: CardNodes,
-    ) -> Option<bool>
+    // Sets a slot free whose card the pass has laid aside, if the slot's word is this still.
+    fn set_free(&self, seat: &mut Seat<(), Known>, slots: Slots, slot: u64, word: u64)
         requires own { seat.old.table_id ≡ self.now.id }
         requires empty { seat.old.me.1 ≡ [] }
         requires slots { self.now.plan.slots ≡ Some slots }
         requires slot { slot ≤ slots.last }
-        requires low { slots.last < 2097152 }
+        requires taken { word % 8 ≢ 7 }
         requires read { seat.old.me.0.period.read ≡ Some (record { slot = slot; word = word }) }
-        requires found { seat.old.me.0.period.sought.noted ≡ Some (record { slot = slot; word = word }) }
-        requires dead { word % 8 ≢ 7 → KnowsDeadNodes seat.old.me.0.tree (card_by slot word) nodes }
+        requires lost { seat.old.me.0.period.lost ≡ Some (card_by slot word) }
+        ensures period { (reading : ℕ) × (seat.new.me.0.period ≡ after_stamp (card_by slot word) reading seat.old.me.0.period) }
+        ensures tree { seat.new.me.0.tree ≡ seat.old.me.0.tree }
+        ensures seat { (seat.new.table_id ≡ seat.old.table_id) × (seat.new.me.1 ≡ []) }
+    {
+        let reading = self.stamp(seat, slots, slot, word);
+        self.period_exchange::<Brand>(seat, self.slot_address(slots, slot), word, 8 * reading + 7);
+    }
+
+    // Reads the word of the slot of a card of which the pass is to note nodes: nodes that its card in hand has taken out
+    // of the tree, of whose numbers it knows the low bits, or nodes of that card that never come. Unless the word shows
+    // that none of them is left, the card lies there still.
+    fn read_to_note(
+        &self,
+        seat: &mut Seat<(), Known>,
+        slots: Slots,
+        card: u64,
+        nodes: CardNodes,
+        taken_out: bool,
+    ) -> u64
+        requires own { seat.old.table_id ≡ self.now.id }
+        requires empty { seat.old.me.1 ≡ [] }
+        requires slots { self.now.plan.slots ≡ Some slots }
+        requires slot { slot_of card ≤ slots.last }
+        requires retires { MayRetire (shown seat.old.me.0.tree) taken_out card nodes }
+        ensures read { seat.new.me.0.period ≡ after_noting_read taken_out card nodes result seat.old.me.0.period }
+        ensures may { is_done taken_out card nodes result ≡ false →
+            MayNote seat.old.me.0.tree taken_out card nodes result }
+        ensures tree { seat.new.me.0.tree ≡ seat.old.me.0.tree }
+        ensures seat { (seat.new.table_id ≡ seat.old.table_id) × (seat.new.me.1 ≡ []) }
+    {
+        self.load_noted::<Brand>(seat, slots, card, nodes, taken_out)
+    }
+
+    // Notes such nodes by another word of the slot, not all three of whose nodes it notes, if its word is the one that
+    // was read. Returns the word that it found: if that is another one, the pass has read it by that.
+    fn note_more(
+        &self,
+        seat: &mut Seat<(), Known>,
+        slots: Slots,
+        card: u64,
+        nodes: CardNodes,
+        taken_out: bool,
+        word: u64,
+        noted: u64,
+    ) -> u64
+        requires own { seat.old.table_id ≡ self.now.id }
+        requires empty { seat.old.me.1 ≡ [] }
+        requires slots { self.now.plan.slots ≡ Some slots }
+        requires slot { slot_of card ≤ slots.last }
+        requires retires { MayRetire (shown seat.old.me.0.tree) taken_out card nodes }
+        requires read { seat.old.me.0.period.read ≡ Some (record { slot = slot_of card; word = word }) }
+        requires may { MayNote seat.old.me.0.tree taken_out card nodes word }
+        requires notes { NotesToo nodes word noted }
+        requires left { noted % 8 ≢ 7 }
+        ensures period { seat.new.me.0.period ≡ after_noting (result == word) taken_out card nodes result seat.old.me.0.period }
+        ensures next { MayNoteNext seat.old.me.0.tree taken_out card nodes word result }
+        ensures tree { seat.new.me.0.tree ≡ seat.old.me.0.tree }
+        ensures seat { (seat.new.table_id ≡ seat.old.table_id) × (seat.new.me.1 ≡ []) }
+    {
+        self.exchange_noted::<Brand>(seat, slots, card, nodes, taken_out, word, noted)
+    }
+
+    // Sets the slot free instead, as these are the last of its card's nodes.
+    fn note_last(
+        &self,
+        seat: &mut Seat<(), Known>,
+        slots: Slots,
+        card: u64,
+        nodes: CardNodes,
+        taken_out: bool,
+        word: u64,
+    ) -> u64
+        requires own { seat.old.table_id ≡ self.now.id }
+        requires empty { seat.old.me.1 ≡ [] }
+        requires slots { self.now.plan.slots ≡ Some slots }
+        requires slot { slot_of card ≤ slots.last }
+        requires retires { MayRetire (shown seat.old.me.0.tree) taken_out card nodes }
+        requires read { seat.old.me.0.period.read ≡ Some (record { slot = slot_of card; word = word }) }
+        requires may { MayNote seat.old.me.0.tree taken_out card nodes word }
+        requires last { (i : ℕ) → i < 3 → (is_noted word i ≡ true) ⊎ (has_node nodes i ≡ true) }
+        ensures period { (reading : ℕ) × (seat.new.me.0.period ≡ after_noting (result == word) taken_out card nodes result
+            (after_stamp (card_by (slot_of card) word) reading seat.old.me.0.period)) }
+        ensures next { MayNoteNext seat.old.me.0.tree taken_out card nodes word result }
+        ensures tree { seat.new.me.0.tree ≡ seat.old.me.0.tree }
+        ensures seat { (seat.new.table_id ≡ seat.old.table_id) × (seat.new.me.1 ≡ []) }
+    {
+        let reading = self.stamp(seat, slots, slot_of(card), word);
+        self.exchange_noted::<Brand>(seat, slots, card, nodes, taken_out, word, 8 * reading + 7)
+    }
+
+    // Notes such nodes by an exchange of the word that was read, which leaves some of them, for one that notes them too,
+    // or that sets the slot free as all three are. Returns the word that it found: if that is another one, the pass has
+    // read it by that.
+    fn note_word(
+        &self,
+        seat: &mut Seat<(), Known>,
+        slots: Slots,
+        card: u64,
+        nodes: CardNodes,
+        taken_out: bool,
+        word: u64,
+    ) -> u64
+        requires own { seat.old.table_id ≡ self.now.id }
+        requires empty { seat.old.me.1 ≡ [] }
+        requires slots { self.now.plan.slots ≡ Some slots }
+        requires slot { slot_of card ≤ slots.last }
+        requires retires { MayRetire (shown seat.old.me.0.tree) taken_out card nodes }
+        requires read { seat.old.me.0.period.read ≡ Some (record { slot = slot_of card; word = word }) }
+        requires may { MayNote seat.old.me.0.tree taken_out card nodes word }
         ensures stands { StandsAs seat.old.me.0.period seat.new.me.0.period }
         ensures slot { seat.new.me.0.period.slot ≡ seat.old.me.0.period.slot }
-        ensures sought { IsSoughtAs seat.old.me.0.period.sought seat.new.me.0.period.sought }
-        ensures outrun { result ≡ None →
-            seat.new.me.0.period.sought.outrun ≡ seat.old.me.0.period.sought.outrun + 1 }
-        ensures noted { result ≢ None → NotedThere seat.new.me.0.period.sought slot nodes (λ _. ⊥) }
+        ensures lost { seat.new.me.0.period.lost ≡ seat.old.me.0.period.lost }
+        ensures sought { seat.new.me.0.period.sought ≡
+            retires_if (result == word || is_done taken_out card nodes result) taken_out nodes seat.old.me.0.period.sought }
+        ensures read { result ≢ word →
+            seat.new.me.0.period.read ≡ Some (record { slot = slot_of card; word = result }) }
+        ensures next { MayNoteNext seat.old.me.0.tree taken_out card nodes word result }
         ensures safe { seat.new.me.0.period.safe ≡ seat.old.me.0.period.safe }
         ensures tree { seat.new.me.0.tree ≡ seat.old.me.0.tree }
         ensures seat { (seat.new.table_id ≡ seat.old.table_id) × (seat.new.me.1 ≡ []) }
     {
-        let noted = word | nodes.bits();
-        if noted == word {
-            return Some(false);
-        }
+        let noted = nodes.noted_in(word);
         if noted % 8 == 7 {
-            self.set_free(seat, slots, slot, word, true).then_some(true)
+            self.note_last(seat, slots, card, nodes, taken_out, word)
         } else {
-            self.note_more(seat, slots, slot, word, noted)
-                .then_some(false)
+            self.note_more(seat, slots, card, nodes, taken_out, word, noted)
         }
     }
 
-    // Notes nodes of a card that the pass knows to be dead in the word of the card's slot, unless another card lies
-    // there by now: nodes that the card in hand has taken out, of whose card the low bits are known, or nodes that
-    // never come, of a card of this number. Returns whether it set the slot free by that, or `None` if the word changed
-    // meanwhile.
+    // Notes such nodes in the word of their card's slot. If another pass changes the word meanwhile, it goes on by the
+    // word that it found: that happens at most twice, as each such word notes more of the three nodes. Returns whether it
+    // set the slot free.
     fn note_dead(
         &self,
         seat: &mut Seat<(), Known>,
@@ -361,63 +404,30 @@ impl<A: Allocator + Copy> CardTable<A> {
         card: u64,
         nodes: CardNodes,
         taken_out: bool,
-    ) -> Option<bool>
-        requires own { seat.old.table_id ≡ self.now.id }
-        requires empty { seat.old.me.1 ≡ [] }
-        requires slots { self.now.plan.slots ≡ Some slots }
-        requires slot { slot_of card ≤ slots.last }
-        requires low { slots.last < 2097152 }
-        requires taken { taken_out ≡ true → AreTakenOut (shown seat.old.me.0.tree) card nodes }
-        requires never { taken_out ≡ false → NeverCome (shown seat.old.me.0.tree) card nodes }
-        ensures stands { StandsAs seat.old.me.0.period seat.new.me.0.period }
-        ensures slot { seat.new.me.0.period.slot ≡ seat.old.me.0.period.slot }
-        ensures sought { IsSoughtAs seat.old.me.0.period.sought seat.new.me.0.period.sought }
-        ensures outrun { result ≡ None →
-            seat.new.me.0.period.sought.outrun ≡ seat.old.me.0.period.sought.outrun + 1 }
-        ensures noted { result ≢ None →
-            NotedThere seat.new.me.0.period.sought (slot_of card) nodes (WasReplaced taken_out card) }
-        ensures safe { seat.new.me.0.period.safe ≡ seat.old.me.0.period.safe }
-        ensures tree { seat.new.me.0.tree ≡ seat.old.me.0.tree }
-        ensures seat { (seat.new.table_id ≡ seat.old.table_id) × (seat.new.me.1 ≡ []) }
-    {
-        let slot = slot_of(card);
-        let word = self.read_to_note(seat, slots, slot, card, nodes);
-        if !taken_out && turn_in(word) != turn_of(card) {
-            return Some(false);
-        }
-        self.note_word(seat, slots, slot, word, nodes)
-    }
-
-    // Notes such nodes even if the word changes meanwhile: it does so at most twice, as each change notes another node
-    // of the card. Returns whether it set the slot free.
-    fn note_surely(
-        &self,
-        seat: &mut Seat<(), Known>,
-        slots: Slots,
-        card: u64,
-        nodes: CardNodes,
-        taken_out: bool,
     ) -> bool
         requires own { seat.old.table_id ≡ self.now.id }
         requires empty { seat.old.me.1 ≡ [] }
         requires slots { self.now.plan.slots ≡ Some slots }
         requires slot { slot_of card ≤ slots.last }
-        requires low { slots.last < 2097152 }
-        requires taken { taken_out ≡ true → AreTakenOut (shown seat.old.me.0.tree) card nodes }
-        requires never { taken_out ≡ false → NeverCome (shown seat.old.me.0.tree) card nodes }
+        requires retires { MayRetire (shown seat.old.me.0.tree) taken_out card nodes }
         ensures stands { StandsAs seat.old.me.0.period seat.new.me.0.period }
         ensures slot { seat.new.me.0.period.slot ≡ seat.old.me.0.period.slot }
-        ensures sought { IsSoughtAs seat.old.me.0.period.sought seat.new.me.0.period.sought }
-        ensures noted { NotedThere seat.new.me.0.period.sought (slot_of card) nodes (WasReplaced taken_out card)
-            ⊎ (seat.new.me.0.period.sought.outrun ≡ seat.old.me.0.period.sought.outrun + 3) }
+        ensures lost { seat.new.me.0.period.lost ≡ seat.old.me.0.period.lost }
+        ensures sought { seat.new.me.0.period.sought ≡ retires taken_out nodes seat.old.me.0.period.sought }
         ensures safe { seat.new.me.0.period.safe ≡ seat.old.me.0.period.safe }
         ensures tree { seat.new.me.0.tree ≡ seat.old.me.0.tree }
         ensures seat { (seat.new.table_id ≡ seat.old.table_id) × (seat.new.me.1 ≡ []) }
     {
+        let mut word = self.read_to_note(seat, slots, card, nodes, taken_out);
         for _ in 0..3u64 {
-            if let Some(freed) = self.note_dead(seat, slots, card, nodes, taken_out) {
-                return freed;
+            if is_done(taken_out, card, nodes, word) {
+                return false;
             }
+            let found = self.note_word(seat, slots, card, nodes, taken_out, word);
+            if found == word {
+                return nodes.noted_in(word) % 8 == 7;
+            }
+            word = found;
         }
         false
     }
@@ -444,7 +454,7 @@ impl<A: Allocator + Copy> CardTable<A> {
         }
         let word = self.read_slot(seat, slots, slot);
         if turn_in(word) == turn_of(card) && word % 8 == 0 {
-            self.set_free(seat, slots, slot, word, false);
+            self.set_free(seat, slots, slot, word);
         }
     }
 
@@ -455,10 +465,9 @@ impl<A: Allocator + Copy> CardTable<A> {
         requires taken { HasTakenOut pass.old.view node }
         // What the pass knows of the tree is as it was, and it has made no step that is counted.
         ensures same { HasNoted pass.old pass.new }
-        // The pass left in the slot, or found there, a word that notes the node, or sets the slot free; unless it
-        // was outrun three times.
-        ensures noted { IfSome self.now.plan.slots (λ s.
-            IsNotedBy pass.old.sought pass.new.sought s (card node) (node_alone (node % 4)) (λ _. ⊥)) }
+        // The node is noted, as what the card has taken out: its parent if it is an internal node, else its leaf.
+        ensures noted { IfSome self.now.plan.slots (λ s. pass.new.sought ≡
+            retires_in s true (card node) (node_alone (node % 4)) pass.old.sought) }
         // A table without places has no slots that become free.
         ensures none { self.now.plan.slots ≡ None → (result ≡ false) × (pass.new ≡ pass.old) }
     {
@@ -474,10 +483,10 @@ impl<A: Allocator + Copy> CardTable<A> {
         requires taken { AreTakenOut pass.old.view card nodes }
         // What the pass knows of the tree is as it was, and it has made no step that is counted.
         ensures same { HasNoted pass.old pass.new }
-        // The pass left in the slot, or found there, a word that notes these nodes, or sets the slot free; unless it
-        // was outrun three times.
-        ensures noted { IfSome self.now.plan.slots (λ s.
-            IsNotedBy pass.old.sought pass.new.sought s card nodes (λ _. ⊥)) }
+        // They are noted, as what the card in hand has taken out: an internal node as its parent, another one as its
+        // leaf.
+        ensures noted { IfSome self.now.plan.slots (λ s. pass.new.sought ≡
+            retires_in s true card nodes pass.old.sought) }
         // A table without places has no slots that become free.
         ensures none { self.now.plan.slots ≡ None → (result ≡ false) × (pass.new ≡ pass.old) }
     {
@@ -487,21 +496,20 @@ impl<A: Allocator + Copy> CardTable<A> {
         if !slots.has_slot(card) {
             return false;
         }
-        self.note_surely(&mut pass.seat, slots, card, nodes, true)
+        self.note_dead(&mut pass.seat, slots, card, nodes, true)
     }
 
-    /// Notes nodes of a card that the pass knows never to come into the tree, as the card is over, all by one exchange.
-    /// Once all three nodes of a card are noted, its slot is free. Returns `true` if it became free by this call. It
+    /// Notes nodes of the card in hand that never come into the tree, as the card is over, all by one exchange. Once all three nodes of a card are noted, its slot is free. Returns `true` if it became free by this call. It
     /// does nothing if the table has no places. Its steps are not counted.
     pub fn retire_nodes(&self, pass: &mut Pass<A>, card: u64, nodes: CardNodes) -> bool
         requires own { pass.old.table ≡ self.now.id }
+        requires hand { pass.old.view.worker.card ≡ Some card }
         requires never { NeverCome pass.old.view card nodes }
         // What the pass knows of the tree is as it was, and it has made no step that is counted.
         ensures same { HasNoted pass.old pass.new }
-        // The pass left in the slot, or found there, a word that notes these nodes, or sets the slot free, or is of
-        // another turn than the card's; unless it was outrun three times.
-        ensures noted { IfSome self.now.plan.slots (λ s.
-            IsNotedBy pass.old.sought pass.new.sought s card nodes (IsOfOtherTurn card)) }
+        // They are noted, as nodes of that card.
+        ensures noted { IfSome self.now.plan.slots (λ s. pass.new.sought ≡
+            retires_in s false card nodes pass.old.sought) }
         // A table without places has no slots that become free.
         ensures none { self.now.plan.slots ≡ None → (result ≡ false) × (pass.new ≡ pass.old) }
     {
@@ -511,7 +519,7 @@ impl<A: Allocator + Copy> CardTable<A> {
         if !slots.has_slot(card) {
             return false;
         }
-        self.note_surely(&mut pass.seat, slots, card, nodes, false)
+        self.note_dead(&mut pass.seat, slots, card, nodes, false)
     }
 
     // Reads the word of the slot of a card in hand, and counts a miss if the pass could not take the slot.

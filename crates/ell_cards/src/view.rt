@@ -1,4 +1,5 @@
 //! What a pass knows, as contracts see it.
+use crate::card_nodes::CardNodes;
 use crate::glance::Glance;
 use ell_core::{Exchange, Fact, WorkerView};
 use ell_layout::Field;
@@ -143,7 +144,7 @@ pub struct Period {
 }
 
 /// What a pass knows of the words of slots: what it has read in its last search for a slot, a row of numbers that have slots,
-/// one after the other; and what it has noted last.
+/// one after the other; and what it has noted for the card whose slot it took last.
 #[derive(Clone, Copy)]
 pub struct Seek {
     /// Whether it sought one for a delete.
@@ -158,10 +159,19 @@ pub struct Seek {
     pub made: u64,
     /// So many cards that it had in hand since it took a slot last had slots that it could not take.
     pub missed: u64,
-    /// The word of a slot that it left there, or else read, as it noted nodes last.
-    pub noted: Option<SlotRead>,
-    /// So often another word stood there by then.
-    pub outrun: u64,
+    /// What it has noted since of the nodes that this card made dead.
+    pub retired: Retired,
+}
+
+/// What a pass has noted of the nodes that its card in hand made dead, once that is over.
+#[derive(Clone, Copy)]
+pub struct Retired {
+    /// The parent that the card of a delete took out of the tree.
+    pub parent: bool,
+    /// The leaf that the card took out.
+    pub leaf: bool,
+    /// Nodes of the card itself, which never come into the tree.
+    pub own: CardNodes,
 }
 
 /// The word of a slot as a pass has read it.

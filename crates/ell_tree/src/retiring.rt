@@ -87,9 +87,10 @@ fn retire_both<A: Allocator + Copy>(table: &CardTable<A>, pass: &mut Pass<A>, on
     }
 }
 
-/// Notes the nodes of a delete's card that has ended: none of them comes.
+/// Notes the nodes of the card in hand of a delete, which has ended: none of them comes.
 pub(crate) fn retire_own<A: Allocator + Copy>(table: &CardTable<A>, pass: &mut Pass<A>, card: u64)
     requires own { pass.old.table ≡ table.now.id }
+    requires hand { pass.old.view.worker.card ≡ Some card }
     requires ended { KnowsDeleteEnded pass.old.view card }
     ensures same { HasNoted pass.old pass.new }
 {

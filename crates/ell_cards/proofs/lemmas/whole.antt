@@ -25,10 +25,14 @@ pub mod Words
 pub mod Steps
 -- those of their words of slots
 pub mod Slots
+-- what passes have noted for their cards
+pub mod Retired
 -- these steps as those of a whole table
 pub mod Going
 -- and those on the words of slots
 pub mod Freeing
+-- dead nodes that passes note there
+pub mod Noting
 -- the words and the periods of a table as it opens
 pub mod Opens
 -- so it starts whole

@@ -4,6 +4,8 @@ pub mod Updates
 pub mod Fields
 -- keys: which are among a list, and which are a ledger's
 pub mod Keys
+-- which nodes a word of a slot notes
+pub mod NotedBits
 -- lists of numbers that rise
 pub mod Ascending
 -- which numbers have slots

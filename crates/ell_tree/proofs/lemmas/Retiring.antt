@@ -11,7 +11,8 @@ use Rattle.ell_layout.specs.Words.{IsLeaf}
 use Rattle.ell_cards.specs.declared.view.Seek.{Seek}
 use Rattle.ell_cards.specs.declared.view.Told.TheVariants.{Info}
 use Rattle.ell_cards.specs.declared.view.View.{View}
-use Rattle.ell_cards.specs.CardNodes.{AllOfCard, NeverCome, all_nodes, node_alone}
+use Rattle.ell_cards.specs.CardNodes.{all_nodes, node_alone}
+use Rattle.ell_cards.specs.Noting.{AllOfCard, NeverCome}
 use Rattle.ell_cards.specs.Dead.{HasTakenOut, KnowsDeleteEnded, KnowsNeverComes}
 use Rattle.ell_cards.specs.Models.{PassModel, IsTold, Knows, Does}
 use Rattle.ell_cards.specs.Noting.{HasNoted}

@@ -11,6 +11,7 @@ use Rattle.ell_cards.specs.Periods.{WholeState, PeriodsAreSound, announced_by, p
 use Rattle.ell_cards.specs.Whole.{PeriodsAre}
 use Rattle.ell_cards.proofs.lemmas.whole.Steps.{announced_again}
 use Rattle.ell_cards.proofs.lemmas.whole.Untouched.{free_slots_are_untouched}
+use Rattle.ell_cards.proofs.lemmas.whole.Noting.{retired_nodes_are_noted}
 use Rattle.ell_cards.proofs.laws.safe_numbers_are_safe.Goals as goal
 
 module _ (plan : TablePlan) (s : Slots) (tree : TableState) (t : WholeState) (has : HasPeriods plan s tree t) (seat : ℕ) (k : Known) (is : IsInPeriod t seat k) where
@@ -40,4 +41,5 @@ pub returns : goal.returns
 returns c = record {
   began = λ plan s t placed h seat k is. began_safely plan s h.tree t (subst (λ o. PeriodsAre plan o h.tree t) placed h.periods) seat k is;
   free = free_slots_are_untouched;
+  retired = retired_nodes_are_noted;
 }

@@ -17,7 +17,7 @@ use Rattle.ell_core.specs.state.Facts.{card_of_fact}
 use Rattle.ell_core.specs.state.Machine.{Machine, Worker, worker_of}
 use Rattle.ell_core.specs.history.Stages.{Stage, Stages, is_start, is_insert, is_delete, is_born, is_node_born, is_changed, insert_over, allows}
 use Rattle.ell_core.specs.history.Invariant.{insert_key, Flagged, Invariant}
-use Rattle.ell_core.specs.history.Later.{wins_of}
+use Rattle.ell_core.specs.history.Later.{WordsLater, wins_of}
 use Rattle.ell_core.specs.statements.Since.{has_ended}
 use Rattle.ell_core.proofs.lemmas.stages.Order.{born_is_node, over-delete, backed-delete, insert_over-changed, changed-insert, one_kind, delete_won-delete}
 use Rattle.ell_core.proofs.lemmas.stages.Sums.{sum_by}
@@ -185,10 +185,10 @@ turns_keep_dead plan s r has turns s' run =
       λ x dead. dead_stays_dead m stage first (machine_of_table plan s' ran.0) ran.1 x dead,
     )
 
--- so does one turn, to a machine to which it goes on
+-- so does one turn, to a machine to which it goes on, whose words are later ones
 pub turn_keeps_dead : (plan : TablePlan) (s : TableState) (r : HasMachine plan s) (has : HasUses (machine_of_table plan s r)) (t : Turn) (s' : TableState) (k : HasMachine plan s')
     → GoesBy s t (machine_of_table plan s r) (machine_of_table plan s' k)
-    → (has' : HasUses (machine_of_table plan s' k)) × ((x : ℕ) → IsDead r.words has.outs.stages x → IsDead k.words has'.outs.stages x)
+    → (has' : HasUses (machine_of_table plan s' k)) × ((x : ℕ) → IsDead r.words has.outs.stages x → IsDead k.words has'.outs.stages x) × WordsLater r.words k.words
 turn_keeps_dead plan s r has t s' k goes =
     let m = machine_of_table plan s r in
     let stage = has.outs.stages in
@@ -197,6 +197,7 @@ turn_keeps_dead plan s r has t s' k goes =
     let to = leads_on plan m stage first (used m stage) (was m stage) (not_dead m stage first) s r t s' k goes begins.0 begins.1 in (
       record { outs = record { stages = to.0.stages; invariant = to.0.invariant; outs = to.0.outs }; uses = to.2 },
       λ x dead. dead_stays_dead m stage first (machine_of_table plan s' k) to.0 x dead,
+      to.0.words,
     )
 
 -- the node that a card brings which replaces a leaf is its right leaf

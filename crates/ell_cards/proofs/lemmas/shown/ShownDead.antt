@@ -1,17 +1,17 @@
 -- Nodes that never come, or that the card in hand has taken out, by what is shown of what a pass knows.
-use Rattle.std.proofs.Common.{◌≡◌, ℕ, ◌+◌, ◌*◌, ◌%◌, inl, inr, sym, ◌∙◌, subst, arith}
+use Rattle.std.proofs.Common.{◌≡◌, ℕ, ◌+◌, ◌*◌, ◌%◌, inl, inr, sym, ◌∙◌, subst, Some, arith}
 use Rattle.ell_word.specs.Node.{IsInternal}
 use Rattle.ell_layout.specs.Words.{IsLeaf}
 use Rattle.ell_layout.specs.declared.field.Field.TheVariants as field
 use Rattle.ell_cards.specs.declared.card_nodes.CardNodes.{CardNodes}
 use Rattle.ell_cards.specs.declared.view.Told.TheVariants.{Info, Met}
 use Rattle.ell_cards.specs.declared.view.View.{View}
-use Rattle.ell_cards.specs.Ages.{KnowsDeadNode}
 use Rattle.ell_cards.specs.Apart.{cut_node, NamesMet}
-use Rattle.ell_cards.specs.CardNodes.{KnowsDeadNodes, NeverCome}
+use Rattle.ell_cards.specs.Noting.{KnowsDeadNodes, NeverCome}
 use Rattle.ell_cards.specs.Dead.{HasTakenOut, KnowsReplaced, KnowsUnused, KnowsNeverComes}
 use Rattle.ell_cards.specs.Models.{IsTold}
 use Rattle.ell_cards.specs.Shown.{shown}
+use Rattle.ell_cards.specs.Touching.{KnowsTakenOut}
 use Rattle.ell_cards.proofs.lemmas.shown.ShownTold.{was_info}
 
 -- a node's low bits say at which place of its card it stands
@@ -72,12 +72,14 @@ module _ (v : View) where
   pub nodes_never_come : (c : ℕ) (nodes : CardNodes) → NeverCome (shown v) c nodes → KnowsDeadNodes v c nodes
   nodes_never_come c nodes never i is = (c, inr (never_comes_whole c (4 * c + i) (never i is)))
 
--- a node that was taken out, and met, of which these are the low bits
+-- a node that the card in hand has taken out, and that was met, of which these are the low bits
 pub record WasTakenOut (v : View) (x : ℕ) : Type 0 where
   pub whole : ℕ
   pub is : cut_node whole ≡ x
   pub met : IsTold v (Met whole)
-  pub dead : KnowsDeadNode v whole
+  pub taker : ℕ
+  pub holds : v.worker.card ≡ Some taker
+  pub knows : KnowsTakenOut v taker whole
 
 pub taken_out_whole : (v : View) → NamesMet v → (x : ℕ) → HasTakenOut (shown v) x → WasTakenOut v x
 taken_out_whole v names x (c, holds, inl h) =
@@ -85,19 +87,25 @@ taken_out_whole v names x (c, holds, inl h) =
       whole = was.whole;
       is = was.is;
       met = names.leaf c was.whole holds was.has;
-      dead = (c, inl (inl (h.0, leaf_by was.whole x was.is h.1, was.has)));
+      taker = c;
+      holds = holds;
+      knows = inl (h.0, leaf_by was.whole x was.is h.1, was.has);
     }
 taken_out_whole v names x (c, holds, inr (over, inl told)) =
     let was = was_info v.told c field.P x told in record {
       whole = was.whole;
       is = was.is;
       met = names.entries (Info c field.P was.whole) was.has;
-      dead = (c, inl (inr (over, inl was.has)));
+      taker = c;
+      holds = holds;
+      knows = inr (over, inl was.has);
     }
 taken_out_whole v names x (c, holds, inr (over, inr told)) =
     let was = was_info v.told c field.L x told in record {
       whole = was.whole;
       is = was.is;
       met = names.leaf c was.whole holds was.has;
-      dead = (c, inl (inr (over, inr was.has)));
+      taker = c;
+      holds = holds;
+      knows = inr (over, inr was.has);
     }

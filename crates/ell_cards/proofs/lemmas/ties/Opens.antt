@@ -70,6 +70,10 @@ no_info flat start words are c field.P = by flat are
     by false are = sym (said_in_list words c field.P) ∙ (ap (λ (w : Words). w.p c) are ∙ (no_field start c).1)
 no_info flat start words are c _ = tt
 
+alone_there : (first : Known) (P : Known → Type 0) → P first → (j : ℕ) (u : Known) → get_elem? (first ∷ []) j ≡ some u → P u
+alone_there first P h zero u at = subst P (some-injective first u at) h
+alone_there first P h (suc j) u at = absurd (some-ne-none u (sym at))
+
 -- memory that has the tree's words in slots, whose words are 0, where each card that was claimed has a slot
 module _ (plan : TablePlan) (s : Slots) (low : s.last < 2097152) (tree : TableState) (r : HasMachine plan tree) (words : List ℕ)
     (same : (i : ℕ) → i < table_size s.last → get_or words i 0 ≡ get_or tree.words i 0) (small : (i : ℕ) → i < table_size s.last → get_or words i 0 < 2 ^ 64)
@@ -167,6 +171,7 @@ module _ (plan : TablePlan) (s : Slots) (cards all : List ℕ) (may : MayStart p
         (length plan.start) next fit.3
         (no_info plan.flat plan.start (cards ++ replicate long 0) (words_same (cards ++ replicate long 0) cards (with_zeros cards long) ∙ are))
         (record { tree = first_of plan; period = period_by (Some s) }) refl refl out_opened (λ q x. false);
+    retired = λ seat c u at slot hand. absurd (some_not_none hand (alone_there (record { tree = first_of plan; period = period_by (Some s) }) (λ (x : Known). x.tree.worker.card ≡ None) refl seat u at));
   }
 
 pub openings_are_tied : OpeningsAreTied

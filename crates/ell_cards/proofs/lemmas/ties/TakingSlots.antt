@@ -1,12 +1,13 @@
 -- A pass that takes a slot for its card in hand keeps memory tied: that card waits, so it is not dead, and nobody else has it in hand.
-use Rattle.std.proofs.Common.{◌≡◌, ◌+◌, ◌*◌, ◌<◌, ◌≤◌, ℕ, zero, suc, inl, inr, Bool, true, false, Some, List, length, get_or, set, refl, sym, ap, ◌∙◌, subst, arith, true≢false, get_or-set_same, get_or-set_other}
+use Rattle.std.proofs.Common.{◌≡◌, ◌+◌, ◌*◌, ◌%◌, ◌<◌, ◌≤◌, ℕ, zero, suc, inl, inr, Bool, true, false, Some, List, length, get_or, set, refl, sym, ap, ◌∙◌, subst, arith, true≢false, get_or-set_same, get_or-set_other}
 use Rattle.std.proofs.lemmas.Bool.{cases_eq, false≢true}
 use mathlib.Core.Option.{some}
 use lib.ListN.{get_elem?}
+use Rattle.ell_word.specs.Node.{card}
 use Rattle.ell_core.proofs.lemmas.following.waiting.Cards.{hand_waits, one_hand}
 use Rattle.ell_core.proofs.lemmas.outcomes.Decide.{some_not_none}
 use Rattle.ell_core.proofs.lemmas.stages.Waiting.{waits-claimed}
-use Rattle.ell_core.specs.history.Stages.{Stage, is_start, waits}
+use Rattle.ell_core.specs.history.Stages.{Stage, Stages, is_start, waits}
 use Rattle.ell_core.specs.state.Machine.{Worker, worker_of}
 use Rattle.ell_core.specs.statements.Since.{has_ended}
 use Rattle.ell_core.specs.statements.Waiting.{IsUnflagged}
@@ -15,24 +16,30 @@ use Rattle.ell_grace.specs.Gone.{HasOuts}
 use Rattle.ell_cards.specs.Laws.{machine_of_table}
 use Rattle.ell_grace.proofs.lemmas.dead.Out.{dead_ended}
 use Rattle.ell_layout.specs.Words.{put}
-use Rattle.ell_layout.proofs.lemmas.Writes.{put_other}
+use Rattle.ell_layout.proofs.lemmas.Writes.{put_other, put_same}
 use Rattle.ell_cards.specs.declared.view.Known.{Known}
 use Rattle.ell_cards.specs.declared.view.Period.{Period}
+use Rattle.ell_cards.specs.declared.view.Slots.{Slots}
 use Rattle.ell_cards.specs.declared.view.View.{View}
-use Rattle.ell_cards.specs.Ages.{IsOut, is_dead, is_aside, is_beyond, AreDead}
+use Rattle.ell_cards.specs.Ages.{IsOut, is_dead, is_aside, is_beyond, AreDead, AgesAreSound, IsNotedThere, RetiredStaysNoted}
+use Rattle.ell_cards.specs.CardNodes.{has_node, no_nodes}
 use Rattle.ell_cards.specs.Machines.{HasMachine}
 use Rattle.ell_cards.specs.Models.{TablePlan}
-use Rattle.ell_cards.specs.Periods.{slot_word, after_taking}
-use Rattle.ell_cards.specs.SlotWords.{slot_of, turn_of, is_noted}
+use Rattle.ell_cards.specs.Periods.{WholeState, slot_word, slots_size, after_taking}
+use Rattle.ell_cards.specs.SlotWords.{has_slot_in, slot_of, turn_of, is_noted}
 use Rattle.ell_cards.specs.States.{TableState, seat_worker}
-use Rattle.ell_cards.specs.Tied.{HoldsWaiting}
-use Rattle.ell_cards.specs.Ties.{TakesKeepTies}
+use Rattle.ell_cards.specs.Tied.{HoldsWaiting, IsTied}
+use Rattle.ell_cards.specs.Whole.{trees_of}
+use Rattle.ell_cards.specs.Ties.{IsTiedByAges, TakesKeepTies, memory_taken}
 use Rattle.ell_cards.proofs.lemmas.seats.Seats.{machine, mine_is, mine_sound}
 use Rattle.ell_cards.proofs.lemmas.whole.Ages.{ages_of_period}
 use Rattle.ell_cards.proofs.lemmas.whole.Trees.{tree_at}
 use Rattle.ell_cards.proofs.lemmas.whole.Untouched.{root_lives}
 use Rattle.ell_cards.proofs.lemmas.ties.Taking.{tie_of_taken}
 use Rattle.ell_cards.proofs.lemmas.ties.Touched.{claimed_within}
+use Rattle.ell_cards.proofs.lemmas.ties.Winning.{born_won}
+use Rattle.ell_grace.proofs.lemmas.outs.Taken.{taken_born}
+use Rattle.ell_cards.proofs.lemmas.whole.Retired.{retired_of_period}
 use Rattle.ell_cards.proofs.lemmas.words.Slotted.{slot_inside}
 
 waits_unended : (s : Stage) → waits s ≡ true → has_ended s ≡ false
@@ -81,17 +88,80 @@ module _ (plan : TablePlan) (tree : TableState) (dead : ℕ → Bool) (now : Are
         | inr ended ↦ false≢true (sym (waits_unended (outs.stages d) waiting) ∙ ended)
       ]
 
-pub takes_keep_ties : TakesKeepTies
-takes_keep_ties plan s tree t lie dead was_dead low size h same id k here c hand numbered gone was_gone = record {
+-- nor is any node of it out
+module _ (plan : TablePlan) (tree : TableState) (dead : ℕ → Bool) (now : AreDead plan tree dead) (seat : ℕ) (v : View) (there : get_elem? tree.views seat ≡ some v)
+    (d : ℕ) (h : HoldsWaiting v d) (x : ℕ) (on : card x ≡ d) where
+  abbrev stages_now : Stages
+  stages_now = now.uses.outs.stages
+
+  waits_now : waits (stages_now (card x)) ≡ true
+  waits_now = subst (λ c. waits (stages_now c) ≡ true) (sym on) (
+      hand_waits now.machine.words now.uses.outs.stages ((machine plan tree now.machine seat v there).worker seat) d (now.uses.outs.invariant.workers.each seat)
+      (let me = mine_is plan tree now.machine seat v there in ap (λ (u : Worker). u.card) me ∙ h.0)
+      (let me = mine_is plan tree now.machine seat v there in ap (λ (u : Worker). u.flagged) me ∙ h.1))
+
+  never_dead : IsDead now.machine.words stages_now x → ⊥
+  never_dead (inl gone) =
+      let born = taken_born now.machine.words stages_now now.uses.outs.invariant.words gone.taker x gone.takes in
+      true≢false (sym waits_now ∙ (born_won (stages_now (card x)) (x % 4) born).1)
+  never_dead (inr never) = false≢true (sym (waits_unended (stages_now (card x)) waits_now) ∙ never.0)
+
+  pub hand_not_out : IsOut plan tree now.machine now.uses x → ⊥
+  hand_not_out (is_dead is) = never_dead is
+  hand_not_out (is_aside is) = is.nobody seat v there (h.0 ∙ ap (λ c. Some c) (sym on))
+  hand_not_out (is_beyond is) =
+      let low = claimed_within plan tree now.machine d (waits-claimed (now.machine.stages d) (hand_is_waiting plan tree dead now seat v there d h)) in
+      omega (arith, on, is, low)
+
+-- What was noted is noted where a pass takes a slot for its card in hand: no node of that card is out.
+noted_taken : (plan : TablePlan) (s : Slots) (tree : TableState) (t : WholeState) (lie : ℕ → ℕ) (dead : ℕ → Bool) (now : AreDead plan tree dead) (seat : ℕ) (v : View)
+    → get_elem? tree.views seat ≡ some v → (c : ℕ) → HoldsWaiting v c → slot_of c ≤ s.last
+    → (x : ℕ) → IsOut plan tree now.machine now.uses x → IsNotedThere s t.words lie x
+    → IsNotedThere s (set t.words (slot_word s (slot_of c)) (8 * turn_of c)) (put lie (slot_of c) c) x
+noted_taken plan s tree t lie dead now seat v there c hand inside x out is low lies used = elim (cases_eq (slot_of (card x)) (slot_of c)) [
+  | inl e ↦ absurd (hand_not_out plan tree dead now seat v there c hand x (sym lies ∙ (ap (put lie (slot_of c) c) e ∙ put_same lie (slot_of c) c)) out)
+  | inr apart ↦
+      let stays = get_or-set_other t.words (slot_word s (slot_of c)) (slot_word s (slot_of (card x))) (8 * turn_of c) 0 (λ e. apart (omega arith)) in
+      subst (λ n. is_noted n (x % 4) ≡ true) (sym stays)
+      (is low (sym (put_other lie (slot_of c) c (slot_of (card x)) apart) ∙ lies) (λ full. used (ap (λ n. n % 8) stays ∙ full)))
+]
+
+-- the ages where a pass has taken the slot of its card in hand, with memory that is tied; and what passes have noted for their cards
+-- stays noted
+pub record TakenOn (plan : TablePlan) (s : Slots) (tree : TableState) (t : WholeState) (lie : ℕ → ℕ) (dead : ℕ → Bool) (was_dead : ℕ → ℕ → Bool)
+    (h : IsTiedByAges plan s tree t lie dead was_dead) (id : ℕ) (k : Known) (c : ℕ) : Type 0 where
+  pub ages : AgesAreSound plan s tree (memory_taken s t id k c) (put lie (slot_of c) c) dead was_dead
+  pub tied : IsTied s tree (memory_taken s t id k c) ages.now.machine.stages (put lie (slot_of c) c) dead was_dead
+  pub retired : RetiredStaysNoted plan s tree t h.ages.now.machine h.ages.now.uses lie
+      → RetiredStaysNoted plan s tree (memory_taken s t id k c) ages.now.machine ages.now.uses (put lie (slot_of c) c)
+
+pub take_goes : (plan : TablePlan) (s : Slots) (tree : TableState) (t : WholeState) (lie : ℕ → ℕ) (dead : ℕ → Bool) (was_dead : ℕ → ℕ → Bool)
+    → s.last < 2097152 → length t.words ≡ slots_size s
+    → (h : IsTiedByAges plan s tree t lie dead was_dead) → trees_of t.views ≡ tree.views
+    → (id : ℕ) (k : Known) → get_elem? t.views id ≡ some k → (c : ℕ) → HoldsWaiting k.tree c → has_slot_in s.last c ≡ true
+    → dead (lie (slot_of c)) ≡ true
+    → ((seat q a : ℕ) (u : Known) → get_elem? t.views seat ≡ some u → u.period.place ≡ Some q → u.period.announced ≡ Some a → was_dead q (lie (slot_of c)) ≡ true)
+    → TakenOn plan s tree t lie dead was_dead h id k c
+take_goes plan s tree t lie dead was_dead low size h same id k here c hand numbered gone was_gone = record {
   ages = ages_of_period plan s tree t id k here (record { tree = k.tree; period = p }) refl words lie (put lie (slot_of c) c) dead dead was_dead was_dead h.ages
       h.ages.now.each h.ages.still (λ q a at an. h.ages.since id q a k here at an) (λ j q a u other at placed an. refl)
-      noted (λ r has. absurd (some_not_none has refl)) (λ d has. h.ages.lost id d k here has);
+      noted (noted_taken plan s tree t lie dead h.ages.now id k.tree (sits id k here) c hand inside) (λ r has. absurd (some_not_none has refl)) (λ d has. h.ages.lost id d k here has);
   tied = tie_of_taken s low tree t r.stages lie dead was_dead h.tied id k here c inside numbered hand
       (λ won. true≢false (sym (hand_is_waiting plan tree dead h.ages.now id k.tree (sits id k here) c hand) ∙ won.1)) claimed p refl refl refl
       room gone was_gone (false_where_not (dead 0) (root_lives plan tree dead h.ages.now))
       (λ seat d u at holds. hand_is_alive plan tree dead h.ages.now seat u.tree (sits seat u at) d holds) one t.homes;
+  retired = λ was. retired_of_period plan s tree h.ages.now.machine h.ages.now.uses t id k here p words lie (put lie (slot_of c) c)
+      (noted_taken plan s tree t lie dead h.ages.now id k.tree (sits id k here) c hand inside)
+      (λ d at has. record { parent = λ e. absurd (false≢true e); leaf = λ e. absurd (false≢true e); own = λ i e. absurd (false≢true (sym (none_of i) ∙ e)) })
+      was;
 }
   where
+    none_of : (i : ℕ) → has_node no_nodes i ≡ false
+    none_of zero = refl
+    none_of (suc zero) = refl
+    none_of (suc (suc zero)) = refl
+    none_of (suc (suc (suc i))) = refl
+
     inside : slot_of c ≤ s.last
     inside = slot_inside s.last c numbered
 
@@ -140,3 +210,7 @@ takes_keep_ties plan s tree t lie dead was_dead low size h same id k here c hand
           subst (λ d. IsOut plan tree r h.ages.now.uses (4 * d + i)) (sym (put_other lie (slot_of c) c slot apart))
           (h.ages.noted slot i low (subst (λ n. is_noted n i ≡ true) stays is))
     ]
+
+pub takes_keep_ties : TakesKeepTies
+takes_keep_ties plan s tree t lie dead was_dead low size h same id k here c hand numbered gone was_gone =
+    let it = take_goes plan s tree t lie dead was_dead low size h same id k here c hand numbered gone was_gone in record { ages = it.ages; tied = it.tied }

@@ -3,7 +3,8 @@ use Rattle.std.proofs.lemmas.Bool.{false≢true}
 use Rattle.std.proofs.lemmas.Bool.Decides.{nat_tests}
 use Rattle.ell_word.specs.Node.{card}
 use Rattle.ell_cards.specs.declared.card_nodes.CardNodes.{CardNodes}
-use Rattle.ell_cards.specs.CardNodes.{has_node, node_alone, nodes_of_both, AllOfCard}
+use Rattle.ell_cards.specs.CardNodes.{has_node, node_alone, nodes_of_both}
+use Rattle.ell_cards.specs.Noting.{AllOfCard}
 
 -- a node alone is the one at its place
 alone : (place i : ℕ) → has_node (node_alone place) i ≡ true → place ≡ i
@@ -18,11 +19,11 @@ so_alone P x so i is =
     subst P (omega arith) so
 
 -- what is one of both is one of either
-of_either : (b b' : Bool) → (b || b') ≡ true → (b ≡ true) ⊎ (b' ≡ true)
+pub of_either : (b b' : Bool) → (b || b') ≡ true → (b ≡ true) ⊎ (b' ≡ true)
 of_either true b' is = inl is
 of_either false b' is = inr is
 
-both : (nodes others : CardNodes) (i : ℕ) → has_node (nodes_of_both nodes others) i ≡ true → (has_node nodes i ≡ true) ⊎ (has_node others i ≡ true)
+pub both : (nodes others : CardNodes) (i : ℕ) → has_node (nodes_of_both nodes others) i ≡ true → (has_node nodes i ≡ true) ⊎ (has_node others i ≡ true)
 both nodes others zero is = of_either nodes.internal others.internal is
 both nodes others (suc zero) is = of_either nodes.left others.left is
 both nodes others (suc (suc zero)) is = of_either nodes.right others.right is

@@ -1,10 +1,10 @@
-use Rattle.std.proofs.Common.{◌≡◌, ◌≢◌, ℕ, ◌+◌, ◌*◌, ◌%◌, ◌<◌, ◌≤◌, Bool, true, false, Some, List, [], ◌∷◌, ◌++◌, get_or, set, inl, inr, ◌⊎◌, refl, sym, ap, ◌∙◌, subst, ⊎_elim}
+use Rattle.std.proofs.Common.{◌≡◌, ◌≢◌, ℕ, ◌+◌, ◌*◌, ◌%◌, ◌<◌, ◌≤◌, Bool, true, false, Some, List, [], ◌∷◌, ◌++◌, get_or, set, inl, inr, ◌⊎◌, refl, sym, ap, ◌∙◌, subst, ⊎_elim, arith}
 use mathlib.Core.Option.{some}
 use mathlib.Core.Option.{Option as Maybe}
 use lib.ListN.{get_elem?}
 use Rattle.atomic_table.proofs.Lists.{at_set}
 use Rattle.ell_word.specs.Node.{card}
-use Rattle.ell_core.specs.history.Later.{StagesLater, wins_of}
+use Rattle.ell_core.specs.history.Later.{WordsLater, StagesLater, wins_of}
 use Rattle.ell_grace.specs.Dead.{IsDead, HasUses}
 use Rattle.ell_cards.specs.declared.call.Call.{Call}
 use Rattle.ell_cards.specs.declared.call.Call.TheVariants as call
@@ -12,14 +12,14 @@ use Rattle.ell_cards.specs.declared.view.Known.{Known}
 use Rattle.ell_cards.specs.declared.view.SlotRead.{SlotRead}
 use Rattle.ell_cards.specs.declared.view.Slots.{Slots}
 use Rattle.ell_cards.specs.declared.view.View.{View}
-use Rattle.ell_cards.specs.Ages.{IsOut, is_dead, is_aside, is_beyond, AreDead, ForgotWhen, AgesAreSound}
+use Rattle.ell_cards.specs.Ages.{IsOut, is_dead, is_aside, is_beyond, AreDead, ForgotWhen, NotesThere, IsNotedThere, AgesAreSound}
 use Rattle.ell_cards.specs.Aside.{IsAside}
 use Rattle.ell_cards.specs.Calls.{May}
 use Rattle.ell_cards.specs.Laws.{machine_of_table}
 use Rattle.ell_cards.specs.Machines.{HasMachine}
 use Rattle.ell_cards.specs.Models.{TablePlan}
 use Rattle.ell_cards.specs.Periods.{WholeState, IsAtRest, slot_word}
-use Rattle.ell_cards.specs.SlotWords.{card_by, is_noted}
+use Rattle.ell_cards.specs.SlotWords.{card_by, is_noted, slot_of}
 use Rattle.ell_cards.specs.Starts.{IsReached}
 use Rattle.ell_cards.specs.States.{TableState}
 use Rattle.ell_cards.specs.Stepping.{IsQuiet}
@@ -38,11 +38,12 @@ keeps_quiet call.Look e = cc
 keeps_quiet _ e = tt
 
 module _ (plan : TablePlan) where
-  -- a state to which a turn leads from another one, in which what was dead is so, cards that were laid aside are, and each card has won what the turn wins for it
+  -- a state to which a turn leads from another one, with later words, in which what was dead is so, cards that were laid aside are, and each card has won what the turn wins for it
   pub record Onward (s : TableState) (machine : HasMachine plan s) (uses : HasUses (machine_of_table plan s machine)) (t : Turn) (s' : TableState) : Type 0 where
     pub next : HasMachine plan s'
     pub used : HasUses (machine_of_table plan s' next)
     pub stays : (x : ℕ) → IsDead machine.words uses.outs.stages x → IsDead next.words used.outs.stages x
+    pub words : WordsLater machine.words next.words
     pub aside : (c : ℕ) → IsAside machine.stages s.views c → IsAside next.stages s'.views c
     pub later : StagesLater machine.stages next.stages
     pub wins : (d : ℕ) → wins_of (next.stages d) ≡ wins_of (machine.stages d) ++ turn_wins s t d
@@ -56,6 +57,7 @@ module _ (plan : TablePlan) where
         next = lawful.0;
         used = on.0;
         stays = on.1;
+        words = on.2;
         aside = λ c h. aside_on plan s machine c h t s' turn lawful.0 lawful.1.later (lawful.1.wins c);
         later = lawful.1.later;
         wins = lawful.1.wins;
@@ -109,6 +111,25 @@ module _ (plan : TablePlan) where
     run = refl;
   }
 
+  -- a node is noted, by its card and its place there
+  pub noted_at : (s : Slots) (words : List ℕ) (lie : ℕ → ℕ) (c i : ℕ) → i < 3 → NotesThere s words lie c i → IsNotedThere s words lie (4 * c + i)
+  noted_at s words lie c i few is =
+      let at : card (4 * c + i) ≡ c = omega (arith, few) in
+      let place : (4 * c + i) % 4 ≡ i = omega (arith, few) in
+      subst (λ d. NotesThere s words lie d ((4 * c + i) % 4)) (sym at) (subst (NotesThere s words lie c) (sym place) is)
+
+  pub noted_as : (s : Slots) (words : List ℕ) (lie : ℕ → ℕ) (c i : ℕ) → i < 3 → IsNotedThere s words lie (4 * c + i) → NotesThere s words lie c i
+  noted_as s words lie c i few is =
+      let at : card (4 * c + i) ≡ c = omega (arith, few) in
+      let place : (4 * c + i) % 4 ≡ i = omega (arith, few) in
+      subst (NotesThere s words lie c) place (subst (λ d. NotesThere s words lie d ((4 * c + i) % 4)) at is)
+
+  -- what is noted is noted where the words of slots are the same
+  pub noted_same : (s : Slots) (old words : List ℕ) (lie : ℕ → ℕ) → ((slot : ℕ) → slot ≤ s.last → get_or words (slot_word s slot) 0 ≡ get_or old (slot_word s slot) 0)
+      → (x : ℕ) → IsNotedThere s old lie x → IsNotedThere s words lie x
+  noted_same s old words lie same x is inside lies =
+      subst (λ n. n % 8 ≢ 7 → is_noted n (x % 4) ≡ true) (sym (same (slot_of (card x)) inside)) (is inside lies)
+
   -- what the words of slots note as dead, and what passes have read of them, is out after a turn, if those words are as they were
   module _ (s : Slots) (tree tree' : TableState) (t : WholeState) (lie : ℕ → ℕ) (dead : ℕ → Bool) (was_dead : ℕ → ℕ → Bool) (h : AgesAreSound plan s tree t lie dead was_dead)
       (by : Turn) (on : Onward tree h.now.machine h.now.uses by tree') where
@@ -117,18 +138,24 @@ module _ (plan : TablePlan) where
     noted_on words same slot k low is =
         out_on tree h.now.machine h.now.uses by tree' on (4 * lie slot + k) (h.noted slot k low (subst (λ n. is_noted n k ≡ true) (same slot low) is))
 
-    pub read_on : (seat : ℕ) (k : Known) (r : SlotRead) → get_elem? t.views seat ≡ some k → k.period.read ≡ Some r → r.word % 8 ≢ 7 → (i : ℕ) → is_noted r.word i ≡ true
-        → IsOut plan tree' on.next on.used (4 * card_by r.slot r.word + i)
-    read_on seat k r at has used i is = out_on tree h.now.machine h.now.uses by tree' on (4 * card_by r.slot r.word + i) (h.read seat k r at has used i is)
+    pub read_on : (words : List ℕ) → ((slot : ℕ) → slot ≤ s.last → get_or words (slot_word s slot) 0 ≡ get_or t.words (slot_word s slot) 0)
+        → (seat : ℕ) (k : Known) (r : SlotRead) → get_elem? t.views seat ≡ some k → k.period.read ≡ Some r → r.word % 8 ≢ 7 → (i : ℕ) → is_noted r.word i ≡ true
+        → IsOut plan tree' on.next on.used (4 * card_by r.slot r.word + i) × IsNotedThere s words lie (4 * card_by r.slot r.word + i)
+    read_on words same seat k r at has used i is =
+        let was = h.read seat k r at has used i is in
+        let x = 4 * card_by r.slot r.word + i in
+        (out_on tree h.now.machine h.now.uses by tree' on x was.0, noted_same s t.words words lie same x was.1)
 
     -- so is the card whose flag a pass lost last laid aside
     pub lost_on : (seat c : ℕ) (k : Known) → get_elem? t.views seat ≡ some k → k.period.lost ≡ Some c → IsAside on.next.stages tree'.views c
     lost_on seat c k at has = on.aside c (h.lost seat c k at has)
 
-  -- the ages after a turn, with what each card has won
+  -- the ages after a turn, by later words, where what was out is out, with what each card has won
   pub record AgesOn (s : Slots) (tree : TableState) (t : WholeState) (lie : ℕ → ℕ) (dead : ℕ → Bool) (was_dead : ℕ → ℕ → Bool) (h : AgesAreSound plan s tree t lie dead was_dead) (turn : Turn)
       (tree' : TableState) (t' : WholeState) : Type 0 where
     pub ages : AgesAreSound plan s tree' t' lie dead was_dead
+    pub out : (x : ℕ) → IsOut plan tree h.now.machine h.now.uses x → IsOut plan tree' ages.now.machine ages.now.uses x
+    pub words : WordsLater h.now.machine.words ages.now.machine.words
     pub later : StagesLater h.now.machine.stages ages.now.machine.stages
     pub wins : (d : ℕ) → wins_of (ages.now.machine.stages d) ≡ wins_of (h.now.machine.stages d) ++ turn_wins tree turn d
 
@@ -158,14 +185,16 @@ module _ (plan : TablePlan) where
             (at_set t.views id seat knows u at);
         noted = noted_on s tree after t lie dead was_dead h (Makes id c) on words same;
         read = λ seat u r at has. ⊎_elim
-            (λ (e : (seat ≡ id) × (knows ≡ u)). read_on s tree after t lie dead was_dead h (Makes id c) on id k r here (subst (λ (x : Known). x.period.read ≡ Some r) (sym e.1) has))
-            (λ (e : (seat ≢ id) × (get_elem? t.views seat ≡ some u)). read_on s tree after t lie dead was_dead h (Makes id c) on seat u r e.1 has)
+            (λ (e : (seat ≡ id) × (knows ≡ u)). read_on s tree after t lie dead was_dead h (Makes id c) on words same id k r here (subst (λ (x : Known). x.period.read ≡ Some r) (sym e.1) has))
+            (λ (e : (seat ≢ id) × (get_elem? t.views seat ≡ some u)). read_on s tree after t lie dead was_dead h (Makes id c) on words same seat u r e.1 has)
             (at_set t.views id seat knows u at);
         lost = λ seat d u at has. ⊎_elim
             (λ (e : (seat ≡ id) × (knows ≡ u)). lost_on s tree after t lie dead was_dead h (Makes id c) on id d k here (ap (λ (x : Known). x.period.lost) e.1 ∙ has))
             (λ (e : (seat ≢ id) × (get_elem? t.views seat ≡ some u)). lost_on s tree after t lie dead was_dead h (Makes id c) on seat d u e.1 has)
             (at_set t.views id seat knows u at);
       };
+      out = λ x is. out_on tree h.now.machine h.now.uses (Makes id c) after on x is;
+      words = on.words;
       later = on.later;
       wins = on.wins;
     }
@@ -187,7 +216,7 @@ module _ (plan : TablePlan) where
             (subst (λ (x : Known). x.period.place ≡ Some q → x.period.announced ≡ Some a → IsAtRest x.tree ⊎ ForgotWhen plan after id (was_dead q)) is (by (forgets c) refl q a))
 
   -- The ages where a pass knows something else of periods, and words became other ones: by what is dead now, what was dead when
-  -- the pass's period began, what slots and the pass note, and what the pass laid aside.
+  -- the pass's period began, what slots and the pass note, what was noted before, and what the pass laid aside.
   module _ (s : Slots) (tree : TableState) (t : WholeState) (id : ℕ) (k : Known) (here : get_elem? t.views id ≡ some k) (now : Known) (same : now.tree ≡ k.tree)
       (words : List ℕ) (lie lie' : ℕ → ℕ) (dead dead' : ℕ → Bool) (was_dead was_dead' : ℕ → ℕ → Bool) (h : AgesAreSound plan s tree t lie dead was_dead) where
     abbrev OutNow : ℕ → Type 0
@@ -197,10 +226,11 @@ module _ (plan : TablePlan) where
         → ((q a : ℕ) → now.period.place ≡ Some q → now.period.announced ≡ Some a → IsAtRest k.tree ⊎ ForgotWhen plan tree id (was_dead' q))
         → ((j q a : ℕ) (u : Known) → j ≢ id → get_elem? t.views j ≡ some u → u.period.place ≡ Some q → u.period.announced ≡ Some a → was_dead' q ≡ was_dead q)
         → ((slot i : ℕ) → slot ≤ s.last → is_noted (get_or words (slot_word s slot) 0) i ≡ true → OutNow (4 * lie' slot + i))
-        → ((r : SlotRead) → now.period.read ≡ Some r → r.word % 8 ≢ 7 → (i : ℕ) → is_noted r.word i ≡ true → OutNow (4 * card_by r.slot r.word + i))
+        → ((x : ℕ) → OutNow x → IsNotedThere s t.words lie x → IsNotedThere s words lie' x)
+        → ((r : SlotRead) → now.period.read ≡ Some r → r.word % 8 ≢ 7 → (i : ℕ) → is_noted r.word i ≡ true → OutNow (4 * card_by r.slot r.word + i) × IsNotedThere s words lie' (4 * card_by r.slot r.word + i))
         → ((c : ℕ) → now.period.lost ≡ Some c → IsAside h.now.machine.stages tree.views c)
         → AgesAreSound plan s tree (record { words = words; homes = t.homes; views = set t.views id now }) lie' dead' was_dead'
-    ages_of_period each still mine others noted read lost = record {
+    ages_of_period each still mine others noted keeps read lost = record {
       now = record { machine = h.now.machine; uses = h.now.uses; each = each };
       still = still;
       since = λ seat q a u at placed an. ⊎_elim
@@ -211,7 +241,7 @@ module _ (plan : TablePlan) where
       noted = noted;
       read = λ seat u r at has. ⊎_elim
           (λ (e : (seat ≡ id) × (now ≡ u)). read r (subst (λ (x : Known). x.period.read ≡ Some r) (sym e.1) has))
-          (λ (e : (seat ≢ id) × (get_elem? t.views seat ≡ some u)). h.read seat u r e.1 has)
+          (λ (e : (seat ≢ id) × (get_elem? t.views seat ≡ some u)). kept r (h.read seat u r e.1 has))
           (at_set t.views id seat now u at);
       lost = λ seat c u at has. ⊎_elim
           (λ (e : (seat ≡ id) × (now ≡ u)). lost c (ap (λ (x : Known). x.period.lost) e.1 ∙ has))
@@ -219,6 +249,10 @@ module _ (plan : TablePlan) where
           (at_set t.views id seat now u at);
     }
       where
+        kept : (r : SlotRead) → (r.word % 8 ≢ 7 → (i : ℕ) → is_noted r.word i ≡ true → OutNow (4 * card_by r.slot r.word + i) × IsNotedThere s t.words lie (4 * card_by r.slot r.word + i))
+            → r.word % 8 ≢ 7 → (i : ℕ) → is_noted r.word i ≡ true → OutNow (4 * card_by r.slot r.word + i) × IsNotedThere s words lie' (4 * card_by r.slot r.word + i)
+        kept r was used i is = (let old = was used i is in (old.0, keeps _ old.0 old.1))
+
         own : (seat q a : ℕ) (u : Known) → seat ≡ id → now ≡ u → u.period.place ≡ Some q → u.period.announced ≡ Some a
             → IsAtRest u.tree ⊎ ForgotWhen plan tree seat (was_dead' q)
         own seat q a u e is =

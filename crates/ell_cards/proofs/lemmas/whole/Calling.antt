@@ -58,6 +58,7 @@ use Rattle.ell_cards.proofs.lemmas.ties.Apart.{tells_apart, tells_apart_plain}
 use Rattle.ell_cards.proofs.lemmas.whole.Apart.{passes_tell_apart, ready_there}
 use Rattle.ell_cards.proofs.lemmas.whole.Lifts.{IsFill, is_its_own, can_be_shown, told_plain, plan_fits}
 use Rattle.ell_cards.proofs.lemmas.whole.Rests.{stays_at_rest}
+use Rattle.ell_cards.proofs.lemmas.whole.Retired.{HadInHand, held_before, retired_on}
 use Rattle.ell_cards.proofs.lemmas.whole.Seats.{lie_same}
 use Rattle.ell_cards.proofs.lemmas.whole.Trees.{tree_at, slots_stay, tree_periods}
 use Rattle.ell_cards.proofs.lemmas.words.Slotted.{slot_inside}
@@ -256,6 +257,21 @@ module _ (plan : TablePlan) (s : WholeState) (h : IsWhole plan s) (id : ℕ) (k 
       pub still_tied : IsTied sl after (memory_after h.tree s homes id k c) tied_ages.ages.now.machine.stages has.lie has.dead has.was_dead
       still_tied = tied plan sl h.tree s has.lie has.dead has.was_dead h.reached low_last room by_ages id k here tree_here ready c may mem homes
 
+      -- a card that is in hand after it, whose slot the pass has taken, was in hand before it
+      pub held : (seat d : ℕ) (u : Known) → get_elem? (set s.views id knows) seat ≡ some u → u.period.slot ≡ Some d → u.tree.worker.card ≡ Some d → HadInHand s.views d u.period.sought.retired
+      held seat d u at slot hand = ⊎_elim
+          (λ (e : (seat ≡ id) × (knows ≡ u)). subst (λ (x : Known). x.period.slot ≡ Some d → x.tree.worker.card ≡ Some d → HadInHand s.views d x.period.sought.retired) e.1
+          (λ slot hand. record {
+            seat = id;
+            knows = k;
+            there = here;
+            slot = slot;
+            hand = held_before plan h.tree c k d may (λ e is. subst (λ n. e < n) has.tied.claim (has.tied.past id e k here is)) slot hand;
+            retired = refl;
+          }) slot hand)
+          (λ (e : (seat ≢ id) × (get_elem? s.views seat ≡ some u)). record { seat = seat; knows = u; there = e.1; slot = slot; hand = hand; retired = refl })
+          (at_set s.views id seat knows u at)
+
       abbrev pub tied_periods : HasPeriods plan sl after (record { words = set s.words (place_of c) cut; homes = homes; views = set s.views id knows })
       tied_periods = record {
         lie = has.lie;
@@ -266,6 +282,8 @@ module _ (plan : TablePlan) (s : WholeState) (h : IsWhole plan s) (id : ℕ) (k 
         periods = tree_periods s id k here (view_after h.tree k.tree c) sl (place_of c) cut homes has.lie has.dead has.began has.was_dead tied_touch.inside rests has.periods;
         ages = tied_ages.ages;
         tied = still_tied;
+        retired = retired_on plan sl h.tree has.ages.now.machine has.ages.now.uses after tied_ages.ages.now.machine tied_ages.ages.now.uses tied_ages.words tied_ages.out
+            s (memory_after h.tree s homes id k c) has.lie h.views (slots_stay s id k here (view_after h.tree k.tree c) sl (place_of c) cut tied_touch.inside) held has.retired;
       }
 
       -- and if it noted the card whose flag it lost

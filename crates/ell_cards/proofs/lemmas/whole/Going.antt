@@ -27,8 +27,9 @@ use Rattle.ell_cards.specs.Whole.{trees_of, WordsAre, PeriodsAre}
 use Rattle.ell_cards.proofs.lemmas.shown.ShownViews.{rests_whole}
 use Rattle.ell_cards.proofs.lemmas.ties.Apart.{tells_apart}
 use Rattle.ell_cards.proofs.lemmas.ties.Periods.{tie_of_period}
-use Rattle.ell_cards.proofs.lemmas.whole.Ages.{ages_of_period}
+use Rattle.ell_cards.proofs.lemmas.whole.Ages.{ages_of_period, noted_same}
 use Rattle.ell_cards.proofs.lemmas.whole.Apart.{ready_there}
+use Rattle.ell_cards.proofs.lemmas.whole.Retired.{retired_so}
 use Rattle.ell_cards.proofs.lemmas.whole.Seats.{before_clock, lie_same}
 use Rattle.ell_cards.proofs.lemmas.whole.Steps.{word_again, periods_sought, periods_read, periods_ticked, periods_seen, periods_announced, periods_retracted, periods_taken, periods_given, periods_released}
 use Rattle.ell_cards.proofs.lemmas.whole.Trees.{tree_at}
@@ -55,10 +56,11 @@ module _ (plan : TablePlan) (s : Slots) (tree : TableState) (t : WholeState) (id
 
   -- the periods of a table after a step by which no pass begins one
   pub going : (p : Period) (i n : ℕ) → AnnouncesNoMore k.period p → p.read ≡ k.period.read → p.lost ≡ k.period.lost → p.slot ≡ k.period.slot
+      → p.sought.retired ≡ k.period.sought.retired
       → ((j : ℕ) → j < table_size s.last → get_or (set t.words i n) j 0 ≡ get_or t.words j 0)
       → ((slot : ℕ) → get_or (set t.words i n) (slot_word s slot) 0 ≡ get_or t.words (slot_word s slot) 0)
       → PeriodsAreSound s (turned_to t id k p i n) h.lie h.dead h.began h.was_dead → HasPeriods plan s tree (turned_to t id k p i n)
-  going p i n was read lost taken cards same sound = record {
+  going p i n was read lost taken retired cards same sound = record {
     lie = h.lie;
     lies = lie_same s h.lie t.words (set t.words i n) (λ slot low. same slot) h.lies;
     dead = h.dead;
@@ -70,11 +72,14 @@ module _ (plan : TablePlan) (s : Slots) (tree : TableState) (t : WholeState) (id
         (λ q a at an. let old = was q a at an in h.ages.since id q a k here old.0 old.1)
         (λ j q a u other there at an. refl)
         (same_noted (set t.words i n) same)
-        (λ r has. h.ages.read id k r here (sym read ∙ has))
+        (λ x out is. noted_same plan s t.words (set t.words i n) h.lie (λ slot low. same slot) x is)
+        (λ r has used j is. (let old = h.ages.read id k r here (sym read ∙ has) used j is in (old.0, noted_same plan s t.words (set t.words i n) h.lie (λ slot low. same slot) _ old.1)))
         (λ c has. h.ages.lost id c k here (sym lost ∙ has));
     tied = tie_of_period s tree t h.ages.now.machine.stages h.lie h.dead h.dead h.was_dead h.was_dead h.tied id k here p taken (set t.words i n) cards
         (λ c lives. lives) (λ q a at an. (let old = was q a at an in inl (old.0, old.1, λ c lives. lives)))
         (λ seat q a u other there at an c lives. lives) t.homes;
+    retired = retired_so plan s tree h.ages.now.machine h.ages.now.uses t id k here p taken retired (set t.words i n) h.lie h.lie
+        (λ x out is. noted_same plan s t.words (set t.words i n) h.lie (λ slot low. same slot) x is) h.retired;
   }
 
   -- a word is stored again
@@ -82,15 +87,15 @@ module _ (plan : TablePlan) (s : Slots) (tree : TableState) (t : WholeState) (id
       → get_or (set t.words i (get_or t.words i 0)) (slot_word s slot) 0 ≡ get_or t.words (slot_word s slot) 0
   same_again size i inside slot = word_again t.words i (omega arith) (slot_word s slot)
 
-  -- whatever the pass knows of what it sought
-  pub seeks_now : length t.words ≡ slots_size s → (i : ℕ) → i < slots_size s → (sought : Seek)
+  -- whatever the pass knows of what it sought, if it has noted no more
+  pub seeks_now : length t.words ≡ slots_size s → (i : ℕ) → i < slots_size s → (sought : Seek) → sought.retired ≡ k.period.sought.retired
       → HasPeriods plan s tree (turned_to t id k (record (k.period) { sought = sought }) i (get_or t.words i 0))
-  seeks_now size i inside sought =
-      going (record (k.period) { sought = sought }) i (get_or t.words i 0) (λ q a at an. (at, an)) refl refl refl (λ j low. word_again t.words i (omega arith) j) (same_again size i inside)
+  seeks_now size i inside sought retired =
+      going (record (k.period) { sought = sought }) i (get_or t.words i 0) (λ q a at an. (at, an)) refl refl refl retired (λ j low. word_again t.words i (omega arith) j) (same_again size i inside)
       (periods_sought s t id k here h.lie h.dead h.began h.was_dead h.periods size i inside sought)
 
   pub stays : length t.words ≡ slots_size s → (i : ℕ) → i < slots_size s → HasPeriods plan s tree (turned_to t id k k.period i (get_or t.words i 0))
-  stays size i inside = seeks_now size i inside k.period.sought
+  stays size i inside = seeks_now size i inside k.period.sought refl
 
   -- and after one begins
   pub begins_now : (q reading : ℕ) → k.period.place ≡ Some q → k.period.announced ≡ None → k.period.reading ≡ Some reading → length t.words ≡ slots_size s
@@ -108,7 +113,8 @@ module _ (plan : TablePlan) (s : Slots) (tree : TableState) (t : WholeState) (id
         (λ j r a u other there at an. put_other h.was_dead q h.dead r
         (λ e. other (h.periods.apart j id q u k there here (own (at ∙ ap (λ x. Some x) e)) (own placed))))
         (same_noted (set t.words (place_word s q) (reading + 2)) (λ slot. get_or-set_other t.words (place_word s q) (slot_word s slot) (reading + 2) 0 (λ e. omega arith)))
-        (λ r has. h.ages.read id k r here has)
+        (λ x out is. noted_same plan s t.words (set t.words (place_word s q) (reading + 2)) h.lie same_slots x is)
+        (λ r has used i is. (let old = h.ages.read id k r here has used i is in (old.0, noted_same plan s t.words (set t.words (place_word s q) (reading + 2)) h.lie same_slots _ old.1)))
         (λ c has. h.ages.lost id c k here has);
     tied = tie_of_period s tree t h.ages.now.machine.stages h.lie h.dead h.dead h.was_dead (put h.was_dead q h.dead) h.tied id k here (after_announce reading (get_or t.words (clock_word s) 0) k.period) refl
         (set t.words (place_word s q) (reading + 2)) (behind (place_word s q) (reading + 2) (omega arith))
@@ -117,8 +123,13 @@ module _ (plan : TablePlan) (s : Slots) (tree : TableState) (t : WholeState) (id
         (λ seat r a u other there at an c lives. sym (ap (λ f. f c) (put_other h.was_dead q h.dead r
         (λ e. other (h.periods.apart seat id q u k there here (own (at ∙ ap (λ x. Some x) e)) (own placed))))) ∙ lives)
         t.homes;
+    retired = retired_so plan s tree h.ages.now.machine h.ages.now.uses t id k here (after_announce reading (get_or t.words (clock_word s) 0) k.period) refl refl (set t.words (place_word s q) (reading + 2)) h.lie h.lie
+        (λ x out is. noted_same plan s t.words (set t.words (place_word s q) (reading + 2)) h.lie same_slots x is) h.retired;
   }
     where
+      same_slots : (slot : ℕ) → slot ≤ s.last → get_or (set t.words (place_word s q) (reading + 2)) (slot_word s slot) 0 ≡ get_or t.words (slot_word s slot) 0
+      same_slots slot low = get_or-set_other t.words (place_word s q) (slot_word s slot) (reading + 2) 0 (λ e. omega arith)
+
       still : (r x : ℕ) → put h.was_dead q h.dead r x ≡ true → h.dead x ≡ true
       still r x is = elim (cases_eq r q) [
         | inl e ↦ sym (ap (λ f. f x) (ap (put h.was_dead q h.dead) e ∙ put_same h.was_dead q h.dead)) ∙ is
@@ -169,7 +180,7 @@ module _ (plan : TablePlan) (s : Slots) (placed : plan.slots ≡ Some s) where
   pub read_clock_goes_on : (k : Known) → MayGoOn plan k (clock_word s) (λ n. n) (λ n p. (p ≡ after_clock n k.period) × (n ≤ last_reading))
   read_clock_goes_on k =
       goes_on k (clock_word s) (λ n. n) (λ n p. (p ≡ after_clock n k.period) × (n ≤ last_reading)) (λ t. after_clock (get_or t.words (clock_word s) 0) k.period)
-      (λ tree t id here h size. (going plan s tree t id k here h (after_clock (get_or t.words (clock_word s) 0) k.period) (clock_word s) (get_or t.words (clock_word s) 0) (λ q a at an. (at, an)) refl refl refl (behind plan s tree t id k here h (clock_word s) (get_or t.words (clock_word s) 0) (omega arith)) (λ slot. get_or-set_other t.words (clock_word s) (slot_word s slot) (get_or t.words (clock_word s) 0) 0 (λ e. omega arith)) (periods_read s t id k here h.lie h.dead h.began h.was_dead h.periods size), (refl, h.periods.low)))
+      (λ tree t id here h size. (going plan s tree t id k here h (after_clock (get_or t.words (clock_word s) 0) k.period) (clock_word s) (get_or t.words (clock_word s) 0) (λ q a at an. (at, an)) refl refl refl refl (behind plan s tree t id k here h (clock_word s) (get_or t.words (clock_word s) 0) (omega arith)) (λ slot. get_or-set_other t.words (clock_word s) (slot_word s slot) (get_or t.words (clock_word s) 0) 0 (λ e. omega arith)) (periods_read s t id k here h.lie h.dead h.began h.was_dead h.periods size), (refl, h.periods.low)))
 
   -- it announces a reading of the clock, if it announces nothing
   pub announces : (k : Known) (q reading : ℕ) → k.period.place ≡ Some q → k.period.announced ≡ None → k.period.reading ≡ Some reading
@@ -187,7 +198,7 @@ module _ (plan : TablePlan) (s : Slots) (placed : plan.slots ≡ Some s) where
       → MayGoOn plan k (place_word s q) (λ n. 1) (λ n p. p ≡ after_retract k.period)
   retracts k q has rest =
       goes_on_there k (place_word s q) (λ n. 1) (λ n p. p ≡ after_retract k.period) (λ t. after_retract k.period)
-      (λ tree t id reached here there h size. (going plan s tree t id k here h (after_retract k.period) (place_word s q) 1 (λ r a at an. absurd (some_not_none an refl)) refl refl refl (behind plan s tree t id k here h (place_word s q) 1 (omega arith)) (λ slot. get_or-set_other t.words (place_word s q) (slot_word s slot) 1 0 (λ e. omega arith)) (periods_retracted s t id k here h.lie h.dead h.began h.was_dead h.periods size q has (rests_whole plan k.tree (tells_apart plan s tree t h.ages.now.machine h.lie h.dead h.was_dead h.tied placed reached id k here there (ready_there plan s tree t h id k here)) rest)), refl))
+      (λ tree t id reached here there h size. (going plan s tree t id k here h (after_retract k.period) (place_word s q) 1 (λ r a at an. absurd (some_not_none an refl)) refl refl refl refl (behind plan s tree t id k here h (place_word s q) 1 (omega arith)) (λ slot. get_or-set_other t.words (place_word s q) (slot_word s slot) 1 0 (λ e. omega arith)) (periods_retracted s t id k here h.lie h.dead h.began h.was_dead h.periods size q has (rests_whole plan k.tree (tells_apart plan s tree t h.ages.now.machine h.lie h.dead h.was_dead h.tied placed reached id k here there (ready_there plan s tree t h id k here)) rest)), refl))
 
   -- it takes a place, if no pass has it
   pub takes : (k : Known) (q : ℕ) → q < s.places → MayGoOn plan k (place_word s q) (λ n. either (n == 0) 1 n) (λ n p. p ≡ after_take q n k.period)
@@ -200,7 +211,7 @@ module _ (plan : TablePlan) (s : Slots) (placed : plan.slots ≡ Some s) where
 
       by : (tree : TableState) (t : WholeState) (id : ℕ) → get_elem? t.views id ≡ some k → HasPeriods plan s tree t → length t.words ≡ slots_size s → (n : ℕ) → get_or t.words (place_word s q) 0 ≡ n
           → HasPeriods plan s tree (turned_to t id k (after_take q n k.period) (place_word s q) (either (n == 0) 1 n))
-      by tree t id here h size zero e = going plan s tree t id k here h (after_take q 0 k.period) (place_word s q) 1 (λ r a at an. (at, an)) refl refl refl (behind plan s tree t id k here h (place_word s q) 1 (omega arith)) (λ slot. get_or-set_other t.words (place_word s q) (slot_word s slot) 1 0 (λ e. omega arith))
+      by tree t id here h size zero e = going plan s tree t id k here h (after_take q 0 k.period) (place_word s q) 1 (λ r a at an. (at, an)) refl refl refl refl (behind plan s tree t id k here h (place_word s q) 1 (omega arith)) (λ slot. get_or-set_other t.words (place_word s q) (slot_word s slot) 1 0 (λ e. omega arith))
           (periods_taken s t id k here h.lie h.dead h.began h.was_dead h.periods size q below e)
       by tree t id here h size (suc n) e =
           subst (λ m. HasPeriods plan s tree (turned_to t id k k.period (place_word s q) m)) (e ∙ sym (taken n))
@@ -227,14 +238,14 @@ module _ (plan : TablePlan) (s : Slots) (placed : plan.slots ≡ Some s) where
   pub gives_back : (k : Known) (q : ℕ) → k.period.other ≡ Some q → MayGoOn plan k (place_word s q) (λ n. 0) (λ n p. p ≡ after_give k.period)
   gives_back k q has =
       goes_on k (place_word s q) (λ n. 0) (λ n p. p ≡ after_give k.period) (λ t. after_give k.period)
-      (λ tree t id here h size. (going plan s tree t id k here h (after_give k.period) (place_word s q) 0 (λ r a at an. (at, an)) refl refl refl (behind plan s tree t id k here h (place_word s q) 0 (omega arith)) (λ slot. get_or-set_other t.words (place_word s q) (slot_word s slot) 0 0 (λ e. omega arith)) (periods_given s t id k here h.lie h.dead h.began h.was_dead h.periods size q has), refl))
+      (λ tree t id here h size. (going plan s tree t id k here h (after_give k.period) (place_word s q) 0 (λ r a at an. (at, an)) refl refl refl refl (behind plan s tree t id k here h (place_word s q) 0 (omega arith)) (λ slot. get_or-set_other t.words (place_word s q) (slot_word s slot) 0 0 (λ e. omega arith)) (periods_given s t id k here h.lie h.dead h.began h.was_dead h.periods size q has), refl))
 
   -- it is given up, and so is its place, if it announces nothing
   pub releases : (k : Known) (q : ℕ) → k.period.place ≡ Some q → k.period.announced ≡ None
       → MayGoOn plan k (place_word s q) (λ n. 0) (λ n p. p ≡ after_release k.period)
   releases k q has quiet =
       goes_on k (place_word s q) (λ n. 0) (λ n p. p ≡ after_release k.period) (λ t. after_release k.period)
-      (λ tree t id here h size. (going plan s tree t id k here h (after_release k.period) (place_word s q) 0 (λ r a at an. absurd (some_not_none at refl)) refl refl refl (behind plan s tree t id k here h (place_word s q) 0 (omega arith)) (λ slot. get_or-set_other t.words (place_word s q) (slot_word s slot) 0 0 (λ e. omega arith)) (periods_released s t id k here h.lie h.dead h.began h.was_dead h.periods size q has quiet), refl))
+      (λ tree t id here h size. (going plan s tree t id k here h (after_release k.period) (place_word s q) 0 (λ r a at an. absurd (some_not_none at refl)) refl refl refl refl (behind plan s tree t id k here h (place_word s q) 0 (omega arith)) (λ slot. get_or-set_other t.words (place_word s q) (slot_word s slot) 0 0 (λ e. omega arith)) (periods_released s t id k here h.lie h.dead h.began h.was_dead h.periods size q has quiet), refl))
 
   -- it lets the clock go on, if that is as it was read
   pub tick_goes_on : (k : Known) (reading : ℕ) → reading < last_reading
@@ -252,7 +263,7 @@ module _ (plan : TablePlan) (s : Slots) (placed : plan.slots ≡ Some s) where
       by tree t id here h size (inl is) =
           subst (on tree t id)
           (ap (λ n. n + 1) is ∙ sym (ap (λ n. either (n == reading) (reading + 1) n) is ∙ ap (λ b. either b (reading + 1) reading) (eq-eqb reading reading refl)))
-          (going plan s tree t id k here h k.period (clock_word s) (get_or t.words (clock_word s) 0 + 1) (λ q a at an. (at, an)) refl refl refl (behind plan s tree t id k here h (clock_word s) (get_or t.words (clock_word s) 0 + 1) (omega arith)) (λ slot. get_or-set_other t.words (clock_word s) (slot_word s slot) (get_or t.words (clock_word s) 0 + 1) 0 (λ e. omega arith))
+          (going plan s tree t id k here h k.period (clock_word s) (get_or t.words (clock_word s) 0 + 1) (λ q a at an. (at, an)) refl refl refl refl (behind plan s tree t id k here h (clock_word s) (get_or t.words (clock_word s) 0 + 1) (omega arith)) (λ slot. get_or-set_other t.words (clock_word s) (slot_word s slot) (get_or t.words (clock_word s) 0 + 1) 0 (λ e. omega arith))
           (periods_ticked s t id k here h.lie h.dead h.began h.was_dead h.periods size (omega arith)))
       by tree t id here h size (inr other) =
           subst (on tree t id)
@@ -266,6 +277,6 @@ module _ (plan : TablePlan) (s : Slots) (placed : plan.slots ≡ Some s) where
       goes_on k (place_word s q) (λ n. n) (λ n p. (o : Slots) → plan.slots ≡ Some o → p ≡ after_look_at o.places n k.period) (λ t. after_look_at s.places (get_or t.words (place_word s q) 0) k.period)
       (λ tree t id here h size. (
         going plan s tree t id k here h (after_look_at s.places (get_or t.words (place_word s q) 0) k.period) (place_word s q) (get_or t.words (place_word s q) 0)
-            (λ r a at an. (at, an)) refl refl refl (behind plan s tree t id k here h (place_word s q) (get_or t.words (place_word s q) 0) (omega arith)) (λ slot. get_or-set_other t.words (place_word s q) (slot_word s slot) (get_or t.words (place_word s q) 0) 0 (λ e. omega arith)) (periods_seen s t id k here h.lie h.dead h.began h.was_dead h.periods size q next below),
+            (λ r a at an. (at, an)) refl refl refl refl (behind plan s tree t id k here h (place_word s q) (get_or t.words (place_word s q) 0) (omega arith)) (λ slot. get_or-set_other t.words (place_word s q) (slot_word s slot) (get_or t.words (place_word s q) 0) 0 (λ e. omega arith)) (periods_seen s t id k here h.lie h.dead h.began h.was_dead h.periods size q next below),
         λ o is. ap (λ (x : Slots). after_look_at x.places (get_or t.words (place_word s q) 0) k.period) (same_Some s o (sym placed ∙ is)),
       ))

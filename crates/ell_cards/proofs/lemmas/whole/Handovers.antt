@@ -19,7 +19,7 @@ use Rattle.ell_cards.specs.Ages.{AgesAreSound}
 use Rattle.ell_cards.specs.States.{TableState}
 use Rattle.ell_cards.specs.Turns.{TableTurns, Splits as SplitsInto, Joins as JoinsWith}
 use Rattle.ell_cards.specs.Whole.{joined_known, spent_known}
-use Rattle.ell_cards.proofs.lemmas.whole.Ages.{AgesOn, Onward, onward, dead_on, still_since, noted_on, read_on, lost_on}
+use Rattle.ell_cards.proofs.lemmas.whole.Ages.{AgesOn, Onward, onward, dead_on, still_since, noted_on, read_on, lost_on, out_on}
 use Rattle.ell_cards.proofs.lemmas.whole.Rests.{is_at_rest}
 use Rattle.ell_cards.proofs.lemmas.whole.Seats.{part_same, part_put}
 use Rattle.ell_cards.proofs.lemmas.whole.Trees.{grace_same}
@@ -172,8 +172,8 @@ module _ (plan : TablePlan) (s : Slots) (tree tree' : TableState) (t : WholeStat
       noted = noted_on plan s tree tree' t lie dead was_dead h (SplitsInto id keys) on t.words (λ slot low. refl);
       read = λ seat u r at has. elim (at_end (set t.views id left) right u seat at) [
         | inl was ↦ ⊎_elim
-            (λ (e : (seat ≡ id) × (left ≡ u)). read_on plan s tree tree' t lie dead was_dead h (SplitsInto id keys) on id k r here (sym left_read ∙ (ap (λ (x : Known). x.period.read) e.1 ∙ has)))
-            (λ (e : (seat ≢ id) × (get_elem? t.views seat ≡ some u)). read_on plan s tree tree' t lie dead was_dead h (SplitsInto id keys) on seat u r e.1 has)
+            (λ (e : (seat ≡ id) × (left ≡ u)). read_on plan s tree tree' t lie dead was_dead h (SplitsInto id keys) on t.words (λ slot low. refl) id k r here (sym left_read ∙ (ap (λ (x : Known). x.period.read) e.1 ∙ has)))
+            (λ (e : (seat ≢ id) × (get_elem? t.views seat ≡ some u)). read_on plan s tree tree' t lie dead was_dead h (SplitsInto id keys) on t.words (λ slot low. refl) seat u r e.1 has)
             (at_set t.views id seat left u was)
         | inr new ↦ λ i is. absurd (some_not_none (ap (λ (x : Known). x.period.read) new.1 ∙ has) right_read)
       ];
@@ -185,6 +185,8 @@ module _ (plan : TablePlan) (s : Slots) (tree tree' : TableState) (t : WholeStat
         | inr new ↦ absurd (some_not_none (ap (λ (x : Known). x.period.lost) new.1 ∙ has) right_lost)
       ];
     };
+    out = λ x is. out_on plan tree h.now.machine h.now.uses (SplitsInto id keys) tree' on x is;
+    words = on.words;
     later = on.later;
     wins = on.wins;
   }
@@ -349,8 +351,8 @@ module _ (plan : TablePlan) (s : Slots) (tree tree' : TableState) (t : WholeStat
       read = λ seat u r at has. ⊎_elim
           (λ (e : (seat ≡ other) × (spent ≡ u)). λ i is. absurd (some_not_none (ap (λ (x : Known). x.period.read) e.1 ∙ has) spent_read))
           (λ (e : (seat ≢ other) × (get_elem? (set t.views id both) seat ≡ some u)). ⊎_elim
-          (λ (f : (seat ≡ id) × (both ≡ u)). read_on plan s tree tree' t lie dead was_dead h (JoinsWith id other) on id k r here (sym both_read ∙ (ap (λ (x : Known). x.period.read) f.1 ∙ has)))
-          (λ (f : (seat ≢ id) × (get_elem? t.views seat ≡ some u)). read_on plan s tree tree' t lie dead was_dead h (JoinsWith id other) on seat u r f.1 has)
+          (λ (f : (seat ≡ id) × (both ≡ u)). read_on plan s tree tree' t lie dead was_dead h (JoinsWith id other) on t.words (λ slot low. refl) id k r here (sym both_read ∙ (ap (λ (x : Known). x.period.read) f.1 ∙ has)))
+          (λ (f : (seat ≢ id) × (get_elem? t.views seat ≡ some u)). read_on plan s tree tree' t lie dead was_dead h (JoinsWith id other) on t.words (λ slot low. refl) seat u r f.1 has)
           (at_set t.views id seat both u e.1))
           (at_set (set t.views id both) other seat spent u at);
       lost = λ seat c u at has. ⊎_elim
@@ -361,6 +363,8 @@ module _ (plan : TablePlan) (s : Slots) (tree tree' : TableState) (t : WholeStat
           (at_set t.views id seat both u e.1))
           (at_set (set t.views id both) other seat spent u at);
     };
+    out = λ x is. out_on plan tree h.now.machine h.now.uses (JoinsWith id other) tree' on x is;
+    words = on.words;
     later = on.later;
     wins = on.wins;
   }

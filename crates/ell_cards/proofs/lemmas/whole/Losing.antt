@@ -22,6 +22,7 @@ use Rattle.ell_cards.specs.Turns.{Makes, found_by, state_after}
 use Rattle.ell_cards.proofs.lemmas.runs.Aside.{lost_is_aside}
 use Rattle.ell_cards.proofs.lemmas.ties.Periods.{tie_of_period}
 use Rattle.ell_cards.proofs.lemmas.whole.Ages.{Onward, AgesOn, ages_of_period}
+use Rattle.ell_cards.proofs.lemmas.whole.Retired.{retired_so}
 use Rattle.ell_cards.proofs.lemmas.whole.Seats.{part_same}
 use Rattle.ell_cards.proofs.lemmas.whole.Steps.{periods_after}
 use Rattle.ell_cards.proofs.lemmas.whole.Trees.{grace_same}
@@ -82,7 +83,7 @@ module _ (plan : TablePlan) (s : Slots) (tree : TableState) (t : WholeState) (id
   abbrev pub lost_ages : AgesAreSound plan s tree after h.lie h.dead h.was_dead
   lost_ages = ages_of_period plan s tree t id k here now refl t.words h.lie h.lie h.dead h.dead h.was_dead h.was_dead h.ages
       h.ages.now.each h.ages.still (λ q a at an. h.ages.since id q a k here at an) (λ j q a u other at placed an. refl)
-      h.ages.noted (λ r has. h.ages.read id k r here has)
+      h.ages.noted (λ x out is. is) (λ r has. h.ages.read id k r here has)
       (λ d has. subst (IsAside h.ages.now.machine.stages tree.views) (same_Some c d has) aside)
 
   -- the pass notes the card that it has laid aside
@@ -97,4 +98,5 @@ module _ (plan : TablePlan) (s : Slots) (tree : TableState) (t : WholeState) (id
     ages = lost_ages;
     tied = tie_of_period s tree t h.ages.now.machine.stages h.lie h.dead h.dead h.was_dead h.was_dead h.tied id k here noting refl t.words (λ i low. refl)
         (λ d lives. lives) (λ q a at an. inl (at, an, λ d lives. lives)) (λ seat q a u other at placed an d lives. lives) t.homes;
+    retired = retired_so plan s tree h.ages.now.machine h.ages.now.uses t id k here noting refl refl t.words h.lie h.lie (λ x out is. is) h.retired;
   }

@@ -18,7 +18,7 @@ use Rattle.ell_cards.specs.Models.{TablePlan, last_slot, last_slot_of}
 use Rattle.ell_cards.specs.Changes.{first_of}
 use Rattle.ell_cards.specs.Periods.{slots_of, last_for, clock_word, place_word, slot_word, slots_size, stamp_at, pending_by, opening_word, words_of_free_slots, AreOpeningWords, AreWholeWords, size_by, whole_size, period_by, announced_by, period_in, IsAtRest, PeriodHolds, PeriodsAreSound, grace_of}
 use Rattle.ell_cards.specs.Aside.{IsAside}
-use Rattle.ell_cards.specs.Ages.{IsOut, is_beyond, ForgotWhen, AgesAreSound}
+use Rattle.ell_cards.specs.Ages.{is_beyond, ForgotWhen, AgesAreSound}
 use Rattle.ell_cards.specs.SlotWords.{slot_of, card_by, free_word, freed_by, is_noted}
 use Rattle.ell_cards.specs.States.{TableState}
 use Rattle.ell_cards.specs.Starts.{MayStart, SlotsFit, IsReached, most_places}
@@ -278,8 +278,7 @@ first_ages plan s tree reached given cards all size h rest one most =
       since = λ i q a k at. alone s given cards all size h (first_of plan) rest one (λ j u. u.period.place ≡ Some q → u.period.announced ≡ Some a → IsAtRest u.tree ⊎ ForgotWhen plan tree j (λ x. false))
           (λ is an. inl rest) i k at;
       noted = λ slot k low is. is_beyond (let past = noted_opened given slot k (subst (λ n. is_noted n k ≡ true) (h.slots slot low) is) in omega arith);
-      read = λ i k r at. alone s given cards all size h (first_of plan) rest one (λ j u. u.period.read ≡ Some r → r.word % 8 ≢ 7 → (b : ℕ) → is_noted r.word b ≡ true → IsOut plan tree has.0 has.1 (4 * card_by r.slot r.word + b))
-          (λ is. absurd (some_not_none is refl)) i k at;
+      read = λ i k r at is. absurd (some_not_none is (alone s given cards all size h (first_of plan) rest one (λ j u. u.period.read ≡ None) refl i k at));
       lost = λ i c k at. alone s given cards all size h (first_of plan) rest one (λ j u. u.period.lost ≡ Some c → IsAside has.0.stages tree.views c) (λ is. absurd (some_not_none is refl)) i k at;
     }
 

@@ -11,11 +11,12 @@ use Rattle.ell_cards.specs.Models.{TablePlan, IsFree}
 use Rattle.ell_cards.specs.Changes.{left_view, right_view, joined_view, spent_view}
 use Rattle.ell_cards.specs.Periods.{after_give, given_period, IsAtRest}
 use Rattle.ell_cards.specs.States.{TableState}
+use Rattle.ell_cards.specs.Ties.{left_known, right_known}
 use Rattle.ell_cards.specs.Shown.{StoresAreWhole}
 use Rattle.ell_cards.specs.Stepping.{MaySplit}
 use Rattle.ell_cards.specs.Starts.{SlotsFit}
 use Rattle.ell_cards.specs.Turns.{TableTurns, Splits as SplitsInto, Joins as JoinsWith, state_split, state_joined}
-use Rattle.ell_cards.proofs.lemmas.ties.Handovers.{splits_keep_ties, joins_keep_ties}
+use Rattle.ell_cards.proofs.lemmas.ties.Handovers.{split_goes, split_held, join_goes, join_held}
 use Rattle.ell_cards.proofs.lemmas.whole.Handovers.{split_periods, join_periods}
 use Rattle.ell_cards.specs.Whole.{trees_of, joined_known, spent_known, PeriodsAre, IsWhole, PlansFit}
 use Rattle.ell_cards.proofs.lemmas.lifetimes.Joins.{each_joined as each_view_joined}
@@ -23,6 +24,7 @@ use Rattle.ell_cards.proofs.lemmas.lifetimes.Splits.{each_split as each_view_spl
 use Rattle.ell_cards.proofs.lemmas.shown.ShownViews.{unfilled_whole}
 use Rattle.ell_cards.proofs.lemmas.runs.Reaching.{reached_on}
 use Rattle.ell_cards.proofs.lemmas.whole.Rests.{is_at_rest}
+use Rattle.ell_cards.proofs.lemmas.whole.Retired.{retired_on}
 use Rattle.ell_cards.proofs.lemmas.whole.Lifts.{unplanned_fits}
 use Rattle.ell_cards.proofs.lemmas.whole.Trees.{tree_at}
 
@@ -55,7 +57,7 @@ whole_splits plan k keys quiet may id s h here =
       stores = each_view_split h.tree.views id k.tree there (left_view keys k.tree) (right_view keys k.tree) (λ v. StoresAreWhole v × PlansFit plan.slots v)
           (unfilled_whole (left_view keys k.tree) refl refl, unplanned_fits plan.slots (left_view keys k.tree) refl)
           (unfilled_whole (right_view keys k.tree) refl refl, unplanned_fits plan.slots (right_view keys k.tree) refl) h.stores;
-      periods = by h.tree there plan.slots h.reached.starts.may.slots h.periods;
+      periods = by h.tree there h.views plan.slots h.reached.starts.may.slots h.periods;
     }
   where
     left_rests : IsAtRest (left_view keys k.tree)
@@ -64,20 +66,22 @@ whole_splits plan k keys quiet may id s h here =
     right_rests : IsAtRest (right_view keys k.tree)
     right_rests = is_at_rest (right_view keys k.tree) refl refl refl refl refl
 
-    by : (tree : TableState) → get_elem? tree.views id ≡ some k.tree → (o : Option Slots) → SlotsFit plan o → PeriodsAre plan o tree s
+    by : (tree : TableState) → get_elem? tree.views id ≡ some k.tree → trees_of s.views ≡ tree.views → (o : Option Slots) → SlotsFit plan o → PeriodsAre plan o tree s
         → PeriodsAre plan o (state_split tree id k.tree keys)
         (record { words = s.words; homes = s.homes; views = set s.views id (record { tree = left_view keys k.tree; period = after_give k.period }) ++ record { tree = right_view keys k.tree; period = given_period k.period } ∷ [] })
-    by tree there None fit periods = tt
-    by tree there (Some sl) fit h =
-        let tie = splits_keep_ties plan sl tree s h.lie h.dead h.was_dead (let low = fit.4 in omega arith) (record { ages = h.ages; tied = h.tied }) id k here there keys may.free may.may in record {
+    by tree there same None fit periods = tt
+    by tree there same (Some sl) fit h =
+        let tie = split_goes plan sl tree s h.lie h.dead h.was_dead (let low = fit.4 in omega arith) (record { ages = h.ages; tied = h.tied }) id k here there keys may.free may.may in record {
           lie = h.lie;
           lies = h.lies;
           dead = h.dead;
           began = h.began;
           was_dead = h.was_dead;
           periods = split_periods sl s id k here h.lie h.dead h.began h.was_dead h.periods (left_view keys k.tree) (right_view keys k.tree) left_rests right_rests quiet;
-          ages = tie.ages;
+          ages = tie.on.ages;
           tied = tie.tied;
+          retired = retired_on plan sl tree h.ages.now.machine h.ages.now.uses (state_split tree id k.tree keys) tie.on.ages.now.machine tie.on.ages.now.uses tie.on.words tie.on.out
+              s (record { words = s.words; homes = s.homes; views = set s.views id (left_known keys k) ++ right_known keys k ∷ [] }) h.lie same (λ slot low. refl) (split_held s id k keys) h.retired;
         }
 
 -- a join of the tree is a join of the table
@@ -108,15 +112,15 @@ whole_joins plan k l free other_free id other s h here aside there =
       stores = each_view_joined h.tree.views id other k.tree l.tree ours turn.there' aside (joined_view k.tree l.tree) (λ v. StoresAreWhole v × PlansFit plan.slots v)
           (unfilled_whole (joined_view k.tree l.tree) refl refl, unplanned_fits plan.slots (joined_view k.tree l.tree) refl)
           (unfilled_whole spent_view refl refl, unplanned_fits plan.slots spent_view refl) h.stores;
-      periods = by h.tree ours turn.there' plan.slots h.reached.starts.may.slots h.periods theirs;
+      periods = by h.tree ours turn.there' h.views plan.slots h.reached.starts.may.slots h.periods theirs;
     }
   where
-    by : (tree : TableState) → get_elem? tree.views id ≡ some k.tree → get_elem? tree.views other ≡ some l.tree → (o : Option Slots) → SlotsFit plan o → PeriodsAre plan o tree s → get_elem? s.views other ≡ some l
+    by : (tree : TableState) → get_elem? tree.views id ≡ some k.tree → get_elem? tree.views other ≡ some l.tree → trees_of s.views ≡ tree.views → (o : Option Slots) → SlotsFit plan o → PeriodsAre plan o tree s → get_elem? s.views other ≡ some l
         → PeriodsAre plan o (state_joined tree id other k.tree l.tree)
         (record { words = s.words; homes = s.homes; views = set (set s.views id (joined_known k l)) other spent_known })
-    by tree ours theirs None fit periods there = tt
-    by tree ours theirs (Some sl) fit h there =
-        let tie = joins_keep_ties plan sl tree s h.lie h.dead h.was_dead (let low = fit.4 in omega arith) (record { ages = h.ages; tied = h.tied }) id other k l here there ours theirs
+    by tree ours theirs same None fit periods there = tt
+    by tree ours theirs same (Some sl) fit h there =
+        let tie = join_goes plan sl tree s h.lie h.dead h.was_dead (let low = fit.4 in omega arith) (record { ages = h.ages; tied = h.tied }) id other k l here there ours theirs
         (λ e. aside (sym e)) free other_free in record {
           lie = h.lie;
           lies = h.lies;
@@ -124,6 +128,8 @@ whole_joins plan k l free other_free id other s h here aside there =
           began = h.began;
           was_dead = h.was_dead;
           periods = join_periods sl s id other k l here there aside h.lie h.dead h.began h.was_dead h.periods;
-          ages = tie.ages;
+          ages = tie.on.ages;
           tied = tie.tied;
+          retired = retired_on plan sl tree h.ages.now.machine h.ages.now.uses (state_joined tree id other k.tree l.tree) tie.on.ages.now.machine tie.on.ages.now.uses tie.on.words tie.on.out
+              s (record { words = s.words; homes = s.homes; views = set (set s.views id (joined_known k l)) other spent_known }) h.lie same (λ slot low. refl) (join_held s id other k l) h.retired;
         }

@@ -10,7 +10,7 @@ use Rattle.ell_cards.specs.declared.view.Known.{Known}
 use Rattle.ell_cards.specs.declared.view.Period.{Period}
 use Rattle.ell_cards.specs.declared.view.Seek.{Seek}
 use Rattle.ell_cards.specs.declared.view.Slots.{Slots}
-use Rattle.ell_cards.specs.Ages.{HasPeriods}
+use Rattle.ell_cards.specs.Ages.{IsOut, IsNotedThere, AreRetired, HasPeriods}
 use Rattle.ell_cards.specs.Models.{TablePlan}
 use Rattle.ell_cards.specs.Periods.{WholeState, slot_word, slots_size, after_missing, after_own, after_read, after_taking}
 use Rattle.ell_cards.specs.Seeking.{could_take, missed_one}
@@ -20,7 +20,7 @@ use Rattle.ell_cards.specs.States.{TableState}
 use Rattle.ell_cards.specs.Stepping.{MayGoOn}
 use Rattle.ell_cards.specs.Tied.{HoldsWaiting}
 use Rattle.ell_cards.specs.Whole.{trees_of}
-use Rattle.ell_cards.proofs.lemmas.ties.TakingSlots.{takes_keep_ties}
+use Rattle.ell_cards.proofs.lemmas.ties.TakingSlots.{take_goes}
 use Rattle.ell_cards.proofs.lemmas.whole.Freeing.{reads_now}
 use Rattle.ell_cards.proofs.lemmas.whole.Going.{turned_to, goes_on_whole}
 use Rattle.ell_cards.proofs.lemmas.whole.Slots.{slot_taken, taken_is_dead, taken_was_dead_for, lie_taken}
@@ -43,16 +43,17 @@ module _ (plan : TablePlan) (s : Slots) (tree : TableState) (t : WholeState) (id
   found = get_or t.words at 0
 
   -- it reads the slot's word
-  pub reads_so : (sought : Seek) → HasPeriods plan s tree (turned_to t id k (record (after_read (slot_of c) (get_or t.words (slot_word s (slot_of c)) 0) k.period) { sought = sought }) (slot_word s (slot_of c)) (get_or t.words (slot_word s (slot_of c)) 0))
-  reads_so sought = reads_now plan s tree t id k here (ap (λ l. get_elem? l id) (sym same) ∙ tree_at t.views id k here) h size reached (slot_of c) inside sought
+  pub reads_so : (sought : Seek) → sought.retired ≡ k.period.sought.retired → HasPeriods plan s tree (turned_to t id k (record (after_read (slot_of c) (get_or t.words (slot_word s (slot_of c)) 0) k.period) { sought = sought }) (slot_word s (slot_of c)) (get_or t.words (slot_word s (slot_of c)) 0))
+  reads_so sought noted = reads_now plan s tree t id k here (ap (λ l. get_elem? l id) (sym same) ∙ tree_at t.views id k here) h size reached (slot_of c) inside sought
+      (λ d at hand. subst (λ r. AreRetired h.ages.now.machine.words d r (λ x. IsOut plan tree h.ages.now.machine h.ages.now.uses x × IsNotedThere s t.words h.lie x)) (sym noted) (h.retired id d k here at hand))
 
   -- and counts a miss if it could not take the slot
   pub owns_now : HasPeriods plan s tree (turned_to t id k (after_own c (get_or t.words (slot_word s (slot_of c)) 0) k.period) (slot_word s (slot_of c)) (get_or t.words (slot_word s (slot_of c)) 0))
   owns_now = by (could_take found k.period.safe)
     where
       by : (b : Bool) → HasPeriods plan s tree (turned_to t id k (if b then after_read (slot_of c) found k.period else after_missing c found k.period) (slot_word s (slot_of c)) found)
-      by true = reads_so k.period.sought
-      by false = reads_so (missed_one k.period.sought)
+      by true = reads_so k.period.sought refl
+      by false = reads_so (missed_one k.period.sought) refl
 
   -- it takes the slot, if that was set free with a stamp below the pass's safe number
   pub takes_now : s.last < 2097152 → (n : ℕ) → get_or t.words (slot_word s (slot_of c)) 0 ≡ n → n % 8 ≡ 7 → stamp_in n < k.period.safe
@@ -61,7 +62,7 @@ module _ (plan : TablePlan) (s : Slots) (tree : TableState) (t : WholeState) (id
       let full : found % 8 ≡ 7 = ap (λ m. m % 8) is ∙ free in
       let past : stamp_in found < k.period.safe = subst (λ m. stamp_in m < k.period.safe) (sym is) safe in
       let own = h.tied.own (slot_of c) inside in
-      let tied = takes_keep_ties plan s tree t h.lie h.dead h.was_dead low size (record { ages = h.ages; tied = h.tied }) same id k here c hand numbered
+      let it = take_goes plan s tree t h.lie h.dead h.was_dead low size (record { ages = h.ages; tied = h.tied }) same id k here c hand numbered
       (taken_is_dead s t id k here h.lie h.dead h.began h.was_dead h.periods size (slot_of c) inside own full past)
       (taken_was_dead_for s t id k here h.lie h.dead h.began h.was_dead h.periods size (slot_of c) inside own full past) in record {
         lie = put h.lie (slot_of c) c;
@@ -70,8 +71,9 @@ module _ (plan : TablePlan) (s : Slots) (tree : TableState) (t : WholeState) (id
         began = h.began;
         was_dead = h.was_dead;
         periods = slot_taken s t id k here h.lie h.dead h.began h.was_dead h.periods size (slot_of c) inside own full past (turn_of c) c refl;
-        ages = tied.ages;
-        tied = tied.tied;
+        ages = it.ages;
+        tied = it.tied;
+        retired = it.retired h.retired;
       }
 
 -- these steps are steps of the table
@@ -102,7 +104,7 @@ module _ (plan : TablePlan) (s : Slots) (placed : plan.slots ≡ Some s) (k : Kn
           (takes_now plan s tree t id k here same h size c hand inside numbered reached low n is free safe)
       by tree t id reached here same h size (inr other) =
           subst (after t tree id (get_or t.words (slot_word s (slot_of c)) 0)) (sym (ne_eqb (get_or t.words (slot_word s (slot_of c)) 0) n other))
-          (reads_so plan s tree t id k here same h size c hand inside numbered reached (missed_one k.period.sought))
+          (reads_so plan s tree t id k here same h size c hand inside numbered reached (missed_one k.period.sought) refl)
 
   -- whichever card the pass has in hand, and whatever slot's word this is
   one : (d : ℕ) → k.tree.worker.card ≡ Some d → c ≡ d

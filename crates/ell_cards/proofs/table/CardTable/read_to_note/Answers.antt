@@ -1,12 +1,12 @@
-use Rattle.ell_cards.proofs.lemmas.whole.Freeing.{reads_any_taken}
+use Rattle.ell_cards.proofs.lemmas.whole.Noting.{reads_to_note}
 use Rattle.ell_cards.proofs.table.CardTable.read_to_note.Goals as goal
 
-pub period_load-requires-clause-rule : goal.period_load-requires-clause-rule
-period_load-requires-clause-rule g c =
-    reads_any_taken c.args.self.now.plan c.args.slots c.requires.slots c.args.slot c.requires.slot c.args.seat.now.me.0 c.slot_address.result c.slot_address.ensures.word
+pub load_noted-requires-clause-rule : goal.load_noted-requires-clause-rule
+load_noted-requires-clause-rule g c =
+    reads_to_note c.args.self.now.plan c.args.slots c.requires.slots c.args.taken_out c.args.card c.args.nodes c.requires.slot c.args.seat.now.me.0 c.requires.retires
 
 pub returns-clause-read : goal.returns-clause-read
-returns-clause-read g c = (c.period_load.ensures.told c.args.slots c.args.slot c.requires.slots c.slot_address.ensures.word).0
+returns-clause-read g c = c.load_noted.ensures.told.0
 
-pub returns-clause-dead : goal.returns-clause-dead
-returns-clause-dead g c = (c.period_load.ensures.told c.args.slots c.args.slot c.requires.slots c.slot_address.ensures.word).1 c.args.card c.args.nodes c.requires.card
+pub returns-clause-may : goal.returns-clause-may
+returns-clause-may g c = c.load_noted.ensures.told.1
