@@ -48,7 +48,7 @@ pub record PassFits (keys : List ℕ) (kept : Share) (words : ℕ) (v : View) : 
 
 -- the place of a pass as its code keeps it is the one that it knows, and it has one in a table with places, and no
 -- other one; it announces there what its code says; its safe number is the one that its code keeps, and without
--- places 0; and the slot that it has taken is one of the table
+-- places 0; the slot that it has taken is one of the table; and it has set free the slot of each card whose flag it lost
 pub record PlaceFits (standing : Standing) (words : ℕ) (p : Period) : Type 0 where
   pub place : p.place ≡ standing.place
   pub other : p.other ≡ None
@@ -58,6 +58,7 @@ pub record PlaceFits (standing : Standing) (words : ℕ) (p : Period) : Type 0 w
   pub unsafe : (last : ℕ) → words ≡ table_size last → p.safe ≡ 0
   pub some : (s : Slots) → words ≡ slots_size s → standing.place ≢ None
   pub slot : (c : ℕ) → p.slot ≡ Some c → HasSlotThere words c
+  pub lost : p.lost ≡ None
 
 -- a pass fits by what is shown of what its seat knows, and its seat holds no slot
 abbrev pub IsPass : {A : Type 0} → Inside A → Type 0

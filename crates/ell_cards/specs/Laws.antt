@@ -22,7 +22,8 @@ use Rattle.ell_cards.specs.Models.{KnowsCard, IsFree}
 use Rattle.ell_cards.specs.Calls.{act_of, said_of, Becomes, May, Tells}
 use Rattle.ell_cards.specs.States.{TableState, seated}
 use Rattle.ell_cards.specs.Turns.{found_by, state_after, state_split, state_joined}
-use Rattle.ell_cards.specs.TurnEffects.{own_words, HasFlagged}
+use Rattle.ell_cards.specs.Holding.{HasFlagged}
+use Rattle.ell_cards.specs.TurnEffects.{own_words}
 use Rattle.ell_cards.specs.Machines.{HasMachine}
 
 -- the machine that a state has

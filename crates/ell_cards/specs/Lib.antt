@@ -117,4 +117,9 @@ pub use Rattle.ell_core.specs.statements.Effects
 pub use Rattle.ell_core.specs.statements.Readers
 -- what the memory of a table with places has of its tree
 pub mod Ties
+-- the card that a pass has in hand, and what it is to have noted before it lets that go
+pub mod Holding
+pub mod LettingGo
 pub mod Tied
+-- that no slot stays in use for nothing
+pub mod Leaks

@@ -52,7 +52,7 @@ abbrev pub FreeSlotsAreUntouched : Type 0
 FreeSlotsAreUntouched = (plan : TablePlan) (s : Slots) (t : WholeState) → plan.slots ≡ Some s
     → IsWhole plan t → (slot : ℕ) → IsSafelyFree s t slot
     → (seat : ℕ) (k : Known) → get_elem? t.views seat ≡ some k → (c : Call) → May plan c k.tree
-    → MayInMemory k.period.slot k.tree c → (d : ℕ) → slot_of d ≡ slot → (f : Field) → word_of c ≢ address d f
+    → MayInMemory s k.period.slot k.period.sought.retired k.tree c → (d : ℕ) → slot_of d ≡ slot → (f : Field) → word_of c ≢ address d f
 
 -- If by the word of its slot, which is in use, the card of a node lies there, the word notes the node.
 abbrev pub IsNotedInSlot : Slots → WholeState → ℕ → Type 0

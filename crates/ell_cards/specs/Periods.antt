@@ -230,9 +230,20 @@ abbrev pub after_stamp : ℕ → ℕ → Period → Period
 after_stamp card n p = record p { stamp = Some (record { card = card; reading = n }) }
 
 -- a flag was set, or it was lost, and the card was laid aside by that
-abbrev pub after_flagging : Bool → ℕ → Period → Period
-after_flagging true c p = p
-after_flagging false c p = record p { lost = Some c }
+abbrev pub after_flagging : Option Slots → Bool → ℕ → Period → Period
+after_flagging None won c p = p
+after_flagging (Some s) true c p = p
+after_flagging (Some s) false c p = record p { lost = Some c }
+
+-- so a pass has lost the flag of a card for which it had taken a slot, if it has lost it and there are places
+abbrev pub LostIs : Option Slots → Bool → ℕ → Period → Type 0
+LostIs None lost c p = p.lost ≡ None
+LostIs (Some s) false c p = p.lost ≡ None
+LostIs (Some s) true c p = (p.lost ≡ Some c) × (p.slot ≡ Some c)
+
+-- that card's slot was set free
+abbrev pub after_freeing : Period → Period
+after_freeing p = record p { lost = None }
 
 -- a place was taken that no pass had, if its word was 0
 abbrev pub after_take : ℕ → ℕ → Period → Period

@@ -1,7 +1,8 @@
-use Rattle.std.specs.Prelude.{◌≡◌, ℕ, ◌≤◌, List, [], ◌++◌}
+use Rattle.std.specs.Prelude.{◌≡◌, ℕ, ◌≤◌, true, List, [], ◌++◌}
 use Rattle.ell_core.specs.declared.exchange.Exchange.{Exchange}
 use Rattle.ell_core.specs.history.Later.{wins_of}
 use Rattle.ell_core.specs.acts.Wins.{InOrder}
+use Rattle.ell_core.specs.history.Stages.{is_claimed, is_start}
 use Rattle.ell_core.specs.statements.RunLaws.{IsOpening}
 use Rattle.ell_cards.specs.States.{TableState}
 use Rattle.ell_cards.specs.Turns.{Turn, TableRun}
@@ -33,6 +34,7 @@ pub record StartIsKept (plan : TablePlan) (s : TableState) : Type 0 where
   pub kept : HasMachine plan s
   pub opening : IsOpening (machine_of_table plan s kept)
   pub unwon : (c : ℕ) → won_before plan s kept c ≡ []
+  pub started : (c : ℕ) → is_claimed (kept.stages c) ≡ true → is_start (kept.stages c) ≡ true
 
 -- so it is of every table as it starts
 abbrev pub StartsAreKept : Type 0

@@ -1,6 +1,6 @@
 -- A pass takes the numbers of cards from one to another at once, where only the last one's slot is one that it may
 -- take.
-use Rattle.std.specs.Prelude.{◌≡◌, ◌⊎◌, ℕ, zero, suc, ◌+◌, ◌-◌, ◌*◌, ◌≤◌, ◌==◌, List, [], ◌∷◌, if◌then◌else◌, Bool, true, false, Some}
+use Rattle.std.specs.Prelude.{◌≡◌, ◌≢◌, ◌⊎◌, ℕ, zero, suc, ◌+◌, ◌-◌, ◌*◌, ◌≤◌, ◌==◌, List, [], ◌∷◌, if◌then◌else◌, Bool, true, false, Option, None, Some}
 use Rattle.atomic_table.specs.Table.{Allows}
 use Rattle.ell_core.specs.declared.exchange.Exchange.{Exchange}
 use Rattle.ell_core.specs.declared.exchange.Exchange.TheVariants as exchange
@@ -9,7 +9,7 @@ use Rattle.ell_cards.specs.declared.view.Known.{Known}
 use Rattle.ell_cards.specs.declared.view.Told.{Told}
 use Rattle.ell_cards.specs.declared.view.Told.TheVariants.{Expects}
 use Rattle.ell_cards.specs.declared.view.View.{View}
-use Rattle.ell_cards.specs.Models.{TablePlan, Has, IsTold}
+use Rattle.ell_cards.specs.Models.{TablePlan, PassModel, Has, IsTold}
 use Rattle.ell_cards.specs.Changes.{after_claim, expected_tag, filling_of, tagged, told_filling, value_told}
 use Rattle.ell_cards.specs.Calls.{after}
 use Rattle.ell_cards.specs.Shown.{cut_planned, shown_words, shown}
@@ -78,15 +78,22 @@ pub record IsAfterRow (first last node_key : ℕ) (old new : View) : Type 0 wher
   pub says : (e : Told) → Has (told_of_claim last node_key old) e → IsTold new e
   pub only : (e : Told) → IsTold new e → IsTold old e ⊎ IsToldInRow first last node_key old e
 
--- whatever the table is when a word becomes another one, and whatever the pass knows of which this is shown, this holds
--- of the word found and of what is shown of what it knows of the tree after, and what it knows of periods is as it was
-abbrev pub MayStepOn : TablePlan → View → ℕ → (ℕ → ℕ) → (ℕ → View → Type 0) → Type 0
-MayStepOn plan v i f told =
-    (k : Known) → shown k.tree ≡ v → (id : ℕ) → Allows (IsWhole plan) 0 id (k, []) i f
+-- Whatever the table is when a word becomes another one, and whatever a pass knows of which this is shown, where it took
+-- a slot last for the card that contracts see: this holds of the word found and of what is shown of what the pass knows
+-- of the tree after, and what it knows of periods is as it was.
+abbrev pub MayStepOn : TablePlan → PassModel → ℕ → (ℕ → ℕ) → (ℕ → View → Type 0) → Type 0
+MayStepOn plan p i f told =
+    (k : Known) → shown k.tree ≡ p.view → k.period.slot ≡ p.slot → k.period.lost ≡ None
+    → (id : ℕ) → Allows (IsWhole plan) 0 id (k, []) i f
     (λ n me. told n (shown me.0.tree) × (me.0.period ≡ k.period) × (me.1 ≡ []))
 
+-- a card that was claimed is none for which a slot was taken, if there are places
+abbrev pub IsFresh : TablePlan → Option ℕ → Bool → ℕ → Type 0
+IsFresh plan slot won c = plan.slots ≢ None → won ≡ true → slot ≢ Some c
+
 -- an exchange of the claim word that found this, and takes all numbers from a first card to a last one if it is won,
--- leaves of a pass what it is to know, and that names what is in its table
-abbrev pub RowTells : TablePlan → ℕ → ℕ → ℕ → View → ℕ → View → Type 0
-RowTells plan first last node_key v n w =
-    (w ≡ after_claimed_row (n == first) first last node_key v) × IsInside plan w
+-- leaves of a pass what it is to know, and that names what is in its table; and the last card is a fresh one
+abbrev pub RowTells : TablePlan → ℕ → ℕ → ℕ → PassModel → ℕ → View → Type 0
+RowTells plan first last node_key p n w =
+    (w ≡ after_claimed_row (n == first) first last node_key p.view) × IsInside plan w
+    × IsFresh plan p.slot (n == first) last

@@ -8,6 +8,7 @@ use Rattle.ell_cards.specs.declared.call.Call.{Call}
 use Rattle.ell_cards.specs.declared.call.Call.TheVariants as call
 use Rattle.ell_cards.specs.declared.view.Known.{Known}
 use Rattle.ell_cards.specs.declared.view.Period.{Period}
+use Rattle.ell_cards.specs.declared.view.Slots.{Slots}
 use Rattle.ell_cards.specs.declared.view.View.{View}
 use Rattle.ell_cards.specs.Models.{flat_from, last_slot, TablePlan, PassModel, IsFree, MayPart, one_more, given_share}
 use Rattle.ell_cards.specs.Changes.{ledger_keys}
@@ -17,6 +18,7 @@ use Rattle.ell_cards.specs.Calls.{Exchange, atomic_of, after, May, Tells}
 use Rattle.ell_cards.specs.Apart.{IsApart}
 use Rattle.ell_cards.specs.Shown.{cut_word, cut_by, shown, shown_call, CanBeShown}
 use Rattle.ell_cards.specs.States.{TableState}
+use Rattle.ell_cards.specs.LettingGo.{MayLetGo}
 use Rattle.ell_cards.specs.Tied.{HasStoredAll, MayInMemory}
 use Rattle.ell_cards.specs.Turns.{found_by, view_after}
 use Rattle.ell_cards.specs.Starts.{IsReached}
@@ -87,7 +89,11 @@ IsWholeIn p c said = (p.slot ≡ Some c) × HasStoredAll p.view said
 
 -- a call asks this of the slots, if the table has places
 abbrev pub MayInTable : TablePlan → PassModel → Call → Type 0
-MayInTable plan p c = plan.slots ≢ None → MayInMemory p.slot p.view c
+MayInTable plan p c = (s : Slots) → plan.slots ≡ Some s → MayInMemory s p.slot p.sought.retired p.view c
+
+-- so it does of one by which the pass lets its card in hand go
+abbrev pub LetsGo : TablePlan → PassModel → Type 0
+LetsGo plan p = (s : Slots) → plan.slots ≡ Some s → MayLetGo s p.slot p.sought.retired p.view
 
 -- what a step tells says that the pass owns the keys and has the share that it did, and names what is in the table
 abbrev pub KeepsPass : TablePlan → View → (ℕ → View → Type 0) → Type 0

@@ -1,5 +1,5 @@
 -- How the memory of a table with places has what its tree has, by slots.
-use Rattle.std.specs.Prelude.{◌≡◌, ℕ, ◌<◌, ◌≤◌, Bool, true, false, Option, Some, List, slice_index}
+use Rattle.std.specs.Prelude.{◌≡◌, ℕ, ◌≢◌, ◌<◌, ◌≤◌, Bool, true, false, Option, Some, List, slice_index}
 use mathlib.Core.Option.{some}
 use lib.ListN.{get_elem?}
 use Rattle.ell_layout.specs.declared.field.Field.{Field}
@@ -8,8 +8,11 @@ use Rattle.ell_core.specs.history.Stages.{Stages, is_claimed, waits}
 use Rattle.ell_cards.specs.declared.call.Call.{Call}
 use Rattle.ell_cards.specs.declared.call.Call.TheVariants as call
 use Rattle.ell_cards.specs.declared.view.Known.{Known}
+use Rattle.ell_cards.specs.declared.view.Retired.{Retired}
 use Rattle.ell_cards.specs.declared.view.Slots.{Slots}
 use Rattle.ell_cards.specs.declared.view.View.{View}
+use Rattle.ell_cards.specs.Holding.{HoldsWaiting}
+use Rattle.ell_cards.specs.LettingGo.{MayLetGo}
 use Rattle.ell_cards.specs.Models.{Has}
 use Rattle.ell_cards.specs.Periods.{WholeState}
 use Rattle.ell_cards.specs.Sayings.{says, put_says, delete_says}
@@ -24,10 +27,6 @@ LiesThere s lie c = (slot_of c ≤ s.last) × (lie (slot_of c) ≡ c)
 -- a card was given out, and has won its flag, or it is of the opening tree
 abbrev pub HasWon : Stages → ℕ → Type 0
 HasWon stage c = (is_claimed (stage c) ≡ true) × (waits (stage c) ≡ false)
-
--- a pass has a card in hand that is not flagged
-abbrev pub HoldsWaiting : View → ℕ → Type 0
-HoldsWaiting v c = (v.worker.card ≡ Some c) × (v.worker.flagged ≡ false)
 
 -- a pass has stored this field of its card in hand
 abbrev pub HasStored : View → Field → Type 0
@@ -71,13 +70,25 @@ pub record IsTied (s : Slots) (tree : TableState) (t : WholeState) (stage : Stag
   pub stores : (seat c : ℕ) (f : Field) (k : Known) → get_elem? t.views seat ≡ some k → HoldsWaiting k.tree c
       → HasStored k.tree f → k.period.slot ≡ Some c
 
--- what a call asks beside what it asks of the tree: what is stored goes to the slot that the pass has taken, and a card
--- is flagged of which all that it says was stored there
-abbrev pub MayInMemory : Option ℕ → View → Call → Type 0
-MayInMemory slot v (call.Fill c f value) = slot ≡ Some c
-MayInMemory slot v (call.IFlag c p from) = (slot ≡ Some c) × HasStoredAll v put_says
-MayInMemory slot v (call.DFlag c gp from) = (slot ≡ Some c) × HasStoredAll v delete_says
-MayInMemory slot v _ = Unit {0}
+-- What a call asks beside what it asks of the tree, by the card for which the pass took a slot last, and what it has noted
+-- for that: what is stored goes to that slot, and a card is flagged of which all that it says was stored there. A card is
+-- laid aside for which the pass has taken no slot; and it lets go a card that has won its flag once it has noted all that
+-- the card made dead.
+abbrev pub MayInMemory : Slots → Option ℕ → Retired → View → Call → Type 0
+MayInMemory s slot r v (call.Fill c f value) = slot ≡ Some c
+MayInMemory s slot r v (call.IFlag c p from) = (slot ≡ Some c) × HasStoredAll v put_says
+MayInMemory s slot r v (call.DFlag c gp from) = (slot ≡ Some c) × HasStoredAll v delete_says
+MayInMemory s slot r v (call.Claim c node_key) = (d : ℕ) → HoldsWaiting v d → slot ≢ Some d
+MayInMemory s slot r v call.Again = MayLetGo s slot r v
+MayInMemory s slot r v call.Leave = MayLetGo s slot r v
+MayInMemory s slot r v (call.Answer said) = MayLetGo s slot r v
+MayInMemory s slot r v _ = Unit {0}
+
+-- a call that sets no flag
+abbrev pub FlagsNone : Call → Type 0
+FlagsNone (call.IFlag c p from) = ⊥
+FlagsNone (call.DFlag c gp from) = ⊥
+FlagsNone _ = Unit {0}
 
 -- a call sets the flag of a card
 abbrev pub FlagsCard : Call → ℕ → Type 0

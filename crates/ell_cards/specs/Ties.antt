@@ -27,7 +27,8 @@ use Rattle.ell_cards.specs.Shown.{IsWord, cut_by, IsNear}
 use Rattle.ell_cards.specs.SlotWords.{has_slot_in, slot_of, turn_of}
 use Rattle.ell_cards.specs.Starts.{MayStart, IsReached}
 use Rattle.ell_cards.specs.States.{TableState}
-use Rattle.ell_cards.specs.Tied.{LiesThere, HoldsWaiting, IsTied, MayInMemory}
+use Rattle.ell_cards.specs.Holding.{HoldsWaiting}
+use Rattle.ell_cards.specs.Tied.{LiesThere, IsTied, MayInMemory}
 use Rattle.ell_cards.specs.Touching.{Touched, AtNode, OfCard, AtRoot, touched_by}
 use Rattle.ell_cards.specs.Turns.{found_by, view_after, state_after, state_split, state_joined}
 use Rattle.ell_cards.specs.Whole.{IsWhole, trees_of, first_known, joined_known, spent_known}
@@ -71,7 +72,7 @@ CallsKeepTies = (plan : TablePlan) (s : Slots) (tree : TableState) (t : WholeSta
     (dead : ℕ → Bool) (was_dead : ℕ → ℕ → Bool) → IsReached plan tree → s.last < 2097152 → table_size s.last ≤ length t.words
     → IsTiedByAges plan s tree t lie dead was_dead
     → (id : ℕ) (k : Known) → get_elem? t.views id ≡ some k → get_elem? tree.views id ≡ some k.tree
-    → IsAtRest k.tree ⊎ IsInPeriod t id k → (c : Call) → May plan c k.tree → MayInMemory k.period.slot k.tree c
+    → IsAtRest k.tree ⊎ IsInPeriod t id k → (c : Call) → May plan c k.tree → MayInMemory s k.period.slot k.period.sought.retired k.tree c
     → TouchesTied s lie t.words tree c
     × ((homes : List (Maybe (Unit {0})))
     → IsTiedByAges plan s (state_after tree id k.tree c) (memory_after tree t homes id k c) lie dead was_dead)

@@ -28,11 +28,6 @@ own_words s = words_of s.words
 abbrev pub own_machine : ℕ → TableState → Machine
 own_machine last s = seated (own_words s) s.views last
 
--- a card is in the hand of a pass, flagged
-pub record HasFlagged (v : View) (c : ℕ) : Type 0 where
-  pub holds : v.worker.card ≡ Some c
-  pub flagged : v.worker.flagged ≡ true
-
 -- what a call does to the tree: a won ichild adds its card's pair or replaces a value, a won dchild takes its pair away
 abbrev pub PairsChangeBy : Call → Bool → Words → Words → Type 0
 PairsChangeBy (call.IChild c p l replaces right) true old new = MakesChange (op_of_card old c) old new

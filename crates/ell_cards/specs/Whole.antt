@@ -11,6 +11,7 @@ use Rattle.ell_cards.specs.Models.{TablePlan}
 use Rattle.ell_cards.specs.Changes.{first_of, joined_view, spent_view}
 use Rattle.ell_cards.specs.Periods.{WholeState, slots_size, no_period, first_period, joined_period}
 use Rattle.ell_cards.specs.Ages.{HasPeriods}
+use Rattle.ell_cards.specs.Leaks.{NothingLeaks}
 use Rattle.ell_cards.specs.Shown.{shown_word, FieldIsWhole, StoresAreWhole}
 use Rattle.ell_cards.specs.Starts.{IsReached}
 use Rattle.ell_cards.specs.States.{TableState}
@@ -43,7 +44,8 @@ WordsAre (Some s) words tree = (length words ≡ slots_size s) × FieldsAreWhole
 -- its periods are sound, and its memory is tied to its tree, if there are places
 abbrev pub PeriodsAre : (plan : TablePlan) → Option Slots → TableState → WholeState → Type 0
 PeriodsAre plan None tree t = Unit {0}
-PeriodsAre plan (Some s) tree t = HasPeriods plan s tree t
+PeriodsAre plan (Some s) tree t = (h : HasPeriods plan s tree t)
+    × NothingLeaks s t tree.views h.ages.now.machine.words h.ages.now.machine.stages h.lie
 
 -- without places nothing that is planned is cut
 abbrev pub PlansFit : Option Slots → View → Type 0

@@ -5,10 +5,11 @@ ghost use Rattle.ell_word.specs.Word.{packed};
 ghost use Rattle.ell_core.specs.declared.exchange.Exchange.TheVariants as exchange;
 ghost use Rattle.ell_cards.specs.Models.{Steps, flat_from};
 ghost use Rattle.ell_cards.specs.Changes.{after_fill, after_flag, if_won, exchanged, found_update, found_word};
-ghost use Rattle.ell_cards.specs.Skipping.{after_claimed_row};
+ghost use Rattle.ell_cards.specs.Skipping.{IsFresh, after_claimed_row};
 ghost use Rattle.ell_cards.specs.Shown.{shown_word};
+ghost use Rattle.ell_cards.specs.declared.call.Call.TheVariants as call;
 ghost use Rattle.ell_cards.specs.Sayings.{delete_says, put_says};
-ghost use Rattle.ell_cards.specs.Stepping.{IsWholeIn};
+ghost use Rattle.ell_cards.specs.Stepping.{IsWholeIn, MayInTable};
 ghost use Rattle.ell_cards.specs.Guards.{MayClaim, MayFill, MayIFlag, MayDFlag};
 
 use crate::call::Call;
@@ -29,13 +30,16 @@ impl<A: Allocator + Copy> CardTable<A> {
     pub fn claim(&self, pass: &mut Pass<A>, card: u64, node_key: u64) -> bool
         requires own { pass.old.table ≡ self.now.id }
         requires may { MayClaim (flat_from self.now.plan) pass.old.view card node_key }
+        // A card in hand that it lays aside is none whose slot it has taken.
+        requires kept { MayInTable self.now.plan pass.old (call.Claim card node_key) }
         requires room { card ≤ self.now.plan.last_card }
         // It makes one step and counts it. The pass then knows exactly what this call tells.
         ensures step { Steps pass.old pass.new (after_claimed_row result card card node_key pass.old.view) }
+        // If it took the card, it has not taken that one's slot yet.
+        ensures fresh { IsFresh self.now.plan pass.old.slot result card }
     {
         self.names(pass);
-        let call = Call::Claim(card, node_key);
-        self.exchange_as::<Brand>(pass, call, 0, card, card + 1) == card
+        self.exchange_claim::<Brand>(pass, card, node_key, card + 1) == card
     }
 
     /// Takes all numbers from the card that `next` read in this try to a later one at once, if the card is still the next
@@ -45,12 +49,16 @@ impl<A: Allocator + Copy> CardTable<A> {
     pub fn claim_row(&self, pass: &mut Pass<A>, first: u64, last: u64, node_key: u64) -> bool
         requires own { pass.old.table ≡ self.now.id }
         requires may { MayClaim (flat_from self.now.plan) pass.old.view first node_key }
+        // A card in hand that it lays aside is none whose slot it has taken.
+        requires kept { MayInTable self.now.plan pass.old (call.Claim first node_key) }
         requires flat { self.now.plan.flat ≡ true }
         requires places { self.now.plan.slots ≢ None }
         requires order { first ≤ last }
         requires room { last ≤ self.now.plan.last_card }
         // It makes one step and counts it. The pass then knows exactly what these claims tell.
         ensures step { Steps pass.old pass.new (after_claimed_row result first last node_key pass.old.view) }
+        // If it took the cards, it has not taken the last one's slot yet.
+        ensures fresh { IsFresh self.now.plan pass.old.slot result last }
     {
         let _ = &self.table;
         self.exchange_claim::<Brand>(pass, first, node_key, last + 1) == first

@@ -212,6 +212,7 @@ impl<A: Allocator + Copy> CardTable<A> {
         ensures safe { seat.new.me.0.period.safe ≡ seat.old.me.0.period.safe }
         ensures slot { seat.new.me.0.period.slot ≡ seat.old.me.0.period.slot }
         ensures sought { seat.new.me.0.period.sought ≡ seat.old.me.0.period.sought }
+        ensures lost { seat.new.me.0.period.lost ≡ seat.old.me.0.period.lost }
         ensures tree { seat.new.me.0.tree ≡ seat.old.me.0.tree }
         ensures seat { (seat.new.table_id ≡ seat.old.table_id) × (seat.new.me.1 ≡ []) }
     {
@@ -331,6 +332,7 @@ impl<A: Allocator + Copy> CardTable<A> {
         ensures stands { StandsAs seat.old.me.0.period seat.new.me.0.period }
         ensures slot { seat.new.me.0.period.slot ≡ seat.old.me.0.period.slot }
         ensures sought { seat.new.me.0.period.sought ≡ seat.old.me.0.period.sought }
+        ensures lost { seat.new.me.0.period.lost ≡ seat.old.me.0.period.lost }
         ensures tree { seat.new.me.0.tree ≡ seat.old.me.0.tree }
         ensures seat { (seat.new.table_id ≡ seat.old.table_id) × (seat.new.me.1 ≡ []) }
     {
@@ -364,6 +366,7 @@ impl<A: Allocator + Copy> CardTable<A> {
         ensures stands { StandsAs seat.old.me.0.period seat.new.me.0.period }
         ensures slot { seat.new.me.0.period.slot ≡ seat.old.me.0.period.slot }
         ensures sought { seat.new.me.0.period.sought ≡ seat.old.me.0.period.sought }
+        ensures lost { seat.new.me.0.period.lost ≡ seat.old.me.0.period.lost }
         ensures tree { seat.new.me.0.tree ≡ seat.old.me.0.tree }
         ensures seat { (seat.new.table_id ≡ seat.old.table_id) × (seat.new.me.1 ≡ []) }
     {

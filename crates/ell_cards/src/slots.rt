@@ -9,12 +9,12 @@ ghost use Rattle.ell_cards.specs.Ages.{MayStamp};
 ghost use Rattle.ell_cards.specs.CardNodes.{NotesToo, has_node, node_alone};
 ghost use Rattle.ell_cards.specs.Dead.{HasTakenOut};
 ghost use Rattle.ell_cards.specs.Guards.{MayFill};
-ghost use Rattle.ell_cards.specs.Periods.{StandsAs, after_missing, after_noting, after_noting_read, after_own, after_read, after_seek, after_stamp, after_taking, has_slot, last_reading, slot_word, spread};
+ghost use Rattle.ell_cards.specs.Periods.{clock_word, StandsAs, LostIs, after_freeing, after_missing, after_noting, after_noting_read, after_own, after_read, after_seek, after_stamp, after_taking, has_slot, last_reading, slot_word, spread};
 ghost use Rattle.ell_cards.specs.Seeking.{could_take, FindsNone, FindsNoneIn, FindsOneFor, may_have, is_done, missed_none, missed_one, retires, retires_if, sought_on};
 ghost use Rattle.ell_cards.specs.Noting.{AreTakenOut, HasNoted, MayNote, MayNoteNext, MayRetire, NeverCome, retires_in};
 ghost use Rattle.ell_cards.specs.SlotWords.{card_by, has_slot_in, has_slots, is_noted, slot_of, stamp_in, turn_in, turn_of};
 ghost use Rattle.ell_cards.specs.Stepping.{MayGoOn};
-ghost use Rattle.ell_cards.specs.Tied.{HoldsWaiting};
+ghost use Rattle.ell_cards.specs.Holding.{HoldsWaiting};
 ghost use Rattle.ell_cards.specs.Shown.{shown};
 
 use crate::card_nodes::CardNodes;
@@ -190,21 +190,41 @@ impl<A: Allocator + Copy> CardTable<A> {
         self.period_load::<Brand>(seat, self.slot_address(slots, slot))
     }
 
-    // Reads the clock for the card that lay in a slot when the pass read its word, and whose nodes it knows to be
-    // dead, or which it has laid aside.
-    fn stamp(&self, seat: &mut Seat<(), Known>, slots: Slots, slot: u64, word: u64) -> u64
+    // Loads the clock for a card, and tells what its caller picked.
+    #[inline(always)]
+    fn stamp_load<J: PeriodTelling>(
+        &self,
+        seat: &mut Seat<(), Known>,
+        slots: Slots,
+        slot: u64,
+        word: u64,
+    ) -> u64
         requires own { seat.old.table_id ≡ self.now.id }
         requires empty { seat.old.me.1 ≡ [] }
         requires slots { self.now.plan.slots ≡ Some slots }
-        requires read { seat.old.me.0.period.read ≡ Some (record { slot = slot; word = word }) }
-        requires dead { MayStamp seat.old.me.0 (card_by slot word) }
-        ensures stamp { seat.new.me.0.period ≡ after_stamp (card_by slot word) result seat.old.me.0.period }
-        ensures low { result ≤ last_reading }
+        requires rule { MayGoOn self.now.plan seat.old.me.0 (clock_word slots) (λ n. n) J.then }
+        ensures told { J.then result seat.new.me.0.period }
         ensures tree { seat.new.me.0.tree ≡ seat.old.me.0.tree }
         ensures seat { (seat.new.table_id ≡ seat.old.table_id) × (seat.new.me.1 ≡ []) }
     {
         let _ = (slot, word);
-        self.period_load::<Brand>(seat, self.clock_address(slots))
+        self.period_load::<J>(seat, self.clock_address(slots))
+    }
+
+    // Reads the clock for the card that lies in a slot by this word: whose nodes the pass knows to be dead, or which it
+    // has laid aside. A card whose slot the pass has taken has a slot of the table.
+    fn stamp(&self, seat: &mut Seat<(), Known>, slots: Slots, slot: u64, word: u64) -> u64
+        requires own { seat.old.table_id ≡ self.now.id }
+        requires empty { seat.old.me.1 ≡ [] }
+        requires slots { self.now.plan.slots ≡ Some slots }
+        requires dead { MayStamp seat.old.me.0 (card_by slot word) }
+        ensures stamp { seat.new.me.0.period ≡ after_stamp (card_by slot word) result seat.old.me.0.period }
+        ensures low { result ≤ last_reading }
+        ensures inside { (c : ℕ) → seat.old.me.0.period.slot ≡ Some c → slot_of c ≤ slots.last }
+        ensures tree { seat.new.me.0.tree ≡ seat.old.me.0.tree }
+        ensures seat { (seat.new.table_id ≡ seat.old.table_id) × (seat.new.me.1 ≡ []) }
+    {
+        self.stamp_load::<Brand>(seat, slots, slot, word)
     }
 
     // Loads the word of the slot of a card of which the pass is to note nodes, and tells what its caller picked.
@@ -254,23 +274,6 @@ impl<A: Allocator + Copy> CardTable<A> {
     {
         let _ = (nodes, taken_out);
         self.period_exchange::<J>(seat, self.slot_address(slots, slot_of(card)), word, other)
-    }
-
-    // Sets a slot free whose card the pass has laid aside, if the slot's word is this still.
-    fn set_free(&self, seat: &mut Seat<(), Known>, slots: Slots, slot: u64, word: u64)
-        requires own { seat.old.table_id ≡ self.now.id }
-        requires empty { seat.old.me.1 ≡ [] }
-        requires slots { self.now.plan.slots ≡ Some slots }
-        requires slot { slot ≤ slots.last }
-        requires taken { word % 8 ≢ 7 }
-        requires read { seat.old.me.0.period.read ≡ Some (record { slot = slot; word = word }) }
-        requires lost { seat.old.me.0.period.lost ≡ Some (card_by slot word) }
-        ensures period { (reading : ℕ) × (seat.new.me.0.period ≡ after_stamp (card_by slot word) reading seat.old.me.0.period) }
-        ensures tree { seat.new.me.0.tree ≡ seat.old.me.0.tree }
-        ensures seat { (seat.new.table_id ≡ seat.old.table_id) × (seat.new.me.1 ≡ []) }
-    {
-        let reading = self.stamp(seat, slots, slot, word);
-        self.period_exchange::<Brand>(seat, self.slot_address(slots, slot), word, 8 * reading + 7);
     }
 
     // Reads the word of the slot of a card of which the pass is to note nodes: nodes that its card in hand has taken out
@@ -432,14 +435,33 @@ impl<A: Allocator + Copy> CardTable<A> {
         false
     }
 
-    /// Sets the slot of a card free if the pass has laid the card aside, as it lost the card's flag: nobody else
-    /// knows of the card. It does nothing if the table has no places.
+    // Sets the slot free of a card that the pass has laid aside: nobody else knows of the card, so the slot's word notes
+    // no node.
+    fn set_free(&self, seat: &mut Seat<(), Known>, slots: Slots, card: u64)
+        requires own { seat.old.table_id ≡ self.now.id }
+        requires empty { seat.old.me.1 ≡ [] }
+        requires slots { self.now.plan.slots ≡ Some slots }
+        requires lost { seat.old.me.0.period.lost ≡ Some card }
+        requires taken { seat.old.me.0.period.slot ≡ Some card }
+        ensures period { (reading : ℕ) × (seat.new.me.0.period ≡ after_freeing (after_stamp card reading seat.old.me.0.period)) }
+        ensures tree { seat.new.me.0.tree ≡ seat.old.me.0.tree }
+        ensures seat { (seat.new.table_id ≡ seat.old.table_id) × (seat.new.me.1 ≡ []) }
+    {
+        let word = 8 * turn_of(card);
+        let reading = self.stamp(seat, slots, slot_of(card), word);
+        let address = self.slot_address(slots, slot_of(card));
+        self.period_exchange::<Brand>(seat, address, word, 8 * reading + 7);
+    }
+
+    /// Sets the slot of a card free if the pass has laid the card aside, as it lost the card's flag. It does nothing if
+    /// the table has no places.
     pub(crate) fn free_aside(&self, seat: &mut Seat<(), Known>, card: u64, lost: bool)
         requires own { seat.old.table_id ≡ self.now.id }
         requires empty { seat.old.me.1 ≡ [] }
-        requires lost { lost ≡ true → seat.old.me.0.period.lost ≡ Some card }
+        requires lost { LostIs self.now.plan.slots lost card seat.old.me.0.period }
         ensures stands { StandsAs seat.old.me.0.period seat.new.me.0.period }
         ensures slot { seat.new.me.0.period.slot ≡ seat.old.me.0.period.slot }
+        ensures lost { seat.new.me.0.period.lost ≡ None }
         ensures sought { seat.new.me.0.period.sought ≡ seat.old.me.0.period.sought }
         ensures safe { seat.new.me.0.period.safe ≡ seat.old.me.0.period.safe }
         ensures tree { seat.new.me.0.tree ≡ seat.old.me.0.tree }
@@ -448,13 +470,8 @@ impl<A: Allocator + Copy> CardTable<A> {
         let Some(slots) = self.slots else {
             return;
         };
-        let slot = slot_of(card);
-        if !lost || !slots.has_slot(card) {
-            return;
-        }
-        let word = self.read_slot(seat, slots, slot);
-        if turn_in(word) == turn_of(card) && word % 8 == 0 {
-            self.set_free(seat, slots, slot, word);
+        if lost {
+            self.set_free(seat, slots, card);
         }
     }
 
@@ -547,6 +564,7 @@ impl<A: Allocator + Copy> CardTable<A> {
         requires hand { HoldsWaiting seat.old.me.0.tree card }
         requires free { word % 8 ≡ 7 }
         requires safe { stamp_in word < seat.old.me.0.period.safe }
+        requires unlost { seat.old.me.0.period.lost ≡ None }
         ensures taken { result ≡ true → seat.new.me.0.period ≡ after_taking card seat.old.me.0.period }
         ensures lost { result ≡ false →
             (n : ℕ) × (seat.new.me.0.period ≡ after_missing card n seat.old.me.0.period) }

@@ -16,7 +16,7 @@ ghost use Rattle.ell_cards.specs.Calls.{place_of, slot_address, atomic_of, next_
 ghost use Rattle.ell_cards.specs.Looking.{KeysAreFixed, ValuesAreFixed, ReadsItsOwn, MissesItsOwn};
 ghost use Rattle.ell_cards.specs.declared.view.Period.{Period};
 ghost use Rattle.ell_cards.specs.Periods.{after_flagging, whole_size};
-ghost use Rattle.ell_cards.specs.Tied.{FlagsCard};
+ghost use Rattle.ell_cards.specs.Tied.{FlagsNone, FlagsCard};
 ghost use Rattle.ell_cards.specs.Starts.{SlotsFit};
 ghost use Rattle.ell_cards.specs.Shown.{IsNoClaim, StoresWord, cut_word, shown_word};
 ghost use Rattle.ell_cards.specs.Skipping.{MayStepOn};
@@ -116,6 +116,7 @@ impl<A: Allocator + Copy> CardTable<A> {
         requires may { May self.now.plan call pass.old.view }
         requires quiet { IsQuiet call }
         requires word { word ≡ place_of call }
+        requires kept { MayInTable self.now.plan pass.old call }
         requires atomic { atomic_of call ≡ Load }
         requires tells { MayTell self.now.plan call pass.old.view J.then }
         requires keeps { KeepsPass self.now.plan pass.old.view J.then }
@@ -133,6 +134,7 @@ impl<A: Allocator + Copy> CardTable<A> {
         requires may { May self.now.plan call pass.old.view }
         requires quiet { IsQuiet call }
         requires word { word ≡ place_of call }
+        requires kept { MayInTable self.now.plan pass.old call }
         requires atomic { atomic_of call ≡ Load }
         ensures step { Sees pass.old pass.new (after call result pass.old.view) }
         ensures tells { Tells self.now.plan call pass.old.view result }
@@ -153,6 +155,7 @@ impl<A: Allocator + Copy> CardTable<A> {
         requires may { May self.now.plan call pass.old.view }
         requires quiet { IsQuiet call }
         requires word { word ≡ place_of call }
+        requires kept { MayInTable self.now.plan pass.old call }
         requires atomic { atomic_of call ≡ Load }
         ensures step { Steps pass.old pass.new (after call result pass.old.view) }
         ensures tells { Tells self.now.plan call pass.old.view result }
@@ -171,6 +174,7 @@ impl<A: Allocator + Copy> CardTable<A> {
         requires own { pass.old.table ≡ self.now.id }
         requires may { May self.now.plan call pass.old.view }
         requires word { word ≡ place_of call }
+        requires kept { MayInTable self.now.plan pass.old call }
         requires atomic { atomic_of call ≡ Load }
         requires tells { MayTell self.now.plan call pass.old.view J.then }
         requires keeps { KeepsPass self.now.plan pass.old.view J.then }
@@ -189,6 +193,7 @@ impl<A: Allocator + Copy> CardTable<A> {
         requires own { pass.old.table ≡ self.now.id }
         requires may { May self.now.plan call pass.old.view }
         requires word { word ≡ place_of call }
+        requires kept { MayInTable self.now.plan pass.old call }
         requires atomic { atomic_of call ≡ Load }
         ensures step { Sees pass.old pass.new (after call result pass.old.view) }
         ensures tells { Tells self.now.plan call pass.old.view result }
@@ -245,6 +250,7 @@ impl<A: Allocator + Copy> CardTable<A> {
         requires own { pass.old.table ≡ self.now.id }
         requires may { May self.now.plan call pass.old.view }
         requires quiet { IsQuiet call }
+        requires unflagging { FlagsNone call }
         requires word { word ≡ place_of call }
         requires kept { MayInTable self.now.plan pass.old call }
         requires exchanges { Exchanges self.now.plan call expected value }
@@ -276,6 +282,7 @@ impl<A: Allocator + Copy> CardTable<A> {
         requires own { pass.old.table ≡ self.now.id }
         requires may { May self.now.plan call pass.old.view }
         requires plain { IsNoClaim call }
+        requires unflagging { FlagsNone call }
         requires word { word ≡ place_of call }
         requires kept { MayInTable self.now.plan pass.old call }
         requires atomic { atomic_of call ≡ Exchange expected value }
@@ -305,7 +312,7 @@ impl<A: Allocator + Copy> CardTable<A> {
         requires atomic { atomic_of call ≡ Exchange expected value }
         requires tells { MayTell self.now.plan call pass.old.view J.then }
         requires keeps { KeepsPass self.now.plan pass.old.view J.then }
-        requires notes { (n : ℕ) (p : Period) → J.notes n p ≡ after_flagging (n == expected) card p }
+        requires notes { (n : ℕ) (p : Period) → J.notes n p ≡ after_flagging self.now.plan.slots (n == expected) card p }
         ensures told { J.then result pass.new.view }
         ensures step { StepsBy pass.old pass.new }
     {
@@ -354,7 +361,7 @@ impl<A: Allocator + Copy> CardTable<A> {
         next: u64,
     ) -> u64
         requires own { pass.old.table ≡ self.now.id }
-        requires rule { MayStepOn self.now.plan pass.old.view 0 (λ n. either (n == card) next n) J.then }
+        requires rule { MayStepOn self.now.plan pass.old 0 (λ n. either (n == card) next n) J.then }
         requires keeps { KeepsPass self.now.plan pass.old.view J.then }
         ensures told { J.then result pass.new.view }
         ensures step { StepsBy pass.old pass.new }

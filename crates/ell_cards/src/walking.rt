@@ -13,6 +13,7 @@ ghost use Rattle.ell_cards.specs.Changes.{after_begin, after_again, after_leave,
 ghost use Rattle.ell_cards.specs.declared.call.Call.TheVariants as call;
 ghost use Rattle.ell_cards.specs.Guards.{MayBegin, MayAnswer, MayRead, MayGoDown, MayLookDown};
 ghost use Rattle.ell_cards.specs.Calls.{after, TellsKey, TellsLedgerValue};
+ghost use Rattle.ell_cards.specs.Stepping.{LetsGo};
 ghost use Rattle.ell_cards.specs.Looking.{KeysAreFixed, ValuesAreFixed, ReadsItsOwn, MissesItsOwn};
 
 use crate::call::Call;
@@ -43,6 +44,8 @@ impl<A: Allocator + Copy> CardTable<A> {
     pub fn again(&self, pass: &mut Pass<A>)
         requires own { pass.old.table ≡ self.now.id }
         requires may { MayStop (worker_of pass.old.view.worker) }
+        // Where there are places, the pass has noted all that its card in hand made dead.
+        requires noted { LetsGo self.now.plan pass.old }
         // It makes one step and counts it. The pass then knows exactly what this call tells.
         ensures step { Steps pass.old pass.new (after_again pass.old.view) }
     {
@@ -54,6 +57,8 @@ impl<A: Allocator + Copy> CardTable<A> {
     pub fn leave(&self, pass: &mut Pass<A>)
         requires own { pass.old.table ≡ self.now.id }
         requires may { MayStop (worker_of pass.old.view.worker) }
+        // Where there are places, the pass has noted all that its card in hand made dead.
+        requires noted { LetsGo self.now.plan pass.old }
         // It makes one step and counts it. The pass then knows exactly what this call tells.
         ensures step { Steps pass.old pass.new (after_leave pass.old.view) }
         // The claims that the pass has tried were of cards of the table.
@@ -68,6 +73,8 @@ impl<A: Allocator + Copy> CardTable<A> {
     pub fn answer(&self, pass: &mut Pass<A>, said: Reply)
         requires own { pass.old.table ≡ self.now.id }
         requires may { MayAnswer pass.old.view said }
+        // Where there are places, the pass has noted all that its card in hand made dead.
+        requires noted { LetsGo self.now.plan pass.old }
         // It makes one step and counts it. The pass then knows exactly what this call tells.
         ensures step { Steps pass.old pass.new (after_answer said pass.old.view) }
         // The claims that the pass has tried were of cards of the table.

@@ -22,6 +22,8 @@ pub mod ShownTellings
 pub mod ShownViews
 -- nodes that are dead by it
 pub mod ShownDead
+-- what a pass is to have noted before it lets its card in hand go
+pub mod ShownLettingGo
 -- what calls do to the words of a table
 pub mod ShownActs
 -- which calls can be shown

@@ -1,5 +1,7 @@
 -- which cards have won their flag after a call
 pub mod Winning
+-- and which have by what passes know
+pub mod KnownWon
 -- the words that calls touch
 pub mod Touched
 -- memory after a call

@@ -27,6 +27,12 @@ pub mod Steps
 pub mod Slots
 -- what passes have noted for their cards
 pub mod Retired
+-- that no slot stays in use for nothing
+pub mod Leaks
+-- what passes let go
+pub mod Duties
+pub mod LeaksOfCalls
+pub mod LeaksOfHandovers
 -- these steps as those of a whole table
 pub mod Going
 -- and those on the words of slots

@@ -39,7 +39,7 @@ module _ (plan : TablePlan) (s : Slots) (tree : TableState) (t : WholeState) (ha
 
 pub returns : goal.returns
 returns c = record {
-  began = λ plan s t placed h seat k is. began_safely plan s h.tree t (subst (λ o. PeriodsAre plan o h.tree t) placed h.periods) seat k is;
+  began = λ plan s t placed h seat k is. began_safely plan s h.tree t (subst (λ o. PeriodsAre plan o h.tree t) placed h.periods).0 seat k is;
   free = free_slots_are_untouched;
   retired = retired_nodes_are_noted;
 }

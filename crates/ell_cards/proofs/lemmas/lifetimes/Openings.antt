@@ -17,7 +17,8 @@ use Rattle.ell_core.specs.statements.RunLaws.{IsOpening}
 use Rattle.ell_core.specs.state.Opening.{first_alone, keys_at_start, opening_of_one}
 use Rattle.ell_layout.proofs.lemmas.Listed.{words_are_listed, listed_next, listed_flat}
 use Rattle.ell_core.proofs.lemmas.outcomes.Decide.{some_not_none, same_value}
-use Rattle.ell_core.proofs.lemmas.opening.Invariant.{start_stages}
+use Rattle.ell_core.specs.history.Stages.{is_claimed, is_start}
+use Rattle.ell_core.proofs.lemmas.opening.Invariant.{each_stage, start_stages}
 use Rattle.ell_core.proofs.lemmas.opening.OneOwner.{one_worker_opens, one_worker_has}
 use Rattle.ell_core.proofs.lemmas.runs.Wins.{opening_wins}
 use Rattle.ell_cards.specs.declared.view.View.{View}
@@ -137,6 +138,7 @@ opening_is_kept plan words may at =
       };
       opening = subst IsOpening (one_opens plan cards all) one.opens;
       unwon = opening_wins (length plan.start + 1);
+      started = λ c. each_stage (λ stage. is_claimed stage ≡ true → is_start stage ≡ true) (length plan.start + 1) c (λ is. refl) (λ is. absurd (false≢true is));
     }
 
 -- the first pass has its keys

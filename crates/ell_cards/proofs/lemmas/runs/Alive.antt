@@ -39,6 +39,7 @@ use Rattle.ell_cards.specs.Machines.{HasMachine}
 use Rattle.ell_cards.specs.Laws.{machine_of_table}
 use Rattle.ell_cards.specs.Calls.{May, word_of}
 use Rattle.ell_cards.specs.Turns.{Turn, CallIsMade, TableRun}
+use Rattle.ell_cards.specs.RunLaws.{StartIsKept}
 use Rattle.ell_cards.specs.Runs.{GoesBy}
 use Rattle.ell_cards.specs.Starts.{IsReached}
 use Rattle.ell_cards.specs.Touching.{forgets, Touched, AtNode, OfCard, AtRoot, touched_by, IsWordOf, KnowsTakenOut}
@@ -151,23 +152,28 @@ calls_touch_no_dead_card plan s reached seat c begun made anew r has turns now r
     untouched plan s reached seat c begun made anew r has turns now run v there next may d f at
 
 -- a card that has won nothing has made no child exchange
-none_changed : (s : Stage) → wins_of s ≡ [] → is_changed s ≡ true → ⊥
+pub none_changed : (s : Stage) → wins_of s ≡ [] → is_changed s ≡ true → ⊥
 none_changed s none changed = let more = changed_much s changed in let zero = ap (sum_by one) none in omega arith
 
 -- so wherever turns have led a table, what its machine uses is sound
+abbrev pub start_uses : (plan : TablePlan) (s : TableState) (start : StartIsKept plan s) → HasUses (machine_of_table plan s start.kept)
+start_uses plan s start =
+    let r = start.kept in
+    let none = none_out r.words r.stages start.unwon in record {
+      outs = record { stages = r.stages; invariant = r.invariant; outs = nothing_out r.words r.stages start.unwon };
+      uses = record {
+        used = λ x inner born right unused. none_changed (r.stages (card (r.words.child x right))) (start.unwon (card (r.words.child x right))) unused.0;
+        taken = λ c x takes unused. none c x takes;
+        stands = λ c changed still. absurd (none_changed (r.stages c) (start.unwon c) changed);
+      };
+    }
+
 pub tables_have_uses : TablesHaveUses
 tables_have_uses plan s h =
     let start = starts_are_kept plan h.first h.starts in
     let r = start.kept in
     let m = machine_of_table plan h.first r in
-    let none = none_out r.words r.stages start.unwon in
-    let has : HasOuts m = record { stages = r.stages; invariant = r.invariant; outs = nothing_out r.words r.stages start.unwon } in
-    let uses : UsesAreSound r.words r.stages = record {
-      used = λ x inner born right unused. none_changed (r.stages (card (r.words.child x right))) (start.unwon (card (r.words.child x right))) unused.0;
-      taken = λ c x takes unused. none c x takes;
-      stands = λ c changed still. absurd (none_changed (r.stages c) (start.unwon c) changed);
-    } in
-    let begins = uses_begin m (record { outs = has; uses = uses }) in
+    let begins = uses_begin m (start_uses plan h.first start) in
     let ran = run_comes plan m r.stages r.invariant (used m r.stages) (was m r.stages) (not_dead m r.stages r.invariant)
     h.first r begins.0 begins.1 h.turns s h.run in
     (ran.0, record { outs = record { stages = ran.1.stages; invariant = ran.1.invariant; outs = ran.1.outs }; uses = ran.2 })
@@ -218,7 +224,7 @@ old_right a b old copy other = elim (cases_eq a old) [
 ]
 
 -- an insert's card in hand that is flagged has the operation's key
-own_key : (w : Words) (stage : Stages) (u : Worker) (op : Op) (c : ℕ) → is_insert (stage c) ≡ true → Flagged w stage u op c → insert_key w c ≡ key_of op
+pub own_key : (w : Words) (stage : Stages) (u : Worker) (op : Op) (c : ℕ) → is_insert (stage c) ≡ true → Flagged w stage u op c → insert_key w c ≡ key_of op
 own_key w stage u (Find k) c kind h = absurd h
 own_key w stage u (Insert k value) c kind h = h.1
 own_key w stage u (Swap k was value) c kind h = h.1

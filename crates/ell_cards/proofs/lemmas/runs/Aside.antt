@@ -23,7 +23,8 @@ use Rattle.ell_cards.specs.Changes.{after_claim, after_flag, left_view, right_vi
 use Rattle.ell_cards.specs.Machines.{HasMachine}
 use Rattle.ell_cards.specs.Models.{TablePlan}
 use Rattle.ell_cards.specs.States.{TableState, seat_worker}
-use Rattle.ell_cards.specs.Tied.{HasWon, HoldsWaiting, FlagsCard}
+use Rattle.ell_cards.specs.Holding.{HoldsWaiting}
+use Rattle.ell_cards.specs.Tied.{HasWon, FlagsCard}
 use Rattle.ell_cards.specs.TurnEffects.{turn_wins, run_wins, win_of}
 use Rattle.ell_cards.specs.Turns.{Turn, Makes, Splits, Joins, TableTurns, TableRun, found_by, view_after, state_after}
 use Rattle.ell_cards.proofs.lemmas.lifetimes.Joins.{each_joined}

@@ -24,7 +24,8 @@ use Rattle.ell_cards.specs.States.{TableState}
 use Rattle.ell_cards.specs.Machines.{HasMachine}
 use Rattle.ell_cards.specs.Laws.{machine_of_table}
 use Rattle.ell_cards.specs.Turns.{Turn, Makes, Splits, Joins, TableTurns, TableRun, found_by}
-use Rattle.ell_cards.specs.TurnEffects.{HasFlagged, turn_wins, run_wins}
+use Rattle.ell_cards.specs.Holding.{HasFlagged}
+use Rattle.ell_cards.specs.TurnEffects.{turn_wins, run_wins}
 use Rattle.ell_cards.specs.Meanwhile.{KeepsOn, KeepOn}
 use Rattle.ell_cards.proofs.lemmas.seats.Seats.{mine_is}
 use Rattle.ell_cards.proofs.lemmas.runs.GoingOn.{turn_turns, run_goes}

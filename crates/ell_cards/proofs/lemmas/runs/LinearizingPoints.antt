@@ -20,7 +20,8 @@ use Rattle.ell_cards.specs.Changes.{first_of}
 use Rattle.ell_cards.specs.States.{TableState}
 use Rattle.ell_cards.specs.Machines.{HasMachine}
 use Rattle.ell_cards.specs.Turns.{Turn, Makes, Splits, Joins, CallIsMade, TableTurns, TableRun, view_after}
-use Rattle.ell_cards.specs.TurnEffects.{own_words, HasFlagged, IsWonFor, turn_wins}
+use Rattle.ell_cards.specs.Holding.{HasFlagged}
+use Rattle.ell_cards.specs.TurnEffects.{own_words, IsWonFor, turn_wins}
 use Rattle.ell_cards.specs.Starts.{Starts}
 use Rattle.ell_cards.specs.Meanwhile.{KeepsOn, KeepOn}
 use Rattle.ell_cards.specs.Changing.{HasMap, IsCalled, SaysWhatWas, TakesEffect, HoldsAtEnd, change_of, turn_effect, run_effects}

@@ -6,6 +6,7 @@ use Rattle.ell_cards.specs.declared.pass.Standing.{Standing}
 use Rattle.ell_cards.specs.declared.share.Share.{Share}
 use Rattle.ell_cards.specs.declared.view.Known.{Known}
 use Rattle.ell_cards.specs.declared.view.Period.{Period}
+use Rattle.ell_cards.specs.declared.view.Seek.{Seek}
 use Rattle.ell_cards.specs.declared.view.Slots.{Slots}
 use Rattle.ell_cards.specs.declared.view.View.{View}
 use Rattle.ell_cards.specs.Models.{TablePlan, TableModel, PassModel, IsTold, last_slot, last_slot_of}
@@ -24,7 +25,7 @@ use Rattle.ell_cards.specs.Calls.{place_of, May}
 use Rattle.ell_cards.specs.Periods.{size_by, whole_size}
 use Rattle.ell_cards.specs.Starts.{SlotsFit}
 use Rattle.ell_cards.specs.Shown.{IsWord, shown, StoresWord}
-use Rattle.ell_cards.specs.Stepping.{IsInside, IsQuiet, MayHave, MayTell, KeepsPass, SameShare}
+use Rattle.ell_cards.specs.Stepping.{MayInTable, IsInside, IsQuiet, MayHave, MayTell, KeepsPass, SameShare}
 use Rattle.ell_cards.specs.Whole.{IsWhole}
 use Rattle.ell_cards.proofs.lemmas.seats.Named.{named_more}
 use Rattle.ell_cards.proofs.lemmas.seats.Placed.{placed_more, place_fits}
@@ -140,7 +141,7 @@ module _ (t u : TableModel) (p q : PassModel) (same_table : t ≡ u) (same_pass 
   FillFits _ = Unit {0}
 
   fill_fits : (keys : List ℕ) (share : Share) (standing : Standing) (period : Period) → period.slot ≡ p.slot → PassFits keys share p.table.words p.view → PlaceFits standing p.table.words period
-      → (c : Call) → May u.plan c q.view → (u.plan.slots ≢ None → MayInMemory q.slot q.view c) → FillFits c
+      → (c : Call) → May u.plan c q.view → MayInTable u.plan q c → FillFits c
   fill_fits keys share standing period is fits placed (call.Fill e f value) may kept = by u.plan.slots refl
     where
       by : (o : Option Slots) → u.plan.slots ≡ o → HasSlotThere p.table.words e
@@ -149,7 +150,7 @@ module _ (t u : TableModel) (p q : PassModel) (same_table : t ≡ u) (same_pass 
           let few = few_there none in
           let all = own_size ∙ (λ i. size_by (ap (λ (m : TableModel). m.plan.slots) same_table i) (ap (λ (m : TableModel). m.plan.last_card) same_table i)) ∙ ap (λ o. size_by o u.plan.last_card) none in
           record { last = u.plan.last_card; low = few; few = omega arith; inside = omega arith }
-      by (Some s) some = placed.slot e (is ∙ (ap (λ (m : PassModel). m.slot) same_pass ∙ kept (λ none. some_not_none some none)))
+      by (Some s) some = placed.slot e (is ∙ (ap (λ (m : PassModel). m.slot) same_pass ∙ kept s some))
   fill_fits keys share standing period is fits placed _ may kept = tt
 
   -- the word of a step call is one of the table
@@ -166,18 +167,21 @@ module _ (t u : TableModel) (p q : PassModel) (same_table : t ≡ u) (same_pass 
       omega arith
 
   -- what a step call owes, by what its caller says of the table and the pass, which is shown of the tree that its seat knows
-  pub owed : (tree : View) → shown tree ≡ p.view → (seat : ℕ) (period : Period) → period.slot ≡ p.slot → (held : List (ℕ × Unit {0})) (keys : List ℕ) (share : Share) (standing : Standing) (word : ℕ) (f : ℕ → ℕ)
+  pub owed : (tree : View) → shown tree ≡ p.view → (seat : ℕ) (period : Period) → period.slot ≡ p.slot → period.sought ≡ p.sought → (held : List (ℕ × Unit {0})) (keys : List ℕ) (share : Share) (standing : Standing) (word : ℕ) (f : ℕ → ℕ)
       (told : ℕ → View → Type 0) (notes : ℕ → Period) (c : Call) → t.id.slots ≡ 0 → held ≡ [] → PassFits keys share p.table.words p.view → PlaceFits standing p.table.words period
-      → StoresWord c → word ≡ place_of c → May u.plan c q.view → (u.plan.slots ≢ None → MayInMemory q.slot q.view c) → Does u.plan c f
+      → StoresWord c → word ≡ place_of c → May u.plan c q.view → MayInTable u.plan q c → Does u.plan c f
       → (u.plan.slots ≢ None → period.announced ≡ None → IsQuiet c) → (IsFill c → (n m : ℕ) (w : View) → told n w → told m w) → MayTell u.plan c q.view told
-      → ((n : ℕ) → IsWord n → Notes c n period (notes n))
+      → ((n : ℕ) → IsWord n → Notes u.plan.slots c n period (notes n))
       → (p.table ≡ t.id) × (word < t.id.words)
       × Allows (IsWhole t.plan) t.id.slots seat (record { tree = tree; period = period }, held) word f (λ n x. told n (shown x.0.tree) × (x.0.period ≡ notes n) × (x.1 ≡ held))
-  owed tree shows seat period slotted held keys share standing word f told notes c none empty fits placed stores at may kept does quiet same tells noted =
+  owed tree shows seat period slotted sought held keys share standing word f told notes c none empty fits placed stores at may kept does quiet same tells noted =
       let is : q.view ≡ shown tree = ap (λ (m : PassModel). m.view) (sym same_pass) ∙ sym shows in
       let taken : q.slot ≡ period.slot = ap (λ (m : PassModel). m.slot) (sym same_pass) ∙ sym slotted in
-      let asks : u.plan.slots ≢ None → MayInMemory period.slot (shown tree) c = λ some. subst (λ v. MayInMemory period.slot v c) is (subst (λ o. MayInMemory o q.view c) taken (kept some)) in
-      let step = tree_step u.plan (record { tree = tree; period = period }) c f told notes stores (subst (May u.plan c) is may) asks does quiet same (subst (λ v. MayTell u.plan c v told) is tells) noted in
+      let noted : q.sought ≡ period.sought = ap (λ (m : PassModel). m.sought) (sym same_pass) ∙ sym sought in
+      let asks : (s : Slots) → u.plan.slots ≡ Some s → MayInMemory s period.slot period.sought.retired (shown tree) c =
+      λ s some. subst (λ v. MayInMemory s period.slot period.sought.retired v c) is
+      (subst (λ (k : Seek). MayInMemory s period.slot k.retired q.view c) noted (subst (λ o. MayInMemory s o q.sought.retired q.view c) taken (kept s some))) in
+      let step = tree_step u.plan (record { tree = tree; period = period }) c f told notes stores (subst (May u.plan c) is may) asks (λ some. placed.lost) does quiet same (subst (λ v. MayTell u.plan c v told) is tells) noted in
       let rule : (id : ℕ) → Allows (IsWhole t.plan) 0 id (record { tree = tree; period = period }, []) word f (λ n x. told n (shown x.0.tree) × (x.0.period ≡ notes n) × (x.1 ≡ [])) =
       subst (λ (i : ℕ). (id : ℕ) → Allows (IsWhole t.plan) 0 id (record { tree = tree; period = period }, []) i f (λ n x. told n (shown x.0.tree) × (x.0.period ≡ notes n) × (x.1 ≡ []))) (sym at)
       (subst (λ (m : TableModel). (id : ℕ) → Allows (IsWhole m.plan) 0 id (record { tree = tree; period = period }, []) (place_of c) f (λ n x. told n (shown x.0.tree) × (x.0.period ≡ notes n) × (x.1 ≡ []))) (sym same_table) step) in (

@@ -27,7 +27,8 @@ use Rattle.ell_cards.specs.Sayings.{says}
 use Rattle.ell_cards.specs.Shown.{cut_field, cut_by}
 use Rattle.ell_cards.specs.SlotWords.{slot_of}
 use Rattle.ell_cards.specs.States.{TableState}
-use Rattle.ell_cards.specs.Tied.{LiesThere, HasWon, HoldsWaiting, HasStored, HasStoredAll, IsKept, IsTied, MayInMemory, FlagsCard}
+use Rattle.ell_cards.specs.Holding.{HoldsWaiting}
+use Rattle.ell_cards.specs.Tied.{LiesThere, HasWon, HasStored, HasStoredAll, IsKept, IsTied, MayInMemory, FlagsCard}
 use Rattle.ell_cards.specs.Ties.{card_touched, TouchesTied}
 use Rattle.ell_cards.specs.Tied.IsKept.{won, stored}
 use Rattle.ell_cards.specs.Touching.{touched_by}
@@ -106,21 +107,21 @@ waited_before plan (call.Mark c p was) n v d h =
 waited_before plan c n v d h = same_waits c n v (after c n v) d refl refl refl h
 
 -- a card that a call flags is in hand, and all that it says was stored in its slot
-flag_in_hand : (plan : TablePlan) (c : Call) (k : Known) → May plan c k.tree → MayInMemory k.period.slot k.tree c → (d : ℕ) → FlagsCard c d
+flag_in_hand : (plan : TablePlan) (s : Slots) (c : Call) (k : Known) → May plan c k.tree → MayInMemory s k.period.slot k.period.sought.retired k.tree c → (d : ℕ) → FlagsCard c d
     → HoldsWaiting k.tree d × (k.period.slot ≡ Some d) × HasStoredAll k.tree (flag_says c)
-flag_in_hand plan (call.IFlag c p from) k may mem d is = ((may.may.holds ∙ ap Some (sym is), may.may.unflagged), mem.0 ∙ ap Some (sym is), mem.1)
-flag_in_hand plan (call.DFlag c gp from) k may mem d is = ((may.may.holds ∙ ap Some (sym is), may.may.unflagged), mem.0 ∙ ap Some (sym is), mem.1)
-flag_in_hand plan _ k may mem d is = absurd is
+flag_in_hand plan s (call.IFlag c p from) k may mem d is = ((may.may.holds ∙ ap Some (sym is), may.may.unflagged), mem.0 ∙ ap Some (sym is), mem.1)
+flag_in_hand plan s (call.DFlag c gp from) k may mem d is = ((may.may.holds ∙ ap Some (sym is), may.may.unflagged), mem.0 ∙ ap Some (sym is), mem.1)
+flag_in_hand plan s _ k may mem d is = absurd is
 
 -- a card that a call fills is the one in hand
 fill_place : (plan : TablePlan) (c : Call) (v : View) → May plan c v → (d : ℕ) (f : Field) → HoldsWaiting v d → FillsField c f → place_of c ≡ slot_address d f
 fill_place plan (call.Fill c g value) v may d f h is = λ t. slot_address (some_same (sym may.holds ∙ h.0) t) (sym is t)
 fill_place plan _ v may d f h is = absurd is
 
-fill_taken : (plan : TablePlan) (c : Call) (k : Known) → May plan c k.tree → MayInMemory k.period.slot k.tree c → (d : ℕ) (f : Field) → HoldsWaiting k.tree d → FillsField c f
+fill_taken : (plan : TablePlan) (s : Slots) (c : Call) (k : Known) → May plan c k.tree → MayInMemory s k.period.slot k.period.sought.retired k.tree c → (d : ℕ) (f : Field) → HoldsWaiting k.tree d → FillsField c f
     → k.period.slot ≡ Some d
-fill_taken plan (call.Fill c g value) k may mem d f h is = mem ∙ (sym may.holds ∙ h.0)
-fill_taken plan _ k may mem d f h is = absurd is
+fill_taken plan s (call.Fill c g value) k may mem d f h is = mem ∙ (sym may.holds ∙ h.0)
+fill_taken plan s _ k may mem d f h is = absurd is
 
 -- the claim word never falls
 left_rises : (c : Call) (n : ℕ) → word_of c ≡ 0 → n ≤ left_by (atomic_of c) n
@@ -137,7 +138,7 @@ read_there : (l : List ℕ) (i j n : ℕ) → j ≡ i → i < length l → get_o
 read_there l i j n same fits = ap (λ x. get_or (set l i n) x 0) same ∙ get_or-set_same l i n 0 fits
 
 module _ (plan : TablePlan) (s : Slots) (low : s.last < 2097152) (tree : TableState) (t : WholeState) (stage next : Stages) (lie : ℕ → ℕ) (dead : ℕ → Bool) (was_dead : ℕ → ℕ → Bool)
-    (tied : IsTied s tree t stage lie dead was_dead) (id : ℕ) (k : Known) (here : get_elem? t.views id ≡ some k) (c : Call) (may : May plan c k.tree) (mem : MayInMemory k.period.slot k.tree c)
+    (tied : IsTied s tree t stage lie dead was_dead) (id : ℕ) (k : Known) (here : get_elem? t.views id ≡ some k) (c : Call) (may : May plan c k.tree) (mem : MayInMemory s k.period.slot k.period.sought.retired k.tree c)
     (touch : TouchesTied s lie t.words tree c) (room : table_size s.last ≤ length t.words) (fits : word_of c < length tree.words)
     (small : get_or (set tree.words (word_of c) (left_by (atomic_of c) (found_by tree c))) 0 0 < 2 ^ 64)
     (wins : (d : ℕ) → HasWon next d → HasWon stage d ⊎ FlagsCard c d)
@@ -204,13 +205,13 @@ module _ (plan : TablePlan) (s : Slots) (low : s.last < 2097152) (tree : TableSt
 
   -- the card whose flag the call wins lies in its slot
   hand_lies : (e : ℕ) → FlagsCard c e → LiesThere s lie e
-  hand_lies e flags = let hand = flag_in_hand plan c k may mem e flags in tied.hand id e k here hand.1 hand.0
+  hand_lies e flags = let hand = flag_in_hand plan s c k may mem e flags in tied.hand id e k here hand.1 hand.0
 
   -- what is kept after the call was kept before it, but for what the call stores
   kept_before : (e : ℕ) (f : Field) → IsKept next views e f → IsKept stage t.views e f ⊎ (place_of c ≡ slot_address e f)
   kept_before e f (won has said) = elim (wins e has) [
     | inl had ↦ inl (won had (kinds e f had said))
-    | inr flags ↦ (let hand = flag_in_hand plan c k may mem e flags in inl (stored id k here hand.0 (hand.2 f (flagged e f flags said))))
+    | inr flags ↦ (let hand = flag_in_hand plan s c k may mem e flags in inl (stored id k here hand.0 (hand.2 f (flagged e f flags said))))
   ]
   kept_before e f (stored seat u at waits has) = ⊎_elim
       (λ (q : (seat ≡ id) × (knows ≡ u)). mine (subst (λ (x : Known). HoldsWaiting x.tree e) (sym q.1) waits) (subst (λ (x : Known). HasStored x.tree f) (sym q.1) has))
@@ -285,7 +286,7 @@ module _ (plan : TablePlan) (s : Slots) (low : s.last < 2097152) (tree : TableSt
     ];
     fits = λ e has. elim (wins e has) [
       | inl had ↦ tied.fits e had
-      | inr flags ↦ tied.slotted id e k here (flag_in_hand plan c k may mem e flags).1
+      | inr flags ↦ tied.slotted id e k here (flag_in_hand plan s c k may mem e flags).1
     ];
     hand = λ seat e u at slot waits. ⊎_elim
         (λ (w : (seat ≡ id) × (knows ≡ u)). mine e (ap (λ (x : Known). x.period.slot) w.1 ∙ slot) (subst (λ (x : Known). HoldsWaiting x.tree e) (sym w.1) waits))
@@ -315,7 +316,7 @@ module _ (plan : TablePlan) (s : Slots) (low : s.last < 2097152) (tree : TableSt
       taken e f waits has = elim (waited_before plan c (found_by tree c) k.tree e waits) [
         | before had more ↦ elim (more f has) [
           | inl old ↦ tied.stores id e f k here had old
-          | inr fills ↦ fill_taken plan c k may mem e f had fills
+          | inr fills ↦ fill_taken plan s c k may mem e f had fills
         ]
         | claimed q claims found none ↦ absurd (has_none (f, has.0) (subst (λ es. Has es (f, has.0)) none has.1))
       ]

@@ -1,6 +1,8 @@
 -- The memory of a table with places is tied to its tree as it opens.
-use Rattle.std.proofs.Common.{◌≡◌, ◌≢◌, ◌+◌, ◌-◌, ◌%◌, ◌^◌, ◌<◌, ◌≤◌, ℕ, zero, suc, if◌then◌else◌, nat_lt, Bool, true, false, Some, None, List, [], ◌∷◌, ◌++◌, replicate, length, get_or, refl, sym, ap, ◌∙◌, subst, arith}
+use Rattle.std.proofs.Common.{◌≡◌, ◌≢◌, ◌+◌, ◌-◌, ◌%◌, ◌^◌, ◌<◌, ◌≤◌, ℕ, zero, suc, if◌then◌else◌, nat_lt, Bool, true, false, Some, None, List, [], ◌∷◌, ◌++◌, replicate, length, get_or, inl, refl, sym, ap, ◌∙◌, subst, arith}
+use Rattle.std.proofs.lemmas.Bool.Decides.{nat_tests}
 use Rattle.std.proofs.lemmas.List.{length-append}
+use Rattle.ell_word.specs.Node.{card}
 use mathlib.Core.Option.{some, some-injective, some-ne-none}
 use lib.ListN.{get_elem?}
 use Rattle.atomic_table.specs.Table.{opening}
@@ -17,17 +19,23 @@ use Rattle.ell_cards.specs.Ages.{AgesAreSound, HasPeriods}
 use Rattle.ell_cards.specs.Changes.{first_of}
 use Rattle.ell_cards.specs.Machines.{HasMachine}
 use Rattle.ell_cards.specs.Models.{TablePlan}
-use Rattle.ell_cards.specs.Periods.{WholeState, IsAtRest, AreOpeningWords, period_by}
+use Rattle.ell_cards.specs.Periods.{WholeState, IsAtRest, AreOpeningWords, period_by, slot_word}
 use Rattle.ell_cards.specs.Apart.{cut_node}
 use Rattle.ell_cards.specs.Shown.{IsWord, cut_field, cut_word}
-use Rattle.ell_cards.specs.SlotWords.{slot_of, card_by, has_slot_in}
+use Rattle.ell_cards.specs.SlotWords.{slot_of, card_by, free_word, has_slot_in, is_noted}
 use Rattle.ell_cards.specs.Starts.{MayStart, SlotsFit, IsReached}
+use Rattle.ell_cards.specs.RunLaws.{StartIsKept}
+use Rattle.ell_cards.specs.Leaks.{Kills, NothingLeaks}
 use Rattle.ell_cards.specs.States.{TableState}
 use Rattle.ell_cards.specs.Tied.{LiesThere, HasWon, IsKept, won, stored, IsTied}
 use Rattle.ell_cards.specs.Ties.{IsTiedByAges, OpeningsAreTied}
 use Rattle.ell_cards.proofs.lemmas.lifetimes.Openings.{start_next}
 use Rattle.ell_cards.proofs.lemmas.runs.Reaching.{reached_first}
 use Rattle.ell_cards.proofs.lemmas.shown.CutWords.{cut_same}
+use Rattle.ell_cards.proofs.lemmas.runs.Starting.{starts_are_kept}
+use Rattle.ell_cards.proofs.lemmas.runs.Touching.{none_out}
+use Rattle.ell_cards.proofs.lemmas.ties.Winning.{ended_long, start_won}
+use Rattle.ell_cards.proofs.lemmas.words.NotedBits.{none_noted}
 use Rattle.ell_cards.proofs.lemmas.whole.Opens.{zeros_many, with_zeros, words_same, lies_opened, out_opened, lies_as_given, lies_at_home, lies_or_free, first_ages, first_periods}
 use Rattle.ell_cards.proofs.lemmas.whole.Rests.{is_at_rest}
 use Rattle.ell_cards.proofs.lemmas.words.Slotted.{has_slot_by}
@@ -146,8 +154,11 @@ module _ (plan : TablePlan) (s : Slots) (cards all : List ℕ) (may : MayStart p
   rest : IsAtRest (first_of plan)
   rest = is_at_rest (first_of plan) refl refl refl refl refl
 
-  ages : AgesAreSound plan s tree_opened opened (lies_opened (length plan.start)) out_opened (λ q x. false)
-  ages = first_ages plan s tree_opened reached_opened (length plan.start) cards all size h rest fit.0 may.limit
+  starts : StartIsKept plan tree_opened
+  starts = starts_are_kept plan tree_opened reached_opened.starts
+
+  abbrev ages : AgesAreSound plan s tree_opened opened (lies_opened (length plan.start)) out_opened (λ q x. false)
+  ages = first_ages plan s tree_opened starts (length plan.start) cards all size h rest fit.0 may.limit
 
   -- the claim word is behind the cards of the start keys
   next : get_or (cards ++ replicate long 0) 0 0 ≡ length plan.start + 1
@@ -155,7 +166,7 @@ module _ (plan : TablePlan) (s : Slots) (cards all : List ℕ) (may : MayStart p
       sym (listed_next (cards ++ replicate long 0))
       ∙ (ap (λ (w : Words). w.next) (words_same (cards ++ replicate long 0) cards (with_zeros cards long) ∙ are) ∙ start_next plan.flat plan.start)
 
-  pub periods_opened : HasPeriods plan s tree_opened opened
+  abbrev pub periods_opened : HasPeriods plan s tree_opened opened
   periods_opened = record {
     lie = lies_opened (length plan.start);
     lies = λ slot inside. subst (λ n. n % 8 ≢ 7 → lies_opened (length plan.start) slot ≡ card_by slot n) (sym (h.slots slot inside))
@@ -173,6 +184,40 @@ module _ (plan : TablePlan) (s : Slots) (cards all : List ℕ) (may : MayStart p
         (record { tree = first_of plan; period = period_by (Some s) }) refl refl out_opened (λ q x. false);
     retired = λ seat c u at slot hand. absurd (some_not_none hand (alone_there (record { tree = first_of plan; period = period_by (Some s) }) (λ (x : Known). x.tree.worker.card ≡ None) refl seat u at));
   }
+
+  -- its slots in use have cards of start keys, and nothing is dead
+  pub leaks_opened : NothingLeaks s opened tree_opened.views starts.kept.words starts.kept.stages (lies_opened (length plan.start))
+  leaks_opened = record {
+    used = λ slot low used. inl (given_won slot low used);
+    bits = λ slot i low used is. absurd (none_noted 0 i (subst (λ n. is_noted n i ≡ true) (opens_with slot low used) is));
+    owed = λ slot i c low used few is kills. absurd (none_killed c (4 * lies_opened (length plan.start) slot + i) kills);
+  }
+    where
+      none_killed : (c x : ℕ) → Kills starts.kept.words starts.kept.stages c x → ⊥
+      none_killed c x (inl takes) = none_out starts.kept.words starts.kept.stages starts.unwon c x takes
+      none_killed c x (inr (on, never)) = let long = ended_long (starts.kept.stages (card x)) never.0 in let none = ap length (starts.unwon (card x)) in omega arith
+
+      opens_with : (slot : ℕ) → slot ≤ s.last → get_or all (slot_word s slot) 0 % 8 ≢ 7 → get_or all (slot_word s slot) 0 ≡ 0
+      opens_with slot low used = by (nat_lt (length plan.start) slot) (h.slots slot low)
+        where
+          by : (b : Bool) → get_or all (slot_word s slot) 0 ≡ (if b then free_word 0 else 0) → get_or all (slot_word s slot) 0 ≡ 0
+          by true is = absurd (used (ap (λ n. n % 8) is))
+          by false is = is
+
+      is_given : (slot : ℕ) → slot ≤ s.last → get_or all (slot_word s slot) 0 % 8 ≢ 7 → slot ≤ length plan.start
+      is_given slot low used = by (nat_lt (length plan.start) slot) refl (h.slots slot low)
+        where
+          by : (b : Bool) → nat_lt (length plan.start) slot ≡ b → get_or all (slot_word s slot) 0 ≡ (if b then free_word 0 else 0) → slot ≤ length plan.start
+          by true e is = absurd (used (ap (λ n. n % 8) is))
+          by false e is = grind (arith, nat_tests)
+
+      given_won : (slot : ℕ) → slot ≤ s.last → get_or all (slot_word s slot) 0 % 8 ≢ 7 → HasWon starts.kept.stages (lies_opened (length plan.start) slot)
+      given_won slot low used =
+          let few = is_given slot low used in
+          let first = starts.kept.next in
+          let there = next in
+          let claimed = (starts.kept.invariant.words.cards slot).claimed.1 (omega arith) in
+          subst (HasWon starts.kept.stages) (sym (lies_as_given (length plan.start) slot few)) (start_won (starts.kept.stages slot) (starts.started slot claimed))
 
 pub openings_are_tied : OpeningsAreTied
 openings_are_tied plan s cards all placed may size are small h =

@@ -14,7 +14,8 @@ use Rattle.ell_cards.specs.declared.view.Period.{Period}
 use Rattle.ell_cards.specs.declared.view.Slots.{Slots}
 use Rattle.ell_cards.specs.Periods.{WholeState}
 use Rattle.ell_cards.specs.States.{TableState}
-use Rattle.ell_cards.specs.Tied.{LiesThere, HasWon, HoldsWaiting, HasStored, IsKept, IsTied}
+use Rattle.ell_cards.specs.Holding.{HoldsWaiting}
+use Rattle.ell_cards.specs.Tied.{LiesThere, HasWon, HasStored, IsKept, IsTied}
 use Rattle.ell_cards.specs.Ties.{PeriodsKeepTies}
 use Rattle.ell_cards.specs.Tied.IsKept.{won, stored}
 

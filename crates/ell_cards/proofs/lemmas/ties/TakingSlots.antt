@@ -1,5 +1,5 @@
 -- A pass that takes a slot for its card in hand keeps memory tied: that card waits, so it is not dead, and nobody else has it in hand.
-use Rattle.std.proofs.Common.{◌≡◌, ◌+◌, ◌*◌, ◌%◌, ◌<◌, ◌≤◌, ℕ, zero, suc, inl, inr, Bool, true, false, Some, List, length, get_or, set, refl, sym, ap, ◌∙◌, subst, arith, true≢false, get_or-set_same, get_or-set_other}
+use Rattle.std.proofs.Common.{◌≡◌, ◌+◌, ◌*◌, ◌%◌, ◌<◌, ◌≤◌, ℕ, zero, suc, inl, inr, Bool, true, false, Some, None, List, length, get_or, set, refl, sym, ap, ◌∙◌, subst, arith, true≢false, get_or-set_same, get_or-set_other}
 use Rattle.std.proofs.lemmas.Bool.{cases_eq, false≢true}
 use mathlib.Core.Option.{some}
 use lib.ListN.{get_elem?}
@@ -23,12 +23,14 @@ use Rattle.ell_cards.specs.declared.view.Slots.{Slots}
 use Rattle.ell_cards.specs.declared.view.View.{View}
 use Rattle.ell_cards.specs.Ages.{IsOut, is_dead, is_aside, is_beyond, AreDead, AgesAreSound, IsNotedThere, RetiredStaysNoted}
 use Rattle.ell_cards.specs.CardNodes.{has_node, no_nodes}
+use Rattle.ell_cards.specs.Leaks.{Kills, NothingLeaks}
 use Rattle.ell_cards.specs.Machines.{HasMachine}
 use Rattle.ell_cards.specs.Models.{TablePlan}
 use Rattle.ell_cards.specs.Periods.{WholeState, slot_word, slots_size, after_taking}
 use Rattle.ell_cards.specs.SlotWords.{has_slot_in, slot_of, turn_of, is_noted}
 use Rattle.ell_cards.specs.States.{TableState, seat_worker}
-use Rattle.ell_cards.specs.Tied.{HoldsWaiting, IsTied}
+use Rattle.ell_cards.specs.Holding.{HoldsWaiting}
+use Rattle.ell_cards.specs.Tied.{IsTied}
 use Rattle.ell_cards.specs.Whole.{trees_of}
 use Rattle.ell_cards.specs.Ties.{IsTiedByAges, TakesKeepTies, memory_taken}
 use Rattle.ell_cards.proofs.lemmas.seats.Seats.{machine, mine_is, mine_sound}
@@ -39,7 +41,9 @@ use Rattle.ell_cards.proofs.lemmas.ties.Taking.{tie_of_taken}
 use Rattle.ell_cards.proofs.lemmas.ties.Touched.{claimed_within}
 use Rattle.ell_cards.proofs.lemmas.ties.Winning.{born_won}
 use Rattle.ell_grace.proofs.lemmas.outs.Taken.{taken_born}
+use Rattle.ell_cards.proofs.lemmas.whole.Leaks.{leaks_taken}
 use Rattle.ell_cards.proofs.lemmas.whole.Retired.{retired_of_period}
+use Rattle.ell_cards.proofs.lemmas.words.NotedBits.{none_noted}
 use Rattle.ell_cards.proofs.lemmas.words.Slotted.{slot_inside}
 
 waits_unended : (s : Stage) → waits s ≡ true → has_ended s ≡ false
@@ -52,13 +56,6 @@ waits_unstarted s h = grind arith
 false_where_not : (b : Bool) → (b ≡ true → ⊥) → b ≡ false
 false_where_not true none = absurd (none refl)
 false_where_not false none = refl
-
--- the word of a slot that was just taken notes nothing
-none_noted : (turn k : ℕ) → is_noted (8 * turn) k ≡ true → ⊥
-none_noted turn zero is = grind arith
-none_noted turn (suc zero) is = grind arith
-none_noted turn (suc (suc zero)) is = grind arith
-none_noted turn (suc (suc (suc k))) is = false≢true is
 
 -- a card in hand that is not flagged waits, and is not dead
 module _ (plan : TablePlan) (tree : TableState) (dead : ℕ → Bool) (now : AreDead plan tree dead) (seat : ℕ) (v : View) (there : get_elem? tree.views seat ≡ some v)
@@ -113,6 +110,18 @@ module _ (plan : TablePlan) (tree : TableState) (dead : ℕ → Bool) (now : Are
       let low = claimed_within plan tree now.machine d (waits-claimed (now.machine.stages d) (hand_is_waiting plan tree dead now seat v there d h)) in
       omega (arith, on, is, low)
 
+-- nor has any card made it dead
+module _ (plan : TablePlan) (tree : TableState) (dead : ℕ → Bool) (now : AreDead plan tree dead) (seat : ℕ) (v : View) (there : get_elem? tree.views seat ≡ some v)
+    (d : ℕ) (h : HoldsWaiting v d) (c x : ℕ) (on : card x ≡ d) where
+  stage_waits : waits (now.machine.stages (card x)) ≡ true
+  stage_waits = subst (λ e. waits (now.machine.stages e) ≡ true) (sym on) (hand_is_waiting plan tree dead now seat v there d h)
+
+  pub hand_kills_none : Kills now.machine.words now.machine.stages c x → ⊥
+  hand_kills_none (inl takes) =
+      let born = taken_born now.machine.words now.machine.stages now.machine.invariant.words c x takes in
+      true≢false (sym stage_waits ∙ (born_won (now.machine.stages (card x)) (x % 4) born).1)
+  hand_kills_none (inr (same, never)) = false≢true (sym (waits_unended (now.machine.stages (card x)) stage_waits) ∙ never.0)
+
 -- What was noted is noted where a pass takes a slot for its card in hand: no node of that card is out.
 noted_taken : (plan : TablePlan) (s : Slots) (tree : TableState) (t : WholeState) (lie : ℕ → ℕ) (dead : ℕ → Bool) (now : AreDead plan tree dead) (seat : ℕ) (v : View)
     → get_elem? tree.views seat ≡ some v → (c : ℕ) → HoldsWaiting v c → slot_of c ≤ s.last
@@ -134,6 +143,8 @@ pub record TakenOn (plan : TablePlan) (s : Slots) (tree : TableState) (t : Whole
   pub tied : IsTied s tree (memory_taken s t id k c) ages.now.machine.stages (put lie (slot_of c) c) dead was_dead
   pub retired : RetiredStaysNoted plan s tree t h.ages.now.machine h.ages.now.uses lie
       → RetiredStaysNoted plan s tree (memory_taken s t id k c) ages.now.machine ages.now.uses (put lie (slot_of c) c)
+  pub leaks : k.period.lost ≡ None → NothingLeaks s t tree.views h.ages.now.machine.words h.ages.now.machine.stages lie
+      → NothingLeaks s (memory_taken s t id k c) tree.views ages.now.machine.words ages.now.machine.stages (put lie (slot_of c) c)
 
 pub take_goes : (plan : TablePlan) (s : Slots) (tree : TableState) (t : WholeState) (lie : ℕ → ℕ) (dead : ℕ → Bool) (was_dead : ℕ → ℕ → Bool)
     → s.last < 2097152 → length t.words ≡ slots_size s
@@ -154,6 +165,8 @@ take_goes plan s tree t lie dead was_dead low size h same id k here c hand numbe
       (noted_taken plan s tree t lie dead h.ages.now id k.tree (sits id k here) c hand inside)
       (λ d at has. record { parent = λ e. absurd (false≢true e); leaf = λ e. absurd (false≢true e); own = λ i e. absurd (false≢true (sym (none_of i) ∙ e)) })
       was;
+  leaks = λ unlost was. leaks_taken s t tree.views r.words r.stages lie was id k here p c hand inside room h.tied.own unlost refl
+      (λ d i few kills. hand_kills_none plan tree dead h.ages.now id k.tree (sits id k here) c hand d (4 * c + i) (omega (arith, few)) kills);
 }
   where
     none_of : (i : ℕ) → has_node no_nodes i ≡ false

@@ -15,7 +15,8 @@ use Rattle.ell_cards.specs.Sayings.{says}
 use Rattle.ell_cards.specs.Shown.{cut_field}
 use Rattle.ell_cards.specs.SlotWords.{has_slot_in}
 use Rattle.ell_cards.specs.States.{TableState}
-use Rattle.ell_cards.specs.Tied.{LiesThere, HasWon, HoldsWaiting, HasStored, IsKept, IsTied}
+use Rattle.ell_cards.specs.Holding.{HoldsWaiting}
+use Rattle.ell_cards.specs.Tied.{LiesThere, HasWon, HasStored, IsKept, IsTied}
 use Rattle.ell_cards.specs.Tied.IsKept.{won, stored}
 
 -- What a pass in a seat knows after a step that is no call. It is what it knew; or it has the same card in hand as the pass there, with

@@ -1,5 +1,5 @@
 -- Which cards have won their flag after a call: those that had, and the one whose flag the call wins.
-use Rattle.std.proofs.Common.{◌≡◌, ◌⊎◌, ℕ, ◌+◌, ◌<◌, ◌==◌, if◌then◌else◌, inl, inr, Bool, true, false, Some, List, [], ◌∷◌, ◌++◌, length, refl, sym, ap, ◌∙◌, subst, arith, eqb-true}
+use Rattle.std.proofs.Common.{◌≤◌, ◌≡◌, ◌⊎◌, ℕ, ◌+◌, ◌<◌, ◌==◌, if◌then◌else◌, inl, inr, Bool, true, false, Some, List, [], ◌∷◌, ◌++◌, length, refl, sym, ap, ◌∙◌, subst, arith, eqb-true}
 use Rattle.std.proofs.lemmas.List.{length-append}
 use Rattle.ell_ops.specs.declared.op.Op.{Op}
 use Rattle.ell_ops.specs.declared.op.Op.TheVariants.{Find, Insert, Delete, Swap}
@@ -17,6 +17,7 @@ use Rattle.ell_layout.specs.declared.field.Field.{Field}
 use Rattle.ell_cards.specs.declared.call.Call.{Call}
 use Rattle.ell_cards.specs.declared.call.Call.TheVariants as call
 use Rattle.ell_cards.specs.declared.view.View.{View}
+use Rattle.ell_core.specs.statements.Since.{has_ended}
 use Rattle.ell_cards.specs.Calls.{May, atomic_of, is_won}
 use Rattle.ell_cards.specs.Machines.{HasMachine}
 use Rattle.ell_cards.specs.Models.{TablePlan, Does}
@@ -34,6 +35,10 @@ IsWonStage s = (is_claimed s ≡ true) × (waits s ≡ false)
 -- that is so where it is of the opening tree or has won something, and nowhere else
 won_some : (s : Stage) → IsWonStage s → (is_start s ≡ true) ⊎ (0 < length (wins_of s))
 won_some s (claimed, settled) = grind arith
+
+-- a card that has ended has won two exchanges at least
+pub ended_long : (s : Stage) → has_ended s ≡ true → 2 ≤ length (wins_of s)
+ended_long s h = grind arith
 
 pub start_won : (s : Stage) → is_start s ≡ true → IsWonStage s
 start_won s h = (grind arith, grind arith)

@@ -46,7 +46,7 @@ passes_tell_apart plan t h id k here = by plan.slots refl
     by : (o : Option Slots) → plan.slots ≡ o → IsApart plan k.tree
     by None none = tells_apart_plain plan none h.tree h.reached id k.tree there
     by (Some s) placed =
-        let has = subst (λ o. PeriodsAre plan o h.tree t) placed h.periods in
+        let has = (subst (λ o. PeriodsAre plan o h.tree t) placed h.periods).0 in
         tells_apart plan s h.tree t has.ages.now.machine has.lie has.dead has.was_dead has.tied placed h.reached id k here there
         (ready_there plan s h.tree t has id k here)
 
@@ -60,6 +60,6 @@ children_are_apart plan t h id k here x inner met right = by plan.slots refl
     by : (o : Option Slots) → plan.slots ≡ o → IsToldApart plan k.tree (child_now h.tree x right)
     by None none = child_apart_plain plan none h.tree h.reached id k.tree there x right inner met
     by (Some s) placed =
-        let has = subst (λ o. PeriodsAre plan o h.tree t) placed h.periods in
+        let has = (subst (λ o. PeriodsAre plan o h.tree t) placed h.periods).0 in
         child_apart plan s h.tree t has.ages.now.machine has.lie has.dead has.was_dead has.tied has.ages.now id k here there
         (ready_there plan s h.tree t has id k here) x right inner met placed h.reached

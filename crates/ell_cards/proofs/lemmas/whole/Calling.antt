@@ -18,13 +18,18 @@ use Rattle.ell_cards.specs.declared.call.Call.{Call}
 use Rattle.ell_cards.specs.declared.call.Call.TheVariants as call
 use Rattle.ell_cards.specs.declared.view.Known.{Known}
 use Rattle.ell_cards.specs.declared.view.Period.{Period}
+use Rattle.ell_cards.specs.declared.view.Retired.{Retired}
 use Rattle.ell_cards.specs.declared.view.Slots.{Slots}
 use Rattle.ell_cards.specs.declared.view.Told.TheVariants.{Info}
 use Rattle.ell_cards.specs.declared.view.View.{View}
+use Rattle.std.proofs.lemmas.Bool.{false≢true}
+use Rattle.std.proofs.lemmas.Option.{same_Some}
 use Rattle.ell_cards.specs.Ages.{HasPeriods}
+use Rattle.ell_cards.specs.Aside.{IsAside}
+use Rattle.ell_cards.specs.Leaks.{NothingLeaks}
 use Rattle.ell_cards.specs.Calls.{Load, Store, Exchange, next_link, word_of, place_of, atomic_of, is_won, left_by, May}
 use Rattle.ell_cards.specs.Machines.{HasMachine}
-use Rattle.ell_cards.specs.Models.{Has, latest, earlier, TablePlan, last_slot, last_slot_of}
+use Rattle.ell_cards.specs.Models.{Has, latest, earlier, PassModel, TablePlan, last_slot, last_slot_of}
 use Rattle.ell_cards.specs.Naming.{IsNamed, IsPlaced}
 use Rattle.ell_cards.specs.PeriodLaws.{IsInPeriod}
 use Rattle.ell_cards.specs.Periods.{WholeState, IsAtRest, slots_size, after_flagging}
@@ -33,8 +38,8 @@ use Rattle.ell_cards.specs.Shown.{IsWord, cut_word, cut_by, shown_word, shown_wo
 use Rattle.ell_cards.specs.SlotWords.{slot_of}
 use Rattle.ell_cards.specs.Starts.{SlotsFit}
 use Rattle.ell_cards.specs.States.{TableState}
-use Rattle.ell_cards.specs.Stepping.{Exchanges, IsQuiet, MayTell}
-use Rattle.ell_cards.specs.Tied.{HasWon, MayInMemory, IsTied, FlagsCard}
+use Rattle.ell_cards.specs.Stepping.{Exchanges, IsQuiet, MayInTable, MayTell}
+use Rattle.ell_cards.specs.Tied.{HasWon, MayInMemory, IsTied, FlagsCard, FlagsNone}
 use Rattle.ell_cards.specs.Ties.{card_touched, ExpectsNear, FindsTied, IsTiedByAges, TouchesTied, memory_after}
 use Rattle.ell_cards.specs.Touching.{touched_by}
 use Rattle.ell_cards.specs.Turns.{Makes, found_by, view_after, state_after}
@@ -46,13 +51,16 @@ use Rattle.ell_cards.proofs.lemmas.seats.Seats.{set_there}
 use Rattle.ell_cards.proofs.lemmas.shown.CutWords.{cut_same}
 use Rattle.ell_cards.proofs.lemmas.shown.ShownActs.{calls_act_alike}
 use Rattle.ell_cards.proofs.lemmas.shown.ShownCalls.{guards_are_lifted}
+use Rattle.ell_cards.proofs.lemmas.shown.ShownLettingGo.{lets_go_whole}
 use Rattle.ell_cards.proofs.lemmas.shown.ShownStores.{stores_stay_whole}
 use Rattle.ell_cards.proofs.lemmas.ties.Keeping.{touch, goes, tied}
 use Rattle.ell_cards.proofs.lemmas.ties.Near.{expected_links_are_near}
 use Rattle.ell_cards.proofs.lemmas.ties.Placed.{placed_to}
 use Rattle.ell_cards.proofs.lemmas.ties.Touched.{spots, touched_won, claim_is_word}
 use Rattle.ell_cards.proofs.lemmas.whole.Ages.{AgesOn}
+use Rattle.ell_cards.proofs.lemmas.whole.Going.{set_twice}
 use Rattle.ell_cards.proofs.lemmas.whole.Fields.{FillsWhole, fields_after, field_can}
+use Rattle.ell_cards.proofs.lemmas.whole.LeaksOfCalls.{leaks_after_call}
 use Rattle.ell_cards.proofs.lemmas.whole.Losing.{aside_in_ages, lost_now}
 use Rattle.ell_cards.proofs.lemmas.ties.Apart.{tells_apart, tells_apart_plain}
 use Rattle.ell_cards.proofs.lemmas.whole.Apart.{passes_tell_apart, ready_there}
@@ -67,16 +75,16 @@ use Rattle.ell_cards.proofs.lemmas.words.Slotted.{slot_inside}
 own_slot : (c : ℕ) → c ≤ greatest_card → slot_of c ≡ c
 own_slot c low = omega arith
 
--- what a pass notes of periods by a step call: nothing, or the card that the call was to flag, and has not
-pub data Notes (c : Call) (n : ℕ) (old new : Period) : Type 0 where
-  nothing : new ≡ old → Notes c n old new
-  loses : (d : ℕ) → new ≡ record old { lost = Some d } → FlagsCard c d → is_won (atomic_of c) n ≡ false → Notes c n old new
+-- a call sets the flag of one card
+flags_one : (c : Call) (d e : ℕ) → FlagsCard c d → FlagsCard c e → d ≡ e
+flags_one (call.IFlag c p from) d e is same = is ∙ sym same
+flags_one (call.DFlag c gp from) d e is same = is ∙ sym same
+flags_one _ d e is same = absurd is
 
--- the last of two that are put in one place
-pub set_twice : {A : Type 0} (l : List A) (i : ℕ) (a b : A) → set (set l i a) i b ≡ set l i b
-set_twice [] i a b = refl
-set_twice (x ∷ xs) zero a b = refl
-set_twice (x ∷ xs) (suc i) a b = ap (λ l. x ∷ l) (set_twice xs i a b)
+-- what a pass notes of periods by a step call: nothing, or the card that the call was to flag, and has not
+pub data Notes (slots : Option Slots) (c : Call) (n : ℕ) (old new : Period) : Type 0 where
+  nothing : new ≡ old → (slots ≢ None → (d : ℕ) → FlagsCard c d → is_won (atomic_of c) n ≡ true) → Notes slots c n old new
+  loses : (d : ℕ) → new ≡ record old { lost = Some d } → FlagsCard c d → is_won (atomic_of c) n ≡ false → Notes slots c n old new
 
 -- the parts of a step call of the tree
 module _ (plan : TablePlan) (s : WholeState) (h : IsWhole plan s) (id : ℕ) (k : Known) (here : get_elem? s.views id ≡ some k) where
@@ -94,7 +102,7 @@ module _ (plan : TablePlan) (s : WholeState) (h : IsWhole plan s) (id : ℕ) (k 
   -- a pass that announces nothing is at rest, if there are places
   rest_by : (o : Option Slots) → PeriodsAre plan o h.tree s → o ≢ None → k.period.announced ≡ None → IsAtRest k.tree
   rest_by None periods placed none = absurd (placed refl)
-  rest_by (Some sl) periods placed none = (periods.periods.each id k here).rests none
+  rest_by (Some sl) periods placed none = (periods.0.periods.each id k here).rests none
 
   pub rest_here : plan.slots ≢ None → k.period.announced ≡ None → IsAtRest k.tree
   rest_here = rest_by plan.slots h.periods
@@ -192,13 +200,16 @@ module _ (plan : TablePlan) (s : WholeState) (h : IsWhole plan s) (id : ℕ) (k 
       plain_apart = tells_apart_plain plan none after (call_on plan h.tree h.reached id c k.tree tree_here may) id (view_after h.tree k.tree c) tree_there
 
     -- with places
-    module _ (sl : Slots) (placed : plan.slots ≡ Some sl) (mem : MayInMemory k.period.slot k.tree c) (whole_fill : FillsWhole c)
+    module _ (sl : Slots) (placed : plan.slots ≡ Some sl) (mem : MayInMemory sl k.period.slot k.period.sought.retired k.tree c) (unlost : k.period.lost ≡ None) (whole_fill : FillsWhole c)
         (quiet : k.period.announced ≡ None → IsQuiet c) where
       has_words : (length s.words ≡ slots_size sl) × FieldsAreWhole h.tree.words
       has_words = subst (λ o. WordsAre o s.words h.tree.words) placed h.words
 
+      its_periods : PeriodsAre plan (Some sl) h.tree s
+      its_periods = subst (λ o. PeriodsAre plan o h.tree s) placed h.periods
+
       abbrev pub has : HasPeriods plan sl h.tree s
-      has = subst (λ o. PeriodsAre plan o h.tree s) placed h.periods
+      has = (subst (λ o. PeriodsAre plan o h.tree s) placed h.periods).0
 
       fit : SlotsFit plan (Some sl)
       fit = subst (SlotsFit plan) placed h.reached.starts.may.slots
@@ -287,24 +298,47 @@ module _ (plan : TablePlan) (s : WholeState) (h : IsWhole plan s) (id : ℕ) (k 
       }
 
       -- and if it noted the card whose flag it lost
-      noted_periods : (p : Period) → Notes c (found_by h.tree c) k.period p
+      noted_periods : (p : Period) → Notes plan.slots c (found_by h.tree c) k.period p
           → HasPeriods plan sl after (record { words = set s.words (place_of c) cut; homes = homes; views = set s.views id (noting p) })
-      noted_periods p (nothing is) =
+      noted_periods p (nothing is flags) =
           subst (λ q. HasPeriods plan sl after (record { words = set s.words (place_of c) cut; homes = homes; views = set s.views id (noting q) })) (sym is) tied_periods
       noted_periods p (loses d is flags unwon) =
           let at : get_elem? (set s.views id knows) id ≡ some knows = set_there s.views id knows k here in
           subst (λ q. HasPeriods plan sl after (record { words = set s.words (place_of c) cut; homes = homes; views = set s.views id (noting q) })) (sym is)
           (subst (λ l. HasPeriods plan sl after (record { words = set s.words (place_of c) cut; homes = homes; views = l })) (set_twice s.views id knows (noting (record k.period { lost = Some d })))
-          (lost_now plan sl after (memory_after h.tree s homes id k c) id knows at tied_periods d
-          (aside_in_ages plan sl h.tree s has.lie has.dead has.was_dead has.ages id k.tree tree_here c may (memory_after h.tree s homes id k c) tied_ages d flags unwon)))
+          (lost_now plan sl after (memory_after h.tree s homes id k c) id knows at tied_periods (Some d)
+          (λ e is. subst (IsAside tied_ages.ages.now.machine.stages after.views) (same_Some d e is) (aside_in_ages plan sl h.tree s has.lie has.dead has.was_dead has.ages id k.tree tree_here c may (memory_after h.tree s homes id k c) tied_ages d flags unwon))))
 
-      pub tied_whole : (p : Period) → Notes c (found_by h.tree c) k.period p → IsWhole plan (stepped s (place_of c) cut id [] (noting p) keeps)
+      -- by that no slot stays in use for nothing
+      noted_leaks : (p : Period) → Notes plan.slots c (found_by h.tree c) k.period p
+          → NothingLeaks sl (record { words = set s.words (place_of c) cut; homes = homes; views = set s.views id (noting p) }) after.views tied_ages.ages.now.machine.words tied_ages.ages.now.machine.stages has.lie
+      noted_leaks p notes =
+          leaks_after_call plan sl h.tree s id k here tree_here c may mem unlost has.ages.now.machine has.ages.now.uses tied_ages.ages.now.machine tied_ages.words tied_ages.later tied_ages.wins has.lie
+          its_periods.1 has.retired has.tied.fits has.tied.own (set s.words (place_of c) cut) homes (slots_stay s id k here (view_after h.tree k.tree c) sl (place_of c) cut tied_touch.inside) p (slotted notes) (lost_by notes)
+        where
+          slotted : Notes plan.slots c (found_by h.tree c) k.period p → p.slot ≡ k.period.slot
+          slotted (nothing is flags) = ap (λ (x : Period). x.slot) is
+          slotted (loses d is flags unwon) = ap (λ (x : Period). x.slot) is
+
+          lost_by : Notes plan.slots c (found_by h.tree c) k.period p → (d : ℕ) → FlagsCard c d → is_won (atomic_of c) (found_by h.tree c) ≡ false → p.lost ≡ Some d
+          lost_by (nothing is won) d flags unwon = absurd (false≢true (sym unwon ∙ won (λ none. some_not_none placed none) d flags))
+          lost_by (loses e is flags' unwon') d flags unwon = ap (λ (x : Period). x.lost) is ∙ ap Some (flags_one c e d flags' flags)
+
+      whole_periods : (p : Period) → Notes plan.slots c (found_by h.tree c) k.period p
+          → PeriodsAre plan (Some sl) after (record { words = set s.words (place_of c) cut; homes = homes; views = set s.views id (noting p) })
+      whole_periods p notes = by p notes
+        where
+          by : (p : Period) → Notes plan.slots c (found_by h.tree c) k.period p
+              → PeriodsAre plan (Some sl) after (record { words = set s.words (place_of c) cut; homes = homes; views = set s.views id (noting p) })
+          by p notes = (noted_periods p notes, noted_leaks p notes)
+
+      pub tied_whole : (p : Period) → Notes plan.slots c (found_by h.tree c) k.period p → IsWhole plan (stepped s (place_of c) cut id [] (noting p) keeps)
       tied_whole p notes = whole_after p (place_of c) cut
           (subst (λ o. WordsAre o (set s.words (place_of c) cut) after.words) (sym placed) (
             length-set s.words (place_of c) cut ∙ has_words.0,
             fields_after plan h.tree k.tree c may (named_more plan.last_card greatest_number h.reached.starts.may.limit k.tree tree_named) whole_fill has_words.1,
           ))
-          (subst (λ o. PeriodsAre plan o after (record { words = set s.words (place_of c) cut; homes = homes; views = set s.views id (noting p) })) (sym placed) (noted_periods p notes))
+          (subst (λ o. PeriodsAre plan o after (record { words = set s.words (place_of c) cut; homes = homes; views = set s.views id (noting p) })) (sym placed) (whole_periods p notes))
 
       pub tied_apart : IsApart plan (view_after h.tree k.tree c)
       tied_apart =
@@ -324,11 +358,15 @@ was_stored (e ∷ es) f x (latest _ _) = (e.1, latest e es)
 was_stored (e ∷ es) f x (earlier _ _ _ h) = let old = was_stored es f x h in (old.0, earlier (f, old.0) e es old.1)
 
 -- what a call that is shown asks of memory is what the call asks
-asks_whole : (slot : Option ℕ) (v : View) (c : Call) → MayInMemory slot (shown v) (shown_call c) → MayInMemory slot v c
-asks_whole slot v (call.Fill e f value) asks = asks
-asks_whole slot v (call.IFlag e p from) asks = (asks.0, λ f said. was_stored v.stores f (asks.1 f said).0 (asks.1 f said).1)
-asks_whole slot v (call.DFlag e gp from) asks = (asks.0, λ f said. was_stored v.stores f (asks.1 f said).0 (asks.1 f said).1)
-asks_whole slot v _ asks = tt
+asks_whole : (s : Slots) (slot : Option ℕ) (r : Retired) (v : View) (c : Call) → MayInMemory s slot r (shown v) (shown_call c) → MayInMemory s slot r v c
+asks_whole s slot r v (call.Fill e f value) asks = asks
+asks_whole s slot r v (call.IFlag e p from) asks = (asks.0, λ f said. was_stored v.stores f (asks.1 f said).0 (asks.1 f said).1)
+asks_whole s slot r v (call.DFlag e gp from) asks = (asks.0, λ f said. was_stored v.stores f (asks.1 f said).0 (asks.1 f said).1)
+asks_whole s slot r v (call.Claim e node_key) asks = asks
+asks_whole s slot r v call.Again asks = lets_go_whole s slot r v asks
+asks_whole s slot r v call.Leave asks = lets_go_whole s slot r v asks
+asks_whole s slot r v (call.Answer said) asks = lets_go_whole s slot r v asks
+asks_whole s slot r v _ asks = tt
 
 -- begins nothing that the call does not begin
 quiet_whole : (c : Call) → IsQuiet (shown_call c) → IsQuiet c
@@ -361,14 +399,18 @@ told_tied words tree (call.Fill e f value) told w finds same says = same tt (cut
 told_tied words tree c told w finds same says = subst (λ n. told n w) (sym finds) says
 
 -- and what the pass notes by the call that is shown it notes by the call
-notes_whole : (words : List ℕ) (tree : TableState) (c : Call) → FindsTied words tree c → CanBeShown c (found_by tree c) → (old new : Period)
-    → Notes (shown_call c) (get_or words (place_of c) 0) old new → Notes c (found_by tree c) old new
-notes_whole words tree c finds can old new (nothing is) = nothing is
-notes_whole words tree (call.IFlag e p from) finds can old new (loses d is flags unwon) =
+notes_whole : (o : Option Slots) (words : List ℕ) (tree : TableState) (c : Call) → FindsTied words tree c → CanBeShown c (found_by tree c) → (old new : Period)
+    → Notes o (shown_call c) (get_or words (place_of c) 0) old new → Notes o c (found_by tree c) old new
+notes_whole o words tree (call.IFlag e p from) finds can old new (nothing is won) =
+    nothing is (λ some d flags. sym can.wins ∙ (ap (is_won (atomic_of (call.IFlag e p from))) (sym finds) ∙ won some d flags))
+notes_whole o words tree (call.DFlag e gp from) finds can old new (nothing is won) =
+    nothing is (λ some d flags. sym can.wins ∙ (ap (is_won (atomic_of (call.DFlag e gp from))) (sym finds) ∙ won some d flags))
+notes_whole o words tree (call.IFlag e p from) finds can old new (loses d is flags unwon) =
     loses d is flags (sym can.wins ∙ (ap (is_won (atomic_of (call.IFlag e p from))) (sym finds) ∙ unwon))
-notes_whole words tree (call.DFlag e gp from) finds can old new (loses d is flags unwon) =
+notes_whole o words tree (call.DFlag e gp from) finds can old new (loses d is flags unwon) =
     loses d is flags (sym can.wins ∙ (ap (is_won (atomic_of (call.DFlag e gp from))) (sym finds) ∙ unwon))
-notes_whole words tree _ finds can old new (loses d is flags unwon) = absurd flags
+notes_whole o words tree _ finds can old new (nothing is won) = nothing is (λ some d flags. absurd flags)
+notes_whole o words tree _ finds can old new (loses d is flags unwon) = absurd flags
 
 -- what a step call does to the word that it finds: it leaves what is cut of what the call leaves, and without places all of that
 abbrev pub Does : (plan : TablePlan) → Call → (ℕ → ℕ) → Type 0
@@ -376,9 +418,9 @@ Does plan c f =
     (n : ℕ) → IsWord n → (f n ≡ cut_word (left_by (atomic_of c) n)) × (plan.slots ≡ None → f n ≡ left_by (atomic_of c) n)
 
 module _ (plan : TablePlan) (k : Known) (c : Call) (f : ℕ → ℕ) (told : ℕ → View → Type 0) (notes : ℕ → Period) (word : StoresWord c) (by_shown : May plan c (shown k.tree))
-    (mem : plan.slots ≢ None → MayInMemory k.period.slot (shown k.tree) c) (does : Does plan c f)
+    (mem : (s : Slots) → plan.slots ≡ Some s → MayInMemory s k.period.slot k.period.sought.retired (shown k.tree) c) (unlost : plan.slots ≢ None → k.period.lost ≡ None) (does : Does plan c f)
     (quiet : plan.slots ≢ None → k.period.announced ≡ None → IsQuiet c) (same : IsFill c → (n m : ℕ) (w : View) → told n w → told m w)
-    (tells : MayTell plan c (shown k.tree) told) (noted : (n : ℕ) → IsWord n → Notes c n k.period (notes n)) (id : ℕ) (s : WholeState) (h : IsWhole plan s) (here : get_elem? s.views id ≡ some k) (small : IsWord (get_or s.words (place_of c) 0)) where
+    (tells : MayTell plan c (shown k.tree) told) (noted : (n : ℕ) → IsWord n → Notes plan.slots c n k.period (notes n)) (id : ℕ) (s : WholeState) (h : IsWhole plan s) (here : get_elem? s.views id ≡ some k) (small : IsWord (get_or s.words (place_of c) 0)) where
   abbrev n : ℕ
   n = get_or s.words (place_of c) 0
 
@@ -424,11 +466,11 @@ module _ (plan : TablePlan) (k : Known) (c : Call) (f : ℕ → ℕ) (told : ℕ
       let some : plan.slots ≢ None = λ none. some_not_none placed none in
       let lift = guards_are_lifted plan c k.tree apart stores word by_shown in
       let whole = lift.origin in
-      let asks = asks_whole k.period.slot k.tree whole (subst (MayInMemory k.period.slot (shown k.tree)) (sym lift.is) (mem some)) in
+      let asks = asks_whole sl k.period.slot k.period.sought.retired k.tree whole (subst (MayInMemory sl k.period.slot k.period.sought.retired (shown k.tree)) (sym lift.is) (mem sl placed)) in
       let fills = fills_whole whole (subst StoresWord (sym lift.is) word) in
       let calm : k.period.announced ≡ None → IsQuiet whole = λ none. quiet_whole whole (subst IsQuiet (sym lift.is) (quiet some none)) in
-      let touch = tied_touch plan s h id k here whole lift.may lift.fills sl placed asks fills calm in
-      let can = tied_can plan s h id k here whole lift.may lift.fills sl placed asks fills calm in
+      let touch = tied_touch plan s h id k here whole lift.may lift.fills sl placed asks (unlost some) fills calm in
+      let can = tied_can plan s h id k here whole lift.may lift.fills sl placed asks (unlost some) fills calm in
       let acts = calls_act_alike whole (found_by h.tree whole) can in
       let place : place_of whole ≡ place_of c = sym acts.word ∙ ap place_of lift.is in
       let w = view_after h.tree k.tree whole in
@@ -441,15 +483,15 @@ module _ (plan : TablePlan) (k : Known) (c : Call) (f : ℕ → ℕ) (told : ℕ
         tt,
         subst (λ i. IsWhole plan (stepped s i (f n) id [] (record { tree = w; period = notes n }) keeps)) place
             (subst (λ m. IsWhole plan (stepped s (place_of whole) m id [] (record { tree = w; period = notes n }) keeps)) (sym leaves)
-            (tied_whole plan s h id k here whole lift.may lift.fills sl placed asks fills calm (notes n)
-            (notes_whole s.words h.tree whole touch.finds can k.period (notes n)
-            (subst (λ i. Notes (shown_call whole) (get_or s.words i 0) k.period (notes n)) (sym place) (subst (λ d. Notes d n k.period (notes n)) (sym lift.is) (noted n small)))))),
+            (tied_whole plan s h id k here whole lift.may lift.fills sl placed asks (unlost some) fills calm (notes n)
+            (notes_whole plan.slots s.words h.tree whole touch.finds can k.period (notes n)
+            (subst (λ i. Notes plan.slots (shown_call whole) (get_or s.words i 0) k.period (notes n)) (sym place) (subst (λ d. Notes plan.slots d n k.period (notes n)) (sym lift.is) (noted n small)))))),
         (
           subst (λ i. told (get_or s.words i 0) (shown w)) place
               (told_tied s.words h.tree whole told (shown w) touch.finds (λ fill a b. same (subst IsFill lift.is fill) a b (shown w))
               (tells h.tree h.reached id k.tree there refl apart whole lift.is lift.may can
-              (tied_placed plan s h id k here whole lift.may lift.fills sl placed asks fills calm)
-              (tied_apart plan s h id k here whole lift.may lift.fills sl placed asks fills calm))),
+              (tied_placed plan s h id k here whole lift.may lift.fills sl placed asks (unlost some) fills calm)
+              (tied_apart plan s h id k here whole lift.may lift.fills sl placed asks (unlost some) fills calm))),
           refl,
           refl,
         ),
@@ -461,12 +503,12 @@ module _ (plan : TablePlan) (k : Known) (c : Call) (f : ℕ → ℕ) (told : ℕ
 
 -- a step call of the tree, which a pass makes by what is shown of what it knows, is one of the table
 pub tree_step : (plan : TablePlan) (k : Known) (c : Call) (f : ℕ → ℕ) (told : ℕ → View → Type 0) (notes : ℕ → Period) → StoresWord c → May plan c (shown k.tree)
-    → (plan.slots ≢ None → MayInMemory k.period.slot (shown k.tree) c) → Does plan c f
+    → ((s : Slots) → plan.slots ≡ Some s → MayInMemory s k.period.slot k.period.sought.retired (shown k.tree) c) → (plan.slots ≢ None → k.period.lost ≡ None) → Does plan c f
     → (plan.slots ≢ None → k.period.announced ≡ None → IsQuiet c) → (IsFill c → (n m : ℕ) (w : View) → told n w → told m w) → MayTell plan c (shown k.tree) told
-    → ((n : ℕ) → IsWord n → Notes c n k.period (notes n))
+    → ((n : ℕ) → IsWord n → Notes plan.slots c n k.period (notes n))
     → (id : ℕ) → Allows (IsWhole plan) 0 id (k, []) (place_of c) f (λ n x. told n (shown x.0.tree) × (x.0.period ≡ notes n) × (x.1 ≡ []))
-tree_step plan k c f told notes word by_shown mem does quiet same tells noted id s h homes here small =
-    goes_by plan k c f told notes word by_shown mem does quiet same tells noted id s h here small plan.slots refl
+tree_step plan k c f told notes word by_shown mem unlost does quiet same tells noted id s h homes here small =
+    goes_by plan k c f told notes word by_shown mem unlost does quiet same tells noted id s h here small plan.slots refl
 
 -- what a load, a store and an exchange do
 pub load_does : (plan : TablePlan) (c : Call) → atomic_of c ≡ Load → Does plan c (λ n. n)
@@ -489,13 +531,23 @@ exchange_does plan c expected value x n small =
     all true same = same
     all false same = refl
 
--- a load stores nothing, and asks nothing of the slots
-pub load_asks : (c : Call) → atomic_of c ≡ Load → (slot : Option ℕ) (v : View) → MayInMemory slot v c
-load_asks (call.Fill e f value) is slot v = absurd cc
-load_asks (call.IFlag e p from) is slot v = absurd cc
-load_asks (call.DFlag e gp from) is slot v = absurd cc
-load_asks _ is slot v = tt
+-- a load sets no flag, nor does a store, nor a call that is known to set none
+pub load_flags : (c : Call) → atomic_of c ≡ Load → (d : ℕ) → FlagsCard c d → ⊥
+load_flags (call.IFlag e p from) is d flags = cc
+load_flags (call.DFlag e gp from) is d flags = cc
+load_flags _ is d flags = flags
 
+pub store_flags : (c : Call) (value : ℕ) → atomic_of c ≡ Store value → (d : ℕ) → FlagsCard c d → ⊥
+store_flags (call.IFlag e p from) value is d flags = cc
+store_flags (call.DFlag e gp from) value is d flags = cc
+store_flags _ value is d flags = flags
+
+pub none_flags : (c : Call) → FlagsNone c → (d : ℕ) → FlagsCard c d → ⊥
+none_flags (call.IFlag e p from) none d flags = none
+none_flags (call.DFlag e gp from) none d flags = none
+none_flags _ none d flags = flags
+
+-- a load stores nothing
 pub load_stores : (c : Call) → atomic_of c ≡ Load → IsFill c → ⊥
 load_stores (call.Fill e f value) is fill = absurd cc
 load_stores _ is fill = fill
@@ -515,9 +567,23 @@ child_exchanges plan c old node expected value at cut is inside few = record {
 }
 
 -- what a pass notes where it is to set a flag
-pub flag_notes : (c : Call) (d expected value n : ℕ) (old new : Period) → atomic_of c ≡ Exchange expected value → FlagsCard c d → new ≡ after_flagging (n == expected) d old → Notes c n old new
-flag_notes c d expected value n old new is flags notes = by (n == expected) refl notes
+pub flag_notes : (c : Call) (d expected value n : ℕ) (old new : Period) → atomic_of c ≡ Exchange expected value → FlagsCard c d → (o : Option Slots) → new ≡ after_flagging o (n == expected) d old → Notes o c n old new
+flag_notes c d expected value n old new is flags o notes = by o (n == expected) refl notes
   where
-    by : (b : Bool) → (n == expected) ≡ b → new ≡ after_flagging b d old → Notes c n old new
-    by true won notes = nothing notes
-    by false unwon notes = loses d notes flags (ap (λ a. is_won a n) is ∙ unwon)
+    by : (o : Option Slots) (b : Bool) → (n == expected) ≡ b → new ≡ after_flagging o b d old → Notes o c n old new
+    by None b won notes = nothing notes (λ some. absurd (some refl))
+    by (Some s) true won notes = nothing notes (λ some e flags'. ap (λ a. is_won a n) is ∙ won)
+    by (Some s) false unwon notes = loses d notes flags (ap (λ a. is_won a n) is ∙ unwon)
+
+-- a card that a pass is to flag is one whose slot it has taken, if there are places
+pub flag_taken : (plan : TablePlan) (p : PassModel) (c : Call) (d : ℕ) → May plan c p.view → MayInTable plan p c → FlagsCard c d → plan.slots ≢ None → p.slot ≡ Some d
+flag_taken plan p c d may kept flags there = by plan.slots refl
+  where
+    at : (s : Slots) (c : Call) → MayInMemory s p.slot p.sought.retired p.view c → FlagsCard c d → p.slot ≡ Some d
+    at s (call.IFlag e q from) mem flags = mem.0 ∙ ap Some (sym flags)
+    at s (call.DFlag e q from) mem flags = mem.0 ∙ ap Some (sym flags)
+    at s _ mem flags = absurd flags
+
+    by : (o : Option Slots) → plan.slots ≡ o → p.slot ≡ Some d
+    by None none = absurd (there none)
+    by (Some s) placed = at s c (kept s placed) flags

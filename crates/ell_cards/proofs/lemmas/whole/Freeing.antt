@@ -30,13 +30,17 @@ use Rattle.ell_cards.proofs.lemmas.shown.ShownDead.{place_whole, taken_out_whole
 use Rattle.ell_cards.proofs.lemmas.ties.Apart.{met_lies}
 use Rattle.ell_cards.proofs.lemmas.whole.Ages.{ages_of_period, noted_at, noted_same}
 use Rattle.ell_cards.proofs.lemmas.whole.Apart.{ready_there}
+use Rattle.ell_cards.specs.Tied.{HasWon}
+use Rattle.ell_cards.proofs.lemmas.ties.KnownWon.{known_dead_won}
 use Rattle.ell_cards.proofs.lemmas.ties.Periods.{tie_of_period}
-use Rattle.ell_cards.proofs.lemmas.whole.Going.{turned_to, behind, same_noted, same_again, goes_on_there}
+use Rattle.ell_cards.proofs.lemmas.whole.Leaks.{holds_so, leaks_same, leaks_turned}
+use Rattle.ell_cards.proofs.lemmas.whole.Going.{GoesTo, turned_to, behind, same_noted, same_again, goes_on_there}
 use Rattle.ell_cards.proofs.lemmas.whole.Retired.{retired_are, retired_of_period, retired_so}
 use Rattle.ell_cards.proofs.lemmas.whole.Steps.{word_again}
 use Rattle.ell_cards.proofs.lemmas.whole.Seats.{period_was, lie_same}
 use Rattle.ell_cards.proofs.lemmas.whole.Slots.{slot_read, card_stamped, slot_noted, slot_freed, lie_noted, lie_freed}
 use Rattle.ell_cards.proofs.lemmas.words.NotedBits.{few_noted}
+use Rattle.ell_cards.proofs.lemmas.words.Slotted.{slot_inside}
 
 -- a card lies in its slot by each word of its turn
 pub lies_by : (c slot n : ℕ) → slot ≡ slot_of c → turn_in n ≡ turn_of c → card_by slot n ≡ c
@@ -67,6 +71,11 @@ module _ (plan : TablePlan) (s : Slots) (tree : TableState) (t : WholeState) (id
   pub dead_by : (x : ℕ) → KnowsDeadNode k.tree x → OutNow x
   dead_by x knows = is_dead (known_dead_is_dead plan tree id k.tree there knows.0 x knows.1 h.ages.now.machine h.ages.now.uses.outs)
 
+  -- a card of which the pass knows a node dead has won its flag
+  known_won : (c i : ℕ) → i < 3 → KnowsDeadNode k.tree (4 * c + i) → HasWon h.ages.now.machine.stages c
+  known_won c i few knows =
+      subst (HasWon h.ages.now.machine.stages) (omega (arith, few)) (known_dead_won plan tree id k.tree there h.ages.now.machine knows.0 (4 * c + i) knows.1)
+
   -- a node's low bits say in which slot its card lies
   pub low_slot : (y x : ℕ) → cut_node y ≡ x → slot_of (card y) ≡ slot_of (card x)
   low_slot y x is = omega arith
@@ -92,9 +101,9 @@ module _ (plan : TablePlan) (s : Slots) (tree : TableState) (t : WholeState) (id
 
   -- it reads the word of a slot, whatever its search has read then, and it may have noted more
   pub reads_now : (slot : ℕ) → slot ≤ s.last → (sought : Seek) → HasRetired t.words sought.retired
-      → HasPeriods plan s tree (turned_to t id k (record (after_read slot (get_or t.words (slot_word s slot) 0) k.period) { sought = sought }) (slot_word s slot) (get_or t.words (slot_word s slot) 0))
+      → GoesTo plan s tree t h (turned_to t id k (record (after_read slot (get_or t.words (slot_word s slot) 0) k.period) { sought = sought }) (slot_word s slot) (get_or t.words (slot_word s slot) 0))
   reads_now slot inside sought mine =
-      let n = get_or t.words (slot_word s slot) 0 in record {
+      let n = get_or t.words (slot_word s slot) 0 in record { periods = record {
         lie = h.lie;
         lies = lie_same s h.lie t.words (set t.words (slot_word s slot) n) (λ other low. same_again plan s tree t id k here h size (slot_word s slot) (omega arith) other) h.lies;
         dead = h.dead;
@@ -113,7 +122,8 @@ module _ (plan : TablePlan) (s : Slots) (tree : TableState) (t : WholeState) (id
         retired = retired_of_period plan s tree h.ages.now.machine h.ages.now.uses t id k here (record (after_read slot n k.period) { sought = sought }) (set t.words (slot_word s slot) n) h.lie h.lie
             (λ x out is. same_slots (set t.words (slot_word s slot) n) same x is)
             (retired_then (set t.words (slot_word s slot) n) (λ x out is. same_slots (set t.words (slot_word s slot) n) same x is) sought.retired mine) h.retired;
-      }
+      }; leaks = λ was. leaks_same s t tree.views h.ages.now.machine.words h.ages.now.machine.stages h.lie was id k here (record (after_read slot n k.period) { sought = sought }) (set t.words (slot_word s slot) n)
+          (λ other low used. holds_so k (record (after_read slot n k.period) { sought = sought }) refl refl (h.lie other)) same }
     where
       now : ℕ
       now = get_or t.words (slot_word s slot) 0
@@ -133,9 +143,9 @@ module _ (plan : TablePlan) (s : Slots) (tree : TableState) (t : WholeState) (id
 
   -- it reads the clock for a card whose nodes it knows dead, or which it laid aside
   pub stamps_now : (c : ℕ) → MayStamp k c
-      → HasPeriods plan s tree (turned_to t id k (after_stamp c (get_or t.words (clock_word s) 0) k.period) (clock_word s) (get_or t.words (clock_word s) 0))
+      → GoesTo plan s tree t h (turned_to t id k (after_stamp c (get_or t.words (clock_word s) 0) k.period) (clock_word s) (get_or t.words (clock_word s) 0))
   stamps_now c may =
-      let n = get_or t.words (clock_word s) 0 in record {
+      let n = get_or t.words (clock_word s) 0 in record { periods = record {
         lie = h.lie;
         lies = lie_same s h.lie t.words (set t.words (clock_word s) n) (λ other low. same_again plan s tree t id k here h size (clock_word s) (omega arith) other) h.lies;
         dead = put h.dead c true;
@@ -153,7 +163,8 @@ module _ (plan : TablePlan) (s : Slots) (tree : TableState) (t : WholeState) (id
             less (λ q a at an. inl (at, an, λ d lives. lives)) (λ seat q a u other at placed an d lives. lives) t.homes;
         retired = retired_so plan s tree h.ages.now.machine h.ages.now.uses t id k here (after_stamp c n k.period) refl refl (set t.words (clock_word s) n) h.lie h.lie
             (λ x out is. same_slots (set t.words (clock_word s) n) same x is) h.retired;
-      }
+      }; leaks = λ was. leaks_same s t tree.views h.ages.now.machine.words h.ages.now.machine.stages h.lie was id k here (after_stamp c n k.period) (set t.words (clock_word s) n)
+          (λ other low used. holds_so k (after_stamp c n k.period) refl refl (h.lie other)) same }
     where
       same : (other : ℕ) → get_or (set t.words (clock_word s) (get_or t.words (clock_word s) 0)) (slot_word s other) 0 ≡ get_or t.words (slot_word s other) 0
       same = same_again plan s tree t id k here h size (clock_word s) (omega arith)
@@ -210,8 +221,9 @@ module _ (plan : TablePlan) (s : Slots) (tree : TableState) (t : WholeState) (id
       → HasRetired (set t.words (slot_word s slot) n) sought.retired → LieInSlots s (set t.words (slot_word s slot) n) h.lie
       → PeriodsAreSound s (turned_to t id k (record (k.period) { sought = sought }) (slot_word s slot) n) h.lie h.dead h.began h.was_dead
       → ((i : ℕ) → is_noted n i ≡ true → OutNow (4 * h.lie slot + i))
-      → HasPeriods plan s tree (turned_to t id k (record (k.period) { sought = sought }) (slot_word s slot) n)
-  turns_now slot n sought inside was keeps mine lies sound notes = record {
+      → (n % 8 ≢ 7 → (i : ℕ) → is_noted n i ≡ true → (is_noted (get_or t.words (slot_word s slot) 0) i ≡ true) ⊎ HasWon h.ages.now.machine.stages (h.lie slot))
+      → GoesTo plan s tree t h (turned_to t id k (record (k.period) { sought = sought }) (slot_word s slot) n)
+  turns_now slot n sought inside was keeps mine lies sound notes won = record { periods = record {
     lie = h.lie;
     lies = lies;
     dead = h.dead;
@@ -229,7 +241,8 @@ module _ (plan : TablePlan) (s : Slots) (tree : TableState) (t : WholeState) (id
         (λ q a at an. inl (at, an, λ c lives. lives)) (λ seat q a u other at placed an c lives. lives) t.homes;
     retired = retired_of_period plan s tree h.ages.now.machine h.ages.now.uses t id k here (record (k.period) { sought = sought }) (set t.words (slot_word s slot) n) h.lie h.lie
         (λ x out is. noted_then slot n inside was keeps x is) mine h.retired;
-  }
+  }; leaks = λ leaks. leaks_turned s t tree.views h.ages.now.machine.words h.ages.now.machine.stages h.lie leaks id k here (record (k.period) { sought = sought }) slot n inside (omega arith)
+      (λ other low used. holds_so k (record (k.period) { sought = sought }) refl refl (h.lie other)) (λ some. was) won keeps }
     where
       noted : (other i : ℕ) → other ≤ s.last → is_noted (get_or (set t.words (slot_word s slot) n) (slot_word s other) 0) i ≡ true → OutNow (4 * h.lie other + i)
       noted other i low is = elim (cases_eq other slot) [
@@ -247,13 +260,17 @@ module _ (plan : TablePlan) (s : Slots) (tree : TableState) (t : WholeState) (id
       → ((i : ℕ) → is_noted n i ≡ true → is_noted m i ≡ true)
       → ((i : ℕ) → is_noted m i ≡ true → (is_noted n i ≡ true) ⊎ KnowsDeadNode k.tree (4 * card_by slot n + i))
       → HasRetired (set t.words (slot_word s slot) m) sought.retired
-      → HasPeriods plan s tree (turned_to t id k (record (k.period) { sought = sought }) (slot_word s slot) m)
+      → GoesTo plan s tree t h (turned_to t id k (record (k.period) { sought = sought }) (slot_word s slot) m)
   notes_now slot n m sought inside is turn some_bit some_bit' more knows mine =
       turns_now slot m sought inside used (λ some i was. more i (subst (λ x. is_noted x i ≡ true) is was)) mine (lie_noted s h.lie t.words h.lies slot (omega arith) m used (turn ∙ ap turn_in (sym is)))
       (slot_noted s t id k here h.lie h.dead h.began h.was_dead h.periods size slot inside sought m used some_bit')
       (λ i noted. elim (knows i noted) [
         | inl was ↦ h.ages.noted slot i inside (subst (λ x. is_noted x i ≡ true) (sym is) was)
         | inr dead ↦ subst (λ c. OutNow (4 * c + i)) (sym lies_there) (dead_by (4 * card_by slot n + i) dead)
+      ])
+      (λ some i noted. elim (knows i noted) [
+        | inl was ↦ inl (subst (λ x. is_noted x i ≡ true) (sym is) was)
+        | inr dead ↦ inr (subst (HasWon h.ages.now.machine.stages) (sym lies_there) (known_won (card_by slot n) i (few_noted m i noted) dead))
       ])
     where
       used : get_or t.words (slot_word s slot) 0 % 8 ≢ 7
@@ -266,11 +283,12 @@ module _ (plan : TablePlan) (s : Slots) (tree : TableState) (t : WholeState) (id
   pub frees_now : (slot reading : ℕ) (sought : Seek) → slot ≤ s.last → (n : ℕ) → get_or t.words (slot_word s slot) 0 ≡ n → n % 8 ≢ 7
       → k.period.stamp ≡ Some (record { card = card_by slot n; reading = reading })
       → HasRetired (set t.words (slot_word s slot) (free_word reading)) sought.retired
-      → HasPeriods plan s tree (turned_to t id k (record (k.period) { sought = sought }) (slot_word s slot) (free_word reading))
+      → GoesTo plan s tree t h (turned_to t id k (record (k.period) { sought = sought }) (slot_word s slot) (free_word reading))
   frees_now slot reading sought inside n is some_bit has mine =
       turns_now slot (free_word reading) sought inside (λ e. some_bit (ap (λ x. x % 8) (sym is) ∙ e)) (λ some. absurd (some (omega arith))) mine (lie_freed s h.lie t.words h.lies slot (omega arith) reading)
       (slot_freed s t id k here h.lie h.dead h.began h.was_dead h.periods size slot inside sought reading (h.tied.own slot inside) stamp)
       (λ i noted. h.ages.now.each (h.lie slot) i (few_noted (free_word reading) i noted) dead)
+      (λ some. absurd (some (omega arith)))
     where
       lies_there : h.lie slot ≡ card_by slot n
       lies_there = h.lies slot inside (λ e. some_bit (ap (λ x. x % 8) (sym is) ∙ e)) ∙ ap (card_by slot) is
@@ -310,7 +328,7 @@ module _ (plan : TablePlan) (s : Slots) (placed : plan.slots ≡ Some s) (slot :
       subst (λ i. MayGoOn plan k i (λ n. n) (λ n p. p ≡ after_seek s begins for_delete c made n k.period)) (sym is)
       (goes_on_there plan s placed k (slot_word s slot) (λ n. n) (λ n p. p ≡ after_seek s begins for_delete c made n k.period) (λ t. after_seek s begins for_delete c made (get_or t.words (slot_word s slot) 0) k.period)
       (λ tree t id reached here there h size. (
-        subst (λ x. HasPeriods plan s tree (turned_to t id k (record (after_read x (get_or t.words (slot_word s slot) 0) k.period) { sought = now t }) (slot_word s slot) (get_or t.words (slot_word s slot) 0))) (sym lies)
+        subst (λ x. GoesTo plan s tree t h (turned_to t id k (record (after_read x (get_or t.words (slot_word s slot) 0) k.period) { sought = now t }) (slot_word s slot) (get_or t.words (slot_word s slot) 0))) (sym lies)
             (reads_now plan s tree t id k here there h size reached slot inside (now t)
             (λ d at hand. subst (λ r. AreRetired h.ages.now.machine.words d r (λ x. IsOut plan tree h.ages.now.machine h.ages.now.uses x × IsNotedThere s t.words h.lie x))
             (sym (sought_retired s begins for_delete c made (could_have s for_delete c (get_or t.words (slot_word s slot) 0) k.period.safe) k.period.sought)) (h.retired id d k here at hand))),
@@ -322,7 +340,11 @@ module _ (plan : TablePlan) (s : Slots) (placed : plan.slots ≡ Some s) (slot :
 
 -- a pass reads the clock for a card whose nodes it knows dead, or which it laid aside
 pub stamps_card : (plan : TablePlan) (s : Slots) → plan.slots ≡ Some s → (k : Known) (c : ℕ) → MayStamp k c
-    → MayGoOn plan k (clock_word s) (λ n. n) (λ n p. (p ≡ after_stamp c n k.period) × (n ≤ last_reading))
+    → MayGoOn plan k (clock_word s) (λ n. n) (λ n p. (p ≡ after_stamp c n k.period) × (n ≤ last_reading) × ((d : ℕ) → k.period.slot ≡ Some d → slot_of d ≤ s.last))
 stamps_card plan s placed k c may =
-    goes_on_there plan s placed k (clock_word s) (λ n. n) (λ n p. (p ≡ after_stamp c n k.period) × (n ≤ last_reading)) (λ t. after_stamp c (get_or t.words (clock_word s) 0) k.period)
-    (λ tree t id reached here there h size. (stamps_now plan s tree t id k here there h size reached c may, (refl, h.periods.low)))
+    goes_on_there plan s placed k (clock_word s) (λ n. n) (λ n p. (p ≡ after_stamp c n k.period) × (n ≤ last_reading) × ((d : ℕ) → k.period.slot ≡ Some d → slot_of d ≤ s.last))
+    (λ t. after_stamp c (get_or t.words (clock_word s) 0) k.period)
+    (λ tree t id reached here there h size. (
+      stamps_now plan s tree t id k here there h size reached c may,
+      (refl, h.periods.low, λ d at. slot_inside s.last d (h.tied.slotted id d k here at)),
+    ))

@@ -1,4 +1,4 @@
-use Rattle.std.proofs.Common.{◌≡◌, ◌≢◌, ℕ, zero, suc, ◌+◌, ◌*◌, ◌<◌, ◌≤◌, ◌==◌, true, Some, None, List, length, get_or, set, inl, inr, ◌⊎◌, refl, sym, ap, ◌∙◌, subst, arith, eq-eqb, ne_eqb, length-set, get_or-set_other}
+use Rattle.std.proofs.Common.{◌≡◌, ◌≢◌, ℕ, zero, suc, ◌+◌, ◌*◌, ◌<◌, ◌≤◌, ◌==◌, true, Some, None, List, [], ◌∷◌, length, get_or, set, inl, inr, ◌⊎◌, refl, sym, ap, ◌∙◌, subst, arith, eq-eqb, ne_eqb, length-set, get_or-set_other}
 use Rattle.std.proofs.lemmas.Bool.{cases_eq}
 use Rattle.std.proofs.lemmas.List.{map-set}
 use Rattle.std.proofs.lemmas.Option.{same_Some}
@@ -29,6 +29,8 @@ use Rattle.ell_cards.proofs.lemmas.ties.Apart.{tells_apart}
 use Rattle.ell_cards.proofs.lemmas.ties.Periods.{tie_of_period}
 use Rattle.ell_cards.proofs.lemmas.whole.Ages.{ages_of_period, noted_same}
 use Rattle.ell_cards.proofs.lemmas.whole.Apart.{ready_there}
+use Rattle.ell_cards.specs.Leaks.{NothingLeaks}
+use Rattle.ell_cards.proofs.lemmas.whole.Leaks.{holds_so, leaks_same}
 use Rattle.ell_cards.proofs.lemmas.whole.Retired.{retired_so}
 use Rattle.ell_cards.proofs.lemmas.whole.Seats.{before_clock, lie_same}
 use Rattle.ell_cards.proofs.lemmas.whole.Steps.{word_again, periods_sought, periods_read, periods_ticked, periods_seen, periods_announced, periods_retracted, periods_taken, periods_given, periods_released}
@@ -37,6 +39,18 @@ use Rattle.ell_cards.proofs.lemmas.whole.Trees.{tree_at}
 -- the table where a pass knows something else of periods, and a word became another one
 abbrev pub turned_to : WholeState → ℕ → Known → Period → ℕ → ℕ → WholeState
 turned_to t id k p i n = record { words = set t.words i n; homes = t.homes; views = set t.views id (record { tree = k.tree; period = p }) }
+
+-- the periods of a table where a step on their words leads on, by which no slot stays in use for nothing
+pub record GoesTo (plan : TablePlan) (s : Slots) (tree : TableState) (t : WholeState) (h : HasPeriods plan s tree t) (t' : WholeState) : Type 0 where
+  pub periods : HasPeriods plan s tree t'
+  pub leaks : NothingLeaks s t tree.views h.ages.now.machine.words h.ages.now.machine.stages h.lie
+      → NothingLeaks s t' tree.views periods.ages.now.machine.words periods.ages.now.machine.stages periods.lie
+
+-- the last of two that are put in one place
+pub set_twice : {A : Type 0} (l : List A) (i : ℕ) (a b : A) → set (set l i a) i b ≡ set l i b
+set_twice [] i a b = refl
+set_twice (x ∷ xs) zero a b = refl
+set_twice (x ∷ xs) (suc i) a b = ap (λ l. x ∷ l) (set_twice xs i a b)
 
 -- what a pass knows announced at its place was that before
 abbrev AnnouncesNoMore : Period → Period → Type 0
@@ -59,8 +73,8 @@ module _ (plan : TablePlan) (s : Slots) (tree : TableState) (t : WholeState) (id
       → p.sought.retired ≡ k.period.sought.retired
       → ((j : ℕ) → j < table_size s.last → get_or (set t.words i n) j 0 ≡ get_or t.words j 0)
       → ((slot : ℕ) → get_or (set t.words i n) (slot_word s slot) 0 ≡ get_or t.words (slot_word s slot) 0)
-      → PeriodsAreSound s (turned_to t id k p i n) h.lie h.dead h.began h.was_dead → HasPeriods plan s tree (turned_to t id k p i n)
-  going p i n was read lost taken retired cards same sound = record {
+      → PeriodsAreSound s (turned_to t id k p i n) h.lie h.dead h.began h.was_dead → GoesTo plan s tree t h (turned_to t id k p i n)
+  going p i n was read lost taken retired cards same sound = record { periods = record {
     lie = h.lie;
     lies = lie_same s h.lie t.words (set t.words i n) (λ slot low. same slot) h.lies;
     dead = h.dead;
@@ -80,7 +94,7 @@ module _ (plan : TablePlan) (s : Slots) (tree : TableState) (t : WholeState) (id
         (λ seat q a u other there at an c lives. lives) t.homes;
     retired = retired_so plan s tree h.ages.now.machine h.ages.now.uses t id k here p taken retired (set t.words i n) h.lie h.lie
         (λ x out is. noted_same plan s t.words (set t.words i n) h.lie (λ slot low. same slot) x is) h.retired;
-  }
+  }; leaks = λ was. leaks_same s t tree.views h.ages.now.machine.words h.ages.now.machine.stages h.lie was id k here p (set t.words i n) (λ slot low used. holds_so k p taken lost (h.lie slot)) same }
 
   -- a word is stored again
   pub same_again : length t.words ≡ slots_size s → (i : ℕ) → i < slots_size s → (slot : ℕ)
@@ -89,18 +103,18 @@ module _ (plan : TablePlan) (s : Slots) (tree : TableState) (t : WholeState) (id
 
   -- whatever the pass knows of what it sought, if it has noted no more
   pub seeks_now : length t.words ≡ slots_size s → (i : ℕ) → i < slots_size s → (sought : Seek) → sought.retired ≡ k.period.sought.retired
-      → HasPeriods plan s tree (turned_to t id k (record (k.period) { sought = sought }) i (get_or t.words i 0))
+      → GoesTo plan s tree t h (turned_to t id k (record (k.period) { sought = sought }) i (get_or t.words i 0))
   seeks_now size i inside sought retired =
       going (record (k.period) { sought = sought }) i (get_or t.words i 0) (λ q a at an. (at, an)) refl refl refl retired (λ j low. word_again t.words i (omega arith) j) (same_again size i inside)
       (periods_sought s t id k here h.lie h.dead h.began h.was_dead h.periods size i inside sought)
 
-  pub stays : length t.words ≡ slots_size s → (i : ℕ) → i < slots_size s → HasPeriods plan s tree (turned_to t id k k.period i (get_or t.words i 0))
+  pub stays : length t.words ≡ slots_size s → (i : ℕ) → i < slots_size s → GoesTo plan s tree t h (turned_to t id k k.period i (get_or t.words i 0))
   stays size i inside = seeks_now size i inside k.period.sought refl
 
   -- and after one begins
   pub begins_now : (q reading : ℕ) → k.period.place ≡ Some q → k.period.announced ≡ None → k.period.reading ≡ Some reading → length t.words ≡ slots_size s
-      → HasPeriods plan s tree (turned_to t id k (after_announce reading (get_or t.words (clock_word s) 0) k.period) (place_word s q) (reading + 2))
-  begins_now q reading placed quiet was size = record {
+      → GoesTo plan s tree t h (turned_to t id k (after_announce reading (get_or t.words (clock_word s) 0) k.period) (place_word s q) (reading + 2))
+  begins_now q reading placed quiet was size = record { periods = record {
     lie = h.lie;
     lies = lie_same s h.lie t.words (set t.words (place_word s q) (reading + 2)) (λ slot low. get_or-set_other t.words (place_word s q) (slot_word s slot) (reading + 2) 0 (λ e. omega arith)) h.lies;
     dead = h.dead;
@@ -125,7 +139,8 @@ module _ (plan : TablePlan) (s : Slots) (tree : TableState) (t : WholeState) (id
         t.homes;
     retired = retired_so plan s tree h.ages.now.machine h.ages.now.uses t id k here (after_announce reading (get_or t.words (clock_word s) 0) k.period) refl refl (set t.words (place_word s q) (reading + 2)) h.lie h.lie
         (λ x out is. noted_same plan s t.words (set t.words (place_word s q) (reading + 2)) h.lie same_slots x is) h.retired;
-  }
+  }; leaks = λ was. leaks_same s t tree.views h.ages.now.machine.words h.ages.now.machine.stages h.lie was id k here (after_announce reading (get_or t.words (clock_word s) 0) k.period) (set t.words (place_word s q) (reading + 2))
+      (λ slot low used. holds_so k (after_announce reading (get_or t.words (clock_word s) 0) k.period) refl refl (h.lie slot)) (λ slot. get_or-set_other t.words (place_word s q) (slot_word s slot) (reading + 2) 0 (λ e. omega arith)) }
     where
       same_slots : (slot : ℕ) → slot ≤ s.last → get_or (set t.words (place_word s q) (reading + 2)) (slot_word s slot) 0 ≡ get_or t.words (slot_word s slot) 0
       same_slots slot low = get_or-set_other t.words (place_word s q) (slot_word s slot) (reading + 2) 0 (λ e. omega arith)
@@ -139,14 +154,15 @@ module _ (plan : TablePlan) (s : Slots) (tree : TableState) (t : WholeState) (id
 -- a step on the words of the periods is one of the table
 module _ (plan : TablePlan) (s : Slots) (placed : plan.slots ≡ Some s) where
   pub goes_on_whole : (k : Known) (i : ℕ) (f : ℕ → ℕ) (told : ℕ → Period → Type 0) (p : WholeState → Period)
-      → ((tree : TableState) (t : WholeState) (id : ℕ) → IsReached plan tree → get_elem? t.views id ≡ some k → trees_of t.views ≡ tree.views → HasPeriods plan s tree t → length t.words ≡ slots_size s
-      → HasPeriods plan s tree (turned_to t id k (p t) i (f (get_or t.words i 0))) × told (get_or t.words i 0) (p t))
+      → ((tree : TableState) (t : WholeState) (id : ℕ) → IsReached plan tree → get_elem? t.views id ≡ some k → trees_of t.views ≡ tree.views → (h : HasPeriods plan s tree t) → length t.words ≡ slots_size s
+      → GoesTo plan s tree t h (turned_to t id k (p t) i (f (get_or t.words i 0))) × told (get_or t.words i 0) (p t))
       → MayGoOn plan k i f told
   goes_on_whole k i f told p step id t h homes here small =
       let has = subst (λ o. WordsAre o t.words h.tree.words) placed h.words in
       let n = get_or t.words i 0 in
       let now : Known = record { tree = k.tree; period = p t } in
-      let x = step h.tree t id h.reached here h.views (subst (λ o. PeriodsAre plan o h.tree t) placed h.periods) has.0 in (
+      let old = subst (λ o. PeriodsAre plan o h.tree t) placed h.periods in
+      let x = step h.tree t id h.reached here h.views old.0 has.0 in (
         now,
         keeps,
         tt,
@@ -157,22 +173,22 @@ module _ (plan : TablePlan) (s : Slots) (placed : plan.slots ≡ Some s) where
           homes = h.homes;
           stores = h.stores;
           words = subst (λ o. WordsAre o (set t.words i (f n)) h.tree.words) (sym placed) (length-set t.words i (f n) ∙ has.0, has.1);
-          periods = subst (λ o. PeriodsAre plan o h.tree (turned_to t id k (p t) i (f n))) (sym placed) x.0;
+          periods = subst (λ o. PeriodsAre plan o h.tree (turned_to t id k (p t) i (f n))) (sym placed) (x.0.periods, x.0.leaks old.1);
         },
         (x.1, refl, refl),
       )
 
   -- where only the pass's own view of the tree is asked for
   pub goes_on_there : (k : Known) (i : ℕ) (f : ℕ → ℕ) (told : ℕ → Period → Type 0) (p : WholeState → Period)
-      → ((tree : TableState) (t : WholeState) (id : ℕ) → IsReached plan tree → get_elem? t.views id ≡ some k → get_elem? tree.views id ≡ some k.tree → HasPeriods plan s tree t → length t.words ≡ slots_size s
-      → HasPeriods plan s tree (turned_to t id k (p t) i (f (get_or t.words i 0))) × told (get_or t.words i 0) (p t))
+      → ((tree : TableState) (t : WholeState) (id : ℕ) → IsReached plan tree → get_elem? t.views id ≡ some k → get_elem? tree.views id ≡ some k.tree → (h : HasPeriods plan s tree t) → length t.words ≡ slots_size s
+      → GoesTo plan s tree t h (turned_to t id k (p t) i (f (get_or t.words i 0))) × told (get_or t.words i 0) (p t))
       → MayGoOn plan k i f told
   goes_on_there k i f told p step = goes_on_whole k i f told p (λ tree t id reached here same. step tree t id reached here (ap (λ l. get_elem? l id) (sym same) ∙ tree_at t.views id k here))
 
   -- where nothing is asked of the tree
   goes_on : (k : Known) (i : ℕ) (f : ℕ → ℕ) (told : ℕ → Period → Type 0) (p : WholeState → Period)
-      → ((tree : TableState) (t : WholeState) (id : ℕ) → get_elem? t.views id ≡ some k → HasPeriods plan s tree t → length t.words ≡ slots_size s
-      → HasPeriods plan s tree (turned_to t id k (p t) i (f (get_or t.words i 0))) × told (get_or t.words i 0) (p t))
+      → ((tree : TableState) (t : WholeState) (id : ℕ) → get_elem? t.views id ≡ some k → (h : HasPeriods plan s tree t) → length t.words ≡ slots_size s
+      → GoesTo plan s tree t h (turned_to t id k (p t) i (f (get_or t.words i 0))) × told (get_or t.words i 0) (p t))
       → MayGoOn plan k i f told
   goes_on k i f told p step = goes_on_there k i f told p (λ tree t id reached here there. step tree t id here)
 
@@ -209,12 +225,12 @@ module _ (plan : TablePlan) (s : Slots) (placed : plan.slots ≡ Some s) where
       taken : (n : ℕ) → either (suc n == 0) 1 (suc n) ≡ suc n
       taken n = ap (λ b. either b 1 (suc n)) (ne_eqb (suc n) 0 (λ z. omega arith))
 
-      by : (tree : TableState) (t : WholeState) (id : ℕ) → get_elem? t.views id ≡ some k → HasPeriods plan s tree t → length t.words ≡ slots_size s → (n : ℕ) → get_or t.words (place_word s q) 0 ≡ n
-          → HasPeriods plan s tree (turned_to t id k (after_take q n k.period) (place_word s q) (either (n == 0) 1 n))
+      by : (tree : TableState) (t : WholeState) (id : ℕ) → get_elem? t.views id ≡ some k → (h : HasPeriods plan s tree t) → length t.words ≡ slots_size s → (n : ℕ) → get_or t.words (place_word s q) 0 ≡ n
+          → GoesTo plan s tree t h (turned_to t id k (after_take q n k.period) (place_word s q) (either (n == 0) 1 n))
       by tree t id here h size zero e = going plan s tree t id k here h (after_take q 0 k.period) (place_word s q) 1 (λ r a at an. (at, an)) refl refl refl refl (behind plan s tree t id k here h (place_word s q) 1 (omega arith)) (λ slot. get_or-set_other t.words (place_word s q) (slot_word s slot) 1 0 (λ e. omega arith))
           (periods_taken s t id k here h.lie h.dead h.began h.was_dead h.periods size q below e)
       by tree t id here h size (suc n) e =
-          subst (λ m. HasPeriods plan s tree (turned_to t id k k.period (place_word s q) m)) (e ∙ sym (taken n))
+          subst (λ m. GoesTo plan s tree t h (turned_to t id k k.period (place_word s q) m)) (e ∙ sym (taken n))
           (stays plan s tree t id k here h size (place_word s q) (omega arith))
 
   -- whatever place of the table a word is of
@@ -254,19 +270,19 @@ module _ (plan : TablePlan) (s : Slots) (placed : plan.slots ≡ Some s) where
       goes_on k (clock_word s) (λ n. either (n == reading) (reading + 1) n) (λ n p. p ≡ k.period) (λ t. k.period)
       (λ tree t id here h size. (by tree t id here h size (cases_eq (get_or t.words (clock_word s) 0) reading), refl))
     where
-      on : TableState → WholeState → ℕ → ℕ → Type 0
-      on tree t id n = HasPeriods plan s tree (turned_to t id k k.period (clock_word s) n)
+      on : (tree : TableState) (t : WholeState) → HasPeriods plan s tree t → ℕ → ℕ → Type 0
+      on tree t h id n = GoesTo plan s tree t h (turned_to t id k k.period (clock_word s) n)
 
-      by : (tree : TableState) (t : WholeState) (id : ℕ) → get_elem? t.views id ≡ some k → HasPeriods plan s tree t → length t.words ≡ slots_size s
+      by : (tree : TableState) (t : WholeState) (id : ℕ) → get_elem? t.views id ≡ some k → (h : HasPeriods plan s tree t) → length t.words ≡ slots_size s
           → (get_or t.words (clock_word s) 0 ≡ reading) ⊎ (get_or t.words (clock_word s) 0 ≢ reading)
-          → on tree t id (either (get_or t.words (clock_word s) 0 == reading) (reading + 1) (get_or t.words (clock_word s) 0))
+          → on tree t h id (either (get_or t.words (clock_word s) 0 == reading) (reading + 1) (get_or t.words (clock_word s) 0))
       by tree t id here h size (inl is) =
-          subst (on tree t id)
+          subst (on tree t h id)
           (ap (λ n. n + 1) is ∙ sym (ap (λ n. either (n == reading) (reading + 1) n) is ∙ ap (λ b. either b (reading + 1) reading) (eq-eqb reading reading refl)))
           (going plan s tree t id k here h k.period (clock_word s) (get_or t.words (clock_word s) 0 + 1) (λ q a at an. (at, an)) refl refl refl refl (behind plan s tree t id k here h (clock_word s) (get_or t.words (clock_word s) 0 + 1) (omega arith)) (λ slot. get_or-set_other t.words (clock_word s) (slot_word s slot) (get_or t.words (clock_word s) 0 + 1) 0 (λ e. omega arith))
           (periods_ticked s t id k here h.lie h.dead h.began h.was_dead h.periods size (omega arith)))
       by tree t id here h size (inr other) =
-          subst (on tree t id)
+          subst (on tree t h id)
           (sym (ap (λ b. either b (reading + 1) (get_or t.words (clock_word s) 0)) (ne_eqb (get_or t.words (clock_word s) 0) reading other)))
           (stays plan s tree t id k here h size (clock_word s) (omega arith))
 

@@ -1,50 +1,64 @@
 -- A pass that loses a flag has laid its card aside, and may note that.
-use Rattle.std.proofs.Common.{◌≡◌, ℕ, Bool, false, Some, nat_lt, set, inl, refl, subst}
+use Rattle.std.proofs.Common.{◌≡◌, ◌≢◌, ℕ, ◌+◌, ◌*◌, ◌%◌, ◌≤◌, ◌==◌, Bool, false, true, Option, Some, None, List, length, nat_lt, get_or, set, inl, inr, ◌⊎◌, refl, sym, ap, ◌∙◌, subst, arith, eq-eqb, ne_eqb, true≢false, length-set, get_or-set_same}
+use Rattle.std.proofs.lemmas.Bool.{cases_eq}
 use Rattle.std.proofs.lemmas.Option.{same_Some}
 use mathlib.Core.Option.{some}
 use lib.ListN.{get_elem?}
+use prog.Atomic.{either}
+use Rattle.ell_core.proofs.lemmas.outcomes.Decide.{some_not_none}
 use Rattle.ell_grace.specs.Dead.{HasUses}
-use Rattle.ell_cards.specs.Tied.{FlagsCard}
 use Rattle.ell_cards.specs.declared.call.Call.{Call}
 use Rattle.ell_cards.specs.declared.view.Known.{Known}
 use Rattle.ell_cards.specs.declared.view.Period.{Period}
 use Rattle.ell_cards.specs.declared.view.Slots.{Slots}
 use Rattle.ell_cards.specs.declared.view.View.{View}
-use Rattle.ell_cards.specs.Ages.{AgesAreSound, HasPeriods}
+use Rattle.ell_cards.specs.Ages.{IsOut, IsNotedThere, AreRetired, AgesAreSound, HasPeriods}
 use Rattle.ell_cards.specs.Aside.{IsAside}
 use Rattle.ell_cards.specs.Calls.{May, atomic_of, is_won}
 use Rattle.ell_cards.specs.Laws.{machine_of_table}
+use Rattle.ell_cards.specs.Leaks.{Holds, NothingLeaks}
+use Rattle.ell_cards.specs.Leaks.Holds.{waiting, lost}
 use Rattle.ell_cards.specs.Machines.{HasMachine}
 use Rattle.ell_cards.specs.Models.{TablePlan}
-use Rattle.ell_cards.specs.Periods.{WholeState, pending_by, HasPlace, own, spare, PeriodHolds, PeriodsAreSound, grace_of}
+use Rattle.ell_cards.specs.Periods.{WholeState, slot_word, slots_size, after_freeing, pending_by, HasPlace, own, spare, PeriodHolds, PeriodsAreSound, grace_of}
+use Rattle.ell_cards.specs.SlotWords.{card_by, free_word, is_noted, slot_of, turn_in, turn_of}
+use Rattle.ell_cards.specs.Starts.{IsReached}
 use Rattle.ell_cards.specs.States.{TableState}
+use Rattle.ell_cards.specs.Stepping.{MayGoOn}
+use Rattle.ell_cards.specs.Tied.{FlagsCard, HasWon}
 use Rattle.ell_cards.specs.Turns.{Makes, found_by, state_after}
 use Rattle.ell_cards.proofs.lemmas.runs.Aside.{lost_is_aside}
+use Rattle.ell_cards.proofs.lemmas.seats.Seats.{set_there}
 use Rattle.ell_cards.proofs.lemmas.ties.Periods.{tie_of_period}
 use Rattle.ell_cards.proofs.lemmas.whole.Ages.{Onward, AgesOn, ages_of_period}
+use Rattle.ell_cards.proofs.lemmas.whole.Freeing.{frees_now, noted_then}
+use Rattle.ell_cards.proofs.lemmas.whole.Going.{GoesTo, goes_on_there, set_twice, stays, turned_to}
+use Rattle.ell_cards.proofs.lemmas.whole.Leaks.{leaks_same}
 use Rattle.ell_cards.proofs.lemmas.whole.Retired.{retired_so}
 use Rattle.ell_cards.proofs.lemmas.whole.Seats.{part_same}
-use Rattle.ell_cards.proofs.lemmas.whole.Steps.{periods_after}
+use Rattle.ell_cards.proofs.lemmas.whole.Steps.{periods_after, word_again}
 use Rattle.ell_cards.proofs.lemmas.whole.Trees.{grace_same}
+use Rattle.ell_cards.proofs.lemmas.words.NotedBits.{unnoted}
+use Rattle.ell_cards.proofs.lemmas.words.Slotted.{slot_inside}
 
 -- in the state to which a call leads that loses a flag, its card was laid aside
 pub aside_onward : (plan : TablePlan) (s : TableState) (r : HasMachine plan s) (uses : HasUses (machine_of_table plan s r)) (seat : ℕ) (v : View)
     → get_elem? s.views seat ≡ some v → (c : Call) → May plan c v → (on : Onward plan s r uses (Makes seat c) (state_after s seat v c))
     → (d : ℕ) → FlagsCard c d → is_won (atomic_of c) (found_by s c) ≡ false → IsAside on.next.stages (state_after s seat v c).views d
-aside_onward plan s r uses seat v there c may on d flags lost = lost_is_aside plan s r seat v there c may d flags lost on.next on.later (on.wins d)
+aside_onward plan s r uses seat v there c may on d flags unwon = lost_is_aside plan s r seat v there c may d flags unwon on.next on.later (on.wins d)
 
 -- so it was by the ages after that call
 pub aside_in_ages : (plan : TablePlan) (s : Slots) (tree : TableState) (t : WholeState) (lie : ℕ → ℕ) (dead : ℕ → Bool) (was_dead : ℕ → ℕ → Bool)
     (h : AgesAreSound plan s tree t lie dead was_dead) (id : ℕ) (v : View) → get_elem? tree.views id ≡ some v → (c : Call) → May plan c v
     → (t' : WholeState) (on : AgesOn plan s tree t lie dead was_dead h (Makes id c) (state_after tree id v c) t')
     → (d : ℕ) → FlagsCard c d → is_won (atomic_of c) (found_by tree c) ≡ false → IsAside on.ages.now.machine.stages (state_after tree id v c).views d
-aside_in_ages plan s tree t lie dead was_dead h id v there c may t' on d flags lost =
-    lost_is_aside plan tree h.now.machine id v there c may d flags lost on.ages.now.machine on.later (on.wins d)
+aside_in_ages plan s tree t lie dead was_dead h id v there c may t' on d flags unwon =
+    lost_is_aside plan tree h.now.machine id v there c may d flags unwon on.ages.now.machine on.later (on.wins d)
 
 module _ (plan : TablePlan) (s : Slots) (tree : TableState) (t : WholeState) (id : ℕ) (k : Known) (here : get_elem? t.views id ≡ some k)
-    (h : HasPeriods plan s tree t) (c : ℕ) (aside : IsAside h.ages.now.machine.stages tree.views c) where
+    (h : HasPeriods plan s tree t) (o : Option ℕ) (aside : (c : ℕ) → o ≡ Some c → IsAside h.ages.now.machine.stages tree.views c) where
   abbrev noting : Period
-  noting = record k.period { lost = Some c }
+  noting = record k.period { lost = o }
 
   abbrev now : Known
   now = record { tree = k.tree; period = noting }
@@ -84,10 +98,10 @@ module _ (plan : TablePlan) (s : Slots) (tree : TableState) (t : WholeState) (id
   lost_ages = ages_of_period plan s tree t id k here now refl t.words h.lie h.lie h.dead h.dead h.was_dead h.was_dead h.ages
       h.ages.now.each h.ages.still (λ q a at an. h.ages.since id q a k here at an) (λ j q a u other at placed an. refl)
       h.ages.noted (λ x out is. is) (λ r has. h.ages.read id k r here has)
-      (λ d has. subst (IsAside h.ages.now.machine.stages tree.views) (same_Some c d has) aside)
+      aside
 
-  -- the pass notes the card that it has laid aside
-  pub lost_now : HasPeriods plan s tree after
+  -- the pass notes the card that it has laid aside, or that it has set free the slot of that
+  abbrev pub lost_now : HasPeriods plan s tree after
   lost_now = record {
     lie = h.lie;
     lies = h.lies;
@@ -100,3 +114,133 @@ module _ (plan : TablePlan) (s : Slots) (tree : TableState) (t : WholeState) (id
         (λ d lives. lives) (λ q a at an. inl (at, an, λ d lives. lives)) (λ seat q a u other at placed an d lives. lives) t.homes;
     retired = retired_so plan s tree h.ages.now.machine h.ages.now.uses t id k here noting refl refl t.words h.lie h.lie (λ x out is. is) h.retired;
   }
+
+-- A pass sets the slot free of a card that it has laid aside: nobody else knows of the card, so no node is noted in the slot's
+-- word.
+module _ (plan : TablePlan) (s : Slots) (tree : TableState) (t : WholeState) (id : ℕ) (k : Known) (here : get_elem? t.views id ≡ some k)
+    (h : HasPeriods plan s tree t) where
+  abbrev freed : Known
+  freed = record { tree = k.tree; period = after_freeing k.period }
+
+  -- where that card lies in no slot that is in use
+  unlost_now : (c : ℕ) → k.period.lost ≡ Some c
+      → (NothingLeaks s t tree.views h.ages.now.machine.words h.ages.now.machine.stages h.lie → (slot : ℕ) → slot ≤ s.last → get_or t.words (slot_word s slot) 0 % 8 ≢ 7 → h.lie slot ≡ c → ⊥)
+      → GoesTo plan s tree t h (record { words = t.words; homes = t.homes; views = set t.views id freed })
+  unlost_now c lost_it gone = record {
+    periods = lost_now plan s tree t id k here h None (λ d none. absurd (some_not_none none refl));
+    leaks = λ was. leaks_same s t tree.views h.ages.now.machine.words h.ages.now.machine.stages h.lie was id k here (after_freeing k.period) t.words
+        (λ slot low used holds. by was slot low used holds) (λ slot. refl);
+  }
+    where
+      by : NothingLeaks s t tree.views h.ages.now.machine.words h.ages.now.machine.stages h.lie → (slot : ℕ) → slot ≤ s.last → get_or t.words (slot_word s slot) 0 % 8 ≢ 7
+          → Holds k (h.lie slot) → Holds freed (h.lie slot)
+      by was slot low used (waiting at waits) = waiting at waits
+      by was slot low used (lost at) = absurd (gone was slot low used (sym (same_Some c (h.lie slot) (sym lost_it ∙ at))))
+
+  module _ (c : ℕ) (lost_it : k.period.lost ≡ Some c) (taken : k.period.slot ≡ Some c) where
+    abbrev in_slot : ℕ
+    in_slot = get_or t.words (slot_word s (slot_of c)) 0
+
+    -- its slot's word is this as long as it lies there
+    stands : NothingLeaks s t tree.views h.ages.now.machine.words h.ages.now.machine.stages h.lie → (slot : ℕ) → slot ≤ s.last → get_or t.words (slot_word s slot) 0 % 8 ≢ 7 → h.lie slot ≡ c
+        → in_slot ≡ 8 * turn_of c
+    stands was slot low used lies = by (get_or t.words (slot_word s slot) 0) refl
+      where
+        at : slot ≡ slot_of c
+        at = sym (h.tied.own slot low) ∙ ap slot_of lies
+
+        none : (i : ℕ) → is_noted (get_or t.words (slot_word s slot) 0) i ≡ true → ⊥
+        none i is = true≢false (sym (h.ages.lost id c k here lost_it).waits ∙ (subst (HasWon h.ages.now.machine.stages) lies (was.bits slot i low used is)).1)
+
+        turn_is : (slot n d : ℕ) → slot ≡ slot_of d → card_by slot n ≡ d → turn_in n ≡ turn_of d
+        turn_is slot n d at is = omega (arith, at, is)
+
+        whole : (n turn : ℕ) → n % 8 ≡ 0 → turn_in n ≡ turn → n ≡ 8 * turn
+        whole n turn low is = omega (arith, low, is)
+
+        by : (n : ℕ) → get_or t.words (slot_word s slot) 0 ≡ n → in_slot ≡ 8 * turn_of c
+        by n is =
+            let low_bits = unnoted (get_or t.words (slot_word s slot) 0) none in
+            let turn = turn_is slot (get_or t.words (slot_word s slot) 0) c at (sym (h.lies slot low used) ∙ lies) in
+            ap (λ x. get_or t.words (slot_word s x) 0) (sym at) ∙ whole (get_or t.words (slot_word s slot) 0) (turn_of c) low_bits turn
+
+-- so it sets the slot free
+module _ (plan : TablePlan) (s : Slots) (tree : TableState) (t : WholeState) (id : ℕ) (k : Known) (here : get_elem? t.views id ≡ some k)
+    (there : get_elem? tree.views id ≡ some k.tree) (h : HasPeriods plan s tree t) (size : length t.words ≡ slots_size s) (reached : IsReached plan tree) where
+  abbrev freed_then : Known
+  freed_then = record { tree = k.tree; period = after_freeing k.period }
+
+  module _ (c : ℕ) (lost_it : k.period.lost ≡ Some c) (taken : k.period.slot ≡ Some c) where
+    inside : slot_of c ≤ s.last
+    inside = slot_inside s.last c (h.tied.slotted id c k here taken)
+
+    abbrev found : ℕ
+    found = get_or t.words (slot_word s (slot_of c)) 0
+
+    -- it sets the slot free
+    frees_it : (reading : ℕ) → k.period.stamp ≡ Some (record { card = c; reading = reading }) → found ≡ 8 * turn_of c
+        → GoesTo plan s tree t h (turned_to t id k (after_freeing k.period) (slot_word s (slot_of c)) (free_word reading))
+    frees_it reading stamp is =
+        let card_is : card_by (slot_of c) (8 * turn_of c) ≡ c = omega arith in
+        let first = frees_now plan s tree t id k here there h size reached (slot_of c) reading k.period.sought inside (8 * turn_of c) is (λ full. omega arith)
+        (stamp ∙ ap (λ d. Some (record { card = d; reading = reading })) (sym card_is)) (λ d at hand. kept d at hand) in
+        let t1 = turned_to t id k k.period (slot_word s (slot_of c)) (free_word reading) in
+        let here1 = set_there t.views id k k here in
+        let second = unlost_now plan s tree t1 id k here1 first.periods c lost_it (λ was slot low used lies. gone first.periods slot low used lies) in
+        subst (λ l. GoesTo plan s tree t h (record { words = t1.words; homes = t.homes; views = l })) (set_twice t.views id k freed_then) (record { periods = second.periods; leaks = λ was. second.leaks (first.leaks was) })
+      where
+        W : List ℕ
+        W = set t.words (slot_word s (slot_of c)) (free_word reading)
+
+        keeps : (x : ℕ) → IsNotedThere s t.words h.lie x → IsNotedThere s W h.lie x
+        keeps x was = noted_then plan s tree t id k here there h size reached (slot_of c) (free_word reading) inside (λ full. absurd (by (ap (λ n. n % 8) (sym is) ∙ full))) (λ some. absurd (some (omega arith))) x was
+          where
+            by : 8 * turn_of c % 8 ≡ 7 → ⊥
+            by e = omega (arith, e)
+
+        kept : (d : ℕ) → k.period.slot ≡ Some d → k.tree.worker.card ≡ Some d
+            → AreRetired h.ages.now.machine.words d k.period.sought.retired (λ x. IsOut plan tree h.ages.now.machine h.ages.now.uses x × IsNotedThere s W h.lie x)
+        kept d at hand = let was = h.retired id d k here at hand in record {
+          parent = λ e. (let o = was.parent e in (o.0, keeps _ o.1));
+          leaf = λ e. (let o = was.leaf e in (o.0, keeps _ o.1));
+          own = λ i e. (let o = was.own i e in (o.0, keeps _ o.1));
+        }
+
+        -- the slot is free then
+        gone : (h1 : HasPeriods plan s tree (turned_to t id k k.period (slot_word s (slot_of c)) (free_word reading))) → (slot : ℕ) → slot ≤ s.last
+            → get_or W (slot_word s slot) 0 % 8 ≢ 7 → h1.lie slot ≡ c → ⊥
+        gone h1 slot low used lies =
+            let at : slot ≡ slot_of c = sym (h1.tied.own slot low) ∙ ap slot_of lies in
+            used (ap (λ x. get_or W (slot_word s x) 0 % 8) at ∙ (ap (λ n. n % 8) (get_or-set_same t.words (slot_word s (slot_of c)) (free_word reading) 0 (let low_slot = inside in omega arith)) ∙ omega arith))
+
+    -- or that was free already, or had another card
+    stays_so : found ≢ 8 * turn_of c → GoesTo plan s tree t h (turned_to t id k (after_freeing k.period) (slot_word s (slot_of c)) found)
+    stays_so other =
+        let first = stays plan s tree t id k here h size (slot_word s (slot_of c)) (let low = inside in omega arith) in
+        let t1 = turned_to t id k k.period (slot_word s (slot_of c)) found in
+        let here1 = set_there t.views id k k here in
+        let second = unlost_now plan s tree t1 id k here1 first.periods c lost_it
+        (λ was slot low used lies. same_not (stands plan s tree t1 id k here1 first.periods c lost_it taken was slot low used lies)) in
+        subst (λ l. GoesTo plan s tree t h (record { words = t1.words; homes = t.homes; views = l })) (set_twice t.views id k freed_then) (record { periods = second.periods; leaks = λ was. second.leaks (first.leaks was) })
+      where
+        same_not : get_or (set t.words (slot_word s (slot_of c)) found) (slot_word s (slot_of c)) 0 ≡ 8 * turn_of c → ⊥
+        same_not is = other (sym (word_again t.words (slot_word s (slot_of c)) (let low = inside in omega arith) (slot_word s (slot_of c))) ∙ is)
+
+-- that is a step of the table
+pub frees_aside : (plan : TablePlan) (s : Slots) → plan.slots ≡ Some s → (k : Known) (c reading : ℕ) → k.period.lost ≡ Some c → k.period.slot ≡ Some c
+    → k.period.stamp ≡ Some (record { card = c; reading = reading })
+    → MayGoOn plan k (slot_word s (slot_of c)) (λ x. either (x == 8 * turn_of c) (free_word reading) x) (λ x p. p ≡ after_freeing k.period)
+frees_aside plan s placed k c reading lost_it taken stamp =
+    goes_on_there plan s placed k (slot_word s (slot_of c)) (λ x. either (x == 8 * turn_of c) (free_word reading) x) (λ x p. p ≡ after_freeing k.period) (λ t. after_freeing k.period)
+    (λ tree t id reached here there h size. (by tree t id reached here there h size (cases_eq (get_or t.words (slot_word s (slot_of c)) 0) (8 * turn_of c)), refl))
+  where
+    after : (tree : TableState) (t : WholeState) → HasPeriods plan s tree t → (id : ℕ) → Bool → Type 0
+    after tree t h id b = GoesTo plan s tree t h (turned_to t id k (after_freeing k.period) (slot_word s (slot_of c)) (either b (free_word reading) (get_or t.words (slot_word s (slot_of c)) 0)))
+
+    by : (tree : TableState) (t : WholeState) (id : ℕ) → IsReached plan tree → get_elem? t.views id ≡ some k → get_elem? tree.views id ≡ some k.tree → (h : HasPeriods plan s tree t) → length t.words ≡ slots_size s
+        → (get_or t.words (slot_word s (slot_of c)) 0 ≡ 8 * turn_of c) ⊎ (get_or t.words (slot_word s (slot_of c)) 0 ≢ 8 * turn_of c)
+        → after tree t h id (get_or t.words (slot_word s (slot_of c)) 0 == 8 * turn_of c)
+    by tree t id reached here there h size (inl is) =
+        subst (after tree t h id) (sym (eq-eqb (get_or t.words (slot_word s (slot_of c)) 0) (8 * turn_of c) is)) (frees_it plan s tree t id k here there h size reached c lost_it taken reading stamp is)
+    by tree t id reached here there h size (inr other) =
+        subst (after tree t h id) (sym (ne_eqb (get_or t.words (slot_word s (slot_of c)) 0) (8 * turn_of c) other)) (stays_so plan s tree t id k here there h size reached c lost_it taken other)

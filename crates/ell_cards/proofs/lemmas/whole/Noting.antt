@@ -41,7 +41,7 @@ use Rattle.ell_cards.proofs.lemmas.views.DeadNodes.{both, of_either}
 use Rattle.ell_cards.proofs.lemmas.whole.Ages.{noted_as, noted_at}
 use Rattle.ell_cards.proofs.lemmas.whole.Apart.{ready_there}
 use Rattle.ell_cards.proofs.lemmas.whole.Freeing.{HasRetired, dead_by, frees_now, lies_by, low_slot, noted_then, notes_now, reads_now, taken_lies}
-use Rattle.ell_cards.proofs.lemmas.whole.Going.{turned_to, goes_on_there, stays}
+use Rattle.ell_cards.proofs.lemmas.whole.Going.{GoesTo, turned_to, goes_on_there, stays}
 use Rattle.ell_cards.proofs.lemmas.words.NotedBits.{all_some, done_by, few_noted, few_nodes, left_some, left_turn, left_used, notes_more}
 
 -- a node that the card in hand has taken out is that one's parent, if it is an internal node, or else its leaf
@@ -246,7 +246,7 @@ module _ (plan : TablePlan) (s : Slots) (tree : TableState) (t : WholeState) (id
 
   -- the pass reads the word
   pub notes_read : (taken_out : Bool) (c : ℕ) (nodes : CardNodes) → slot_of c ≤ s.last → MayRetire (shown k.tree) taken_out c nodes
-      → HasPeriods plan s tree (turned_to t id k (after_noting_read taken_out c nodes (word_now c) k.period) (slot_word s (slot_of c)) (word_now c))
+      → GoesTo plan s tree t h (turned_to t id k (after_noting_read taken_out c nodes (word_now c) k.period) (slot_word s (slot_of c)) (word_now c))
   notes_read taken_out c nodes inside may =
       reads_now plan s tree t id k here there h size reached (slot_of c) inside (retires_if (is_done taken_out c nodes (word_now c)) taken_out nodes k.period.sought)
       (by (is_done taken_out c nodes (word_now c)) refl)
@@ -258,7 +258,7 @@ module _ (plan : TablePlan) (s : Slots) (tree : TableState) (t : WholeState) (id
   -- and exchanges it for one that notes them too
   pub notes_them : (taken_out : Bool) (c : ℕ) (nodes : CardNodes) (n m : ℕ) → slot_of c ≤ s.last → MayRetire (shown k.tree) taken_out c nodes → MayNote k.tree taken_out c nodes n
       → NotesToo nodes n m → m % 8 ≢ 7 → word_now c ≡ n
-      → HasPeriods plan s tree (turned_to t id k (record (k.period) { sought = retires taken_out nodes k.period.sought }) (slot_word s (slot_of c)) m)
+      → GoesTo plan s tree t h (turned_to t id k (record (k.period) { sought = retires taken_out nodes k.period.sought }) (slot_word s (slot_of c)) m)
   notes_them taken_out c nodes n m inside may note too left is =
       notes_now plan s tree t id k here there h size reached (slot_of c) n m (retires taken_out nodes k.period.sought) inside is too.turn note.used left
       (λ i was. (too.each i).1 (inl was)) (λ i noted. elim ((too.each i).0 noted) [ inl was ↦ inl was | inr new ↦ inr (note.dead i new) ])
@@ -278,7 +278,7 @@ module _ (plan : TablePlan) (s : Slots) (tree : TableState) (t : WholeState) (id
   -- or it sets the slot free, as they are the last
   pub notes_last : (taken_out : Bool) (c : ℕ) (nodes : CardNodes) (n reading : ℕ) → slot_of c ≤ s.last → MayRetire (shown k.tree) taken_out c nodes → n % 8 ≢ 7
       → k.period.stamp ≡ Some (record { card = card_by (slot_of c) n; reading = reading }) → word_now c ≡ n
-      → HasPeriods plan s tree (turned_to t id k (record (k.period) { sought = retires taken_out nodes k.period.sought }) (slot_word s (slot_of c)) (free_word reading))
+      → GoesTo plan s tree t h (turned_to t id k (record (k.period) { sought = retires taken_out nodes k.period.sought }) (slot_word s (slot_of c)) (free_word reading))
   notes_last taken_out c nodes n reading inside may used stamp is =
       frees_now plan s tree t id k here there h size reached (slot_of c) reading (retires taken_out nodes k.period.sought) inside n is used stamp
       (retired_now taken_out c nodes may W keeps (λ d i has at own low lies used. absurd (used (ap (λ n. n % 8) (stands d at) ∙ omega arith))))
@@ -315,8 +315,8 @@ module _ (plan : TablePlan) (s : Slots) (placed : plan.slots ≡ Some s) (taken_
   Tells n found p = (p ≡ after_noting (found == n) taken_out c nodes found k.period) × MayNoteNext k.tree taken_out c nodes n found
 
   exchanges : (n m : ℕ) → k.period.read ≡ Some (record { slot = slot_of c; word = n }) → MayNote k.tree taken_out c nodes n
-      → ((tree : TableState) (t : WholeState) (id : ℕ) → IsReached plan tree → get_elem? t.views id ≡ some k → get_elem? tree.views id ≡ some k.tree → HasPeriods plan s tree t → length t.words ≡ slots_size s
-      → get_or t.words at 0 ≡ n → HasPeriods plan s tree (turned_to t id k (record (k.period) { sought = retires taken_out nodes k.period.sought }) at m))
+      → ((tree : TableState) (t : WholeState) (id : ℕ) → IsReached plan tree → get_elem? t.views id ≡ some k → get_elem? tree.views id ≡ some k.tree → (h : HasPeriods plan s tree t) → length t.words ≡ slots_size s
+      → get_or t.words at 0 ≡ n → GoesTo plan s tree t h (turned_to t id k (record (k.period) { sought = retires taken_out nodes k.period.sought }) at m))
       → MayGoOn plan k at (λ x. either (x == n) m x) (Tells n)
   exchanges n m read note wins =
       goes_on_there plan s placed k at (λ x. either (x == n) m x) (Tells n) (λ t. after_noting (get_or t.words at 0 == n) taken_out c nodes (get_or t.words at 0) k.period)
@@ -325,14 +325,14 @@ module _ (plan : TablePlan) (s : Slots) (placed : plan.slots ≡ Some s) (taken_
         (refl, notes_next plan s tree t id k here there h size reached taken_out c nodes placed inside may n read note),
       ))
     where
-      after : (tree : TableState) (t : WholeState) (id : ℕ) → Bool → Type 0
-      after tree t id b = HasPeriods plan s tree (turned_to t id k (after_noting b taken_out c nodes (get_or t.words at 0) k.period) at (either b m (get_or t.words at 0)))
+      after : (tree : TableState) (t : WholeState) → HasPeriods plan s tree t → (id : ℕ) → Bool → Type 0
+      after tree t h id b = GoesTo plan s tree t h (turned_to t id k (after_noting b taken_out c nodes (get_or t.words at 0) k.period) at (either b m (get_or t.words at 0)))
 
-      by : (tree : TableState) (t : WholeState) (id : ℕ) → IsReached plan tree → get_elem? t.views id ≡ some k → get_elem? tree.views id ≡ some k.tree → HasPeriods plan s tree t → length t.words ≡ slots_size s
-          → (get_or t.words at 0 ≡ n) ⊎ (get_or t.words at 0 ≢ n) → after tree t id (get_or t.words at 0 == n)
-      by tree t id reached here there h size (inl is) = subst (after tree t id) (sym (eq-eqb (get_or t.words at 0) n is)) (wins tree t id reached here there h size is)
+      by : (tree : TableState) (t : WholeState) (id : ℕ) → IsReached plan tree → get_elem? t.views id ≡ some k → get_elem? tree.views id ≡ some k.tree → (h : HasPeriods plan s tree t) → length t.words ≡ slots_size s
+          → (get_or t.words at 0 ≡ n) ⊎ (get_or t.words at 0 ≢ n) → after tree t h id (get_or t.words at 0 == n)
+      by tree t id reached here there h size (inl is) = subst (after tree t h id) (sym (eq-eqb (get_or t.words at 0) n is)) (wins tree t id reached here there h size is)
       by tree t id reached here there h size (inr other) =
-          subst (after tree t id) (sym (ne_eqb (get_or t.words at 0) n other)) (notes_read plan s tree t id k here there h size reached taken_out c nodes inside may)
+          subst (after tree t h id) (sym (ne_eqb (get_or t.words at 0) n other)) (notes_read plan s tree t id k here there h size reached taken_out c nodes inside may)
 
   -- it exchanges that word for one that notes the nodes too
   pub notes_nodes : (n m : ℕ) → k.period.read ≡ Some (record { slot = slot_of c; word = n }) → MayNote k.tree taken_out c nodes n → NotesToo nodes n m → m % 8 ≢ 7
@@ -346,33 +346,6 @@ module _ (plan : TablePlan) (s : Slots) (placed : plan.slots ≡ Some s) (taken_
       → MayGoOn plan k at (λ x. either (x == n) (free_word reading) x) (Tells n)
   frees_slot n reading read note stamp =
       exchanges n (free_word reading) read note (λ tree t id reached here there h size is. notes_last plan s tree t id k here there h size reached taken_out c nodes n reading inside may note.used stamp is)
-
--- a pass sets the slot free of a card that it has laid aside, if the slot's word is as it was
-pub frees_aside : (plan : TablePlan) (s : Slots) → plan.slots ≡ Some s → (slot : ℕ) → slot ≤ s.last → (k : Known) (n reading : ℕ) → n % 8 ≢ 7
-    → k.period.stamp ≡ Some (record { card = card_by slot n; reading = reading })
-    → MayGoOn plan k (slot_word s slot) (λ x. either (x == n) (free_word reading) x) (λ x p. p ≡ k.period)
-frees_aside plan s placed slot inside k n reading used stamp =
-    goes_on_there plan s placed k (slot_word s slot) (λ x. either (x == n) (free_word reading) x) (λ x p. p ≡ k.period) (λ t. k.period)
-    (λ tree t id reached here there h size. (by tree t id reached here there h size (cases_eq (get_or t.words (slot_word s slot) 0) n), refl))
-  where
-    after : (tree : TableState) (t : WholeState) (id : ℕ) → Bool → Type 0
-    after tree t id b = HasPeriods plan s tree (turned_to t id k k.period (slot_word s slot) (either b (free_word reading) (get_or t.words (slot_word s slot) 0)))
-
-    by : (tree : TableState) (t : WholeState) (id : ℕ) → IsReached plan tree → get_elem? t.views id ≡ some k → get_elem? tree.views id ≡ some k.tree → HasPeriods plan s tree t → length t.words ≡ slots_size s
-        → (get_or t.words (slot_word s slot) 0 ≡ n) ⊎ (get_or t.words (slot_word s slot) 0 ≢ n) → after tree t id (get_or t.words (slot_word s slot) 0 == n)
-    by tree t id reached here there h size (inl is) =
-        subst (after tree t id) (sym (eq-eqb (get_or t.words (slot_word s slot) 0) n is))
-        (frees_now plan s tree t id k here there h size reached slot reading k.period.sought inside n is used stamp
-        (λ d at hand. let was = h.retired id d k here at hand in record {
-          parent = λ e. (let o = was.parent e in (o.0, keeps _ o.1));
-          leaf = λ e. (let o = was.leaf e in (o.0, keeps _ o.1));
-          own = λ i e. (let o = was.own i e in (o.0, keeps _ o.1));
-        }))
-      where
-        keeps : (x : ℕ) → IsNotedThere s t.words h.lie x → IsNotedThere s (set t.words (slot_word s slot) (free_word reading)) h.lie x
-        keeps x was = noted_then plan s tree t id k here there h size reached slot (free_word reading) inside (λ full. used (ap (λ x. x % 8) (sym is) ∙ full)) (λ some. absurd (some (omega arith))) x was
-    by tree t id reached here there h size (inr other) =
-        subst (after tree t id) (sym (ne_eqb (get_or t.words (slot_word s slot) 0) n other)) (stays plan s tree t id k here h size (slot_word s slot) (omega arith))
 
 -- all three nodes of the card in a slot are noted by the word that a pass has read there, or known to be dead
 pub may_stamp : (k : Known) (taken_out : Bool) (c : ℕ) (nodes : CardNodes) (n slot : ℕ) → slot ≡ slot_of c → k.period.read ≡ Some (record { slot = slot_of c; word = n })
@@ -398,7 +371,7 @@ retired_nodes_are_noted plan s t placed h seat c k here slot hand = record {
 }
   where
     has : HasPeriods plan s h.tree t
-    has = subst (λ o. PeriodsAre plan o h.tree t) placed h.periods
+    has = (subst (λ o. PeriodsAre plan o h.tree t) placed h.periods).0
 
     there : get_elem? h.tree.views seat ≡ some k.tree
     there = ap (λ l. get_elem? l seat) (sym h.views) ∙ tree_at t.views seat k here

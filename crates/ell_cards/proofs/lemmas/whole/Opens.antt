@@ -22,7 +22,7 @@ use Rattle.ell_cards.specs.Ages.{is_beyond, ForgotWhen, AgesAreSound}
 use Rattle.ell_cards.specs.SlotWords.{slot_of, card_by, free_word, freed_by, is_noted}
 use Rattle.ell_cards.specs.States.{TableState}
 use Rattle.ell_cards.specs.Starts.{MayStart, SlotsFit, IsReached, most_places}
-use Rattle.ell_cards.proofs.lemmas.runs.Alive.{tables_have_uses}
+use Rattle.ell_cards.proofs.lemmas.runs.Alive.{start_uses}
 
 -- so many zeros are as many
 pub zeros_many : (n : ℕ) → length (replicate {A = ℕ} n 0) ≡ n
@@ -268,18 +268,17 @@ module _ (s : Slots) (given : ℕ) (cards all : List ℕ) (size : length cards �
         unsaid false q = refl
 
 -- what is out in it has numbers that no card has, and nobody is in a period
-pub first_ages : (plan : TablePlan) (s : Slots) (tree : TableState) → IsReached plan tree → (given : ℕ) (cards all : List ℕ) (size : length cards ≡ table_size s.last) (h : AreOpeningWords s given cards all)
+abbrev pub first_ages : (plan : TablePlan) (s : Slots) (tree : TableState) → StartIsKept plan tree → (given : ℕ) (cards all : List ℕ) (size : length cards ≡ table_size s.last) (h : AreOpeningWords s given cards all)
     → IsAtRest (first_of plan) → 1 ≤ s.places → plan.last_card ≤ greatest_number
     → AgesAreSound plan s tree (opening all [] (record { tree = first_of plan; period = period_by (Some s) })) (lies_opened given) out_opened (λ q x. false)
-first_ages plan s tree reached given cards all size h rest one most =
-    let has = tables_have_uses plan tree reached in record {
-      now = record { machine = has.0; uses = has.1; each = λ c k low is. is_beyond (let past = ltb-true greatest_number c is in omega arith) };
+first_ages plan s tree start given cards all size h rest one most = record {
+      now = record { machine = start.kept; uses = start_uses plan tree start; each = λ c k low is. is_beyond (let past = ltb-true greatest_number c is in omega arith) };
       still = λ q x is. absurd (false≢true is);
       since = λ i q a k at. alone s given cards all size h (first_of plan) rest one (λ j u. u.period.place ≡ Some q → u.period.announced ≡ Some a → IsAtRest u.tree ⊎ ForgotWhen plan tree j (λ x. false))
           (λ is an. inl rest) i k at;
       noted = λ slot k low is. is_beyond (let past = noted_opened given slot k (subst (λ n. is_noted n k ≡ true) (h.slots slot low) is) in omega arith);
       read = λ i k r at is. absurd (some_not_none is (alone s given cards all size h (first_of plan) rest one (λ j u. u.period.read ≡ None) refl i k at));
-      lost = λ i c k at. alone s given cards all size h (first_of plan) rest one (λ j u. u.period.lost ≡ Some c → IsAside has.0.stages tree.views c) (λ is. absurd (some_not_none is refl)) i k at;
+      lost = λ i c k at. alone s given cards all size h (first_of plan) rest one (λ j u. u.period.lost ≡ Some c → IsAside start.kept.stages tree.views c) (λ is. absurd (some_not_none is refl)) i k at;
     }
 
 pub whole_by : (o p : Option Slots) (n m : ℕ) (cards words : List ℕ) → AreWholeWords o n cards words → o ≡ p → n ≡ m → AreWholeWords p m cards words

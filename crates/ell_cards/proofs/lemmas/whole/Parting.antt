@@ -25,6 +25,7 @@ use Rattle.ell_cards.proofs.lemmas.shown.ShownViews.{unfilled_whole}
 use Rattle.ell_cards.proofs.lemmas.runs.Reaching.{reached_on}
 use Rattle.ell_cards.proofs.lemmas.whole.Rests.{is_at_rest}
 use Rattle.ell_cards.proofs.lemmas.whole.Retired.{retired_on}
+use Rattle.ell_cards.proofs.lemmas.whole.LeaksOfHandovers.{join_hands, join_holds, leaks_handed, split_hands, split_holds}
 use Rattle.ell_cards.proofs.lemmas.whole.Lifts.{unplanned_fits}
 use Rattle.ell_cards.proofs.lemmas.whole.Trees.{tree_at}
 
@@ -70,8 +71,8 @@ whole_splits plan k keys quiet may id s h here =
         → PeriodsAre plan o (state_split tree id k.tree keys)
         (record { words = s.words; homes = s.homes; views = set s.views id (record { tree = left_view keys k.tree; period = after_give k.period }) ++ record { tree = right_view keys k.tree; period = given_period k.period } ∷ [] })
     by tree there same None fit periods = tt
-    by tree there same (Some sl) fit h =
-        let tie = split_goes plan sl tree s h.lie h.dead h.was_dead (let low = fit.4 in omega arith) (record { ages = h.ages; tied = h.tied }) id k here there keys may.free may.may in record {
+    by tree there same (Some sl) fit (h, was) =
+        let tie = split_goes plan sl tree s h.lie h.dead h.was_dead (let low = fit.4 in omega arith) (record { ages = h.ages; tied = h.tied }) id k here there keys may.free may.may in (record {
           lie = h.lie;
           lies = h.lies;
           dead = h.dead;
@@ -82,12 +83,13 @@ whole_splits plan k keys quiet may id s h here =
           tied = tie.tied;
           retired = retired_on plan sl tree h.ages.now.machine h.ages.now.uses (state_split tree id k.tree keys) tie.on.ages.now.machine tie.on.ages.now.uses tie.on.words tie.on.out
               s (record { words = s.words; homes = s.homes; views = set s.views id (left_known keys k) ++ right_known keys k ∷ [] }) h.lie same (λ slot low. refl) (split_held s id k keys) h.retired;
-        }
+        }, leaks_handed plan sl tree (state_split tree id k.tree keys) s (set s.views id (left_known keys k) ++ right_known keys k ∷ []) h.ages.now.machine tie.on.ages.now.machine tie.on.words tie.on.later tie.on.wins h.lie was
+          (λ c. split_holds plan tree h.ages.now.machine s id k here there may.free c keys) (λ c. split_hands plan tree h.ages.now.machine s id k here there may.free c (left_view keys k.tree) (right_view keys k.tree)) s.homes)
 
 -- a join of the tree is a join of the table
-pub whole_joins : (plan : TablePlan) (k l : Known) → IsFree k.tree → IsFree l.tree
+pub whole_joins : (plan : TablePlan) (k l : Known) → IsFree k.tree → IsFree l.tree → l.period.lost ≡ None
     → (id other : ℕ) → Joins (IsWhole plan) id k other l (joined_known k l) spent_known
-whole_joins plan k l free other_free id other s h here aside there =
+whole_joins plan k l free other_free unlost id other s h here aside there =
     let ours : get_elem? h.tree.views id ≡ some k.tree = ap (λ v. get_elem? v id) (sym h.views) ∙ tree_at s.views id k here in
     let theirs : get_elem? s.views other ≡ some l = sym (set_else s.views id other (joined_known k l) aside) ∙ there in
     let tree : TableState = record { words = h.tree.words; homes = h.tree.homes; views = set (set h.tree.views id (joined_view k.tree l.tree)) other spent_view } in
@@ -119,9 +121,9 @@ whole_joins plan k l free other_free id other s h here aside there =
         → PeriodsAre plan o (state_joined tree id other k.tree l.tree)
         (record { words = s.words; homes = s.homes; views = set (set s.views id (joined_known k l)) other spent_known })
     by tree ours theirs same None fit periods there = tt
-    by tree ours theirs same (Some sl) fit h there =
+    by tree ours theirs same (Some sl) fit (h, was) there =
         let tie = join_goes plan sl tree s h.lie h.dead h.was_dead (let low = fit.4 in omega arith) (record { ages = h.ages; tied = h.tied }) id other k l here there ours theirs
-        (λ e. aside (sym e)) free other_free in record {
+        (λ e. aside (sym e)) free other_free in (record {
           lie = h.lie;
           lies = h.lies;
           dead = h.dead;
@@ -132,4 +134,6 @@ whole_joins plan k l free other_free id other s h here aside there =
           tied = tie.tied;
           retired = retired_on plan sl tree h.ages.now.machine h.ages.now.uses (state_joined tree id other k.tree l.tree) tie.on.ages.now.machine tie.on.ages.now.uses tie.on.words tie.on.out
               s (record { words = s.words; homes = s.homes; views = set (set s.views id (joined_known k l)) other spent_known }) h.lie same (λ slot low. refl) (join_held s id other k l) h.retired;
-        }
+        }, leaks_handed plan sl tree (state_joined tree id other k.tree l.tree) s (set (set s.views id (joined_known k l)) other spent_known) h.ages.now.machine tie.on.ages.now.machine tie.on.words tie.on.later tie.on.wins h.lie was
+          (λ c. join_holds plan tree h.ages.now.machine s id other k l here there ours theirs (λ e. aside (sym e)) free other_free unlost c)
+          (λ c. join_hands plan tree h.ages.now.machine s id other k l here there ours theirs (λ e. aside (sym e)) free other_free unlost c (joined_view k.tree l.tree) spent_view) s.homes)

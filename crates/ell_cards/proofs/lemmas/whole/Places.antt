@@ -1,21 +1,30 @@
-use Rattle.std.proofs.Common.{◌≡◌, ◌≢◌, ℕ, ◌≤◌, if◌then◌else◌, Bool, true, false, Option, Some, None, is_some, IfSome, refl, sym, ap, ◌∙◌, subst, arith, true≢false}
+use Rattle.std.proofs.Common.{◌≡◌, ◌≢◌, ℕ, ◌≤◌, ◌==◌, not, if◌then◌else◌, Bool, true, false, Option, Some, None, is_some, IfSome, refl, sym, ap, ◌∙◌, subst, arith, true≢false}
 use Rattle.ell_layout.specs.Layout.{table_size}
 use Rattle.ell_cards.specs.declared.pass.Standing.{Standing}
 use Rattle.ell_cards.specs.declared.view.Period.{Period}
 use Rattle.ell_cards.specs.Inside.{HasSlotThere, PlaceFits}
 use Rattle.ell_cards.specs.declared.view.Slots.{Slots}
 use Rattle.ell_cards.specs.Models.{TablePlan}
-use Rattle.ell_cards.specs.Periods.{StandsAs, after_flagging, after_give, after_take, given_period, joined_period, period_by, size_by, slots_size, whole_size}
+use Rattle.ell_cards.specs.Periods.{LostIs, StandsAs, after_flagging, after_give, after_take, given_period, joined_period, period_by, size_by, slots_size, whole_size}
 use Rattle.ell_core.proofs.lemmas.outcomes.Decide.{some_not_none}
 
 -- the code of a pass keeps its place where nothing changes
 pub same_place : (standing : Standing) (words words' : ℕ) (p p' : Period) → words' ≡ words → p' ≡ p → PlaceFits standing words p → PlaceFits standing words' p'
 same_place standing words words' p p' same is fits = subst (λ n. PlaceFits standing n p') (sym same) (subst (PlaceFits standing words) (sym is) fits)
 
+-- of two steps that leave its places both do
+pub stands_on : {a b c : Period} → StandsAs a b → StandsAs b c → StandsAs a c
+stands_on first second = record {
+  place = second.place ∙ first.place;
+  other = second.other ∙ first.other;
+  other_says = second.other_says ∙ first.other_says;
+  announced = second.announced ∙ first.announced;
+}
+
 -- so it does where its places stay, and what is announced there, and the safe number and the slot
-pub still_place : (standing : Standing) (words words' : ℕ) (p p' : Period) → words' ≡ words → StandsAs p p' → p'.safe ≡ p.safe → p'.slot ≡ p.slot
+pub still_place : (standing : Standing) (words words' : ℕ) (p p' : Period) → words' ≡ words → StandsAs p p' → p'.safe ≡ p.safe → p'.slot ≡ p.slot → p'.lost ≡ None
     → PlaceFits standing words p → PlaceFits standing words' p'
-still_place standing words words' p p' same stands safe slot fits = record {
+still_place standing words words' p p' same stands safe slot lost fits = record {
   place = stands.place ∙ fits.place;
   other = stands.other ∙ fits.other;
   announces = fits.announces ∙ ap is_some (sym stands.announced);
@@ -24,20 +33,38 @@ still_place standing words words' p p' same stands safe slot fits = record {
   some = λ s e. fits.some s (sym same ∙ e);
   slot = λ c is. subst (λ n. HasSlotThere n c) (sym same) (fits.slot c (sym slot ∙ is));
   safe = safe ∙ fits.safe;
+  lost = lost;
 }
 
 -- a pass that notes a card whose flag it lost has its place
-pub flagging_stands : (won : Bool) (c : ℕ) (p p' : Period) → p' ≡ after_flagging won c p → StandsAs p p' × (p'.safe ≡ p.safe) × (p'.slot ≡ p.slot)
-flagging_stands true c p p' is = (
-  record { place = ap (λ (x : Period). x.place) is; other = ap (λ (x : Period). x.other) is; other_says = ap (λ (x : Period). x.other_says) is; announced = ap (λ (x : Period). x.announced) is },
-  ap (λ (x : Period). x.safe) is,
-  ap (λ (x : Period). x.slot) is,
-)
-flagging_stands false c p p' is = (
-  record { place = ap (λ (x : Period). x.place) is; other = ap (λ (x : Period). x.other) is; other_says = ap (λ (x : Period). x.other_says) is; announced = ap (λ (x : Period). x.announced) is },
-  ap (λ (x : Period). x.safe) is,
-  ap (λ (x : Period). x.slot) is,
-)
+pub flagging_stands : (o : Option Slots) (won : Bool) (c : ℕ) (p p' : Period) → p' ≡ after_flagging o won c p → StandsAs p p' × (p'.safe ≡ p.safe) × (p'.slot ≡ p.slot)
+flagging_stands o won c p p' is = by o won is
+  where
+    still : p' ≡ p → StandsAs p p' × (p'.safe ≡ p.safe) × (p'.slot ≡ p.slot)
+    still is = (
+      record { place = ap (λ (x : Period). x.place) is; other = ap (λ (x : Period). x.other) is; other_says = ap (λ (x : Period). x.other_says) is; announced = ap (λ (x : Period). x.announced) is },
+      ap (λ (x : Period). x.safe) is,
+      ap (λ (x : Period). x.slot) is,
+    )
+
+    by : (o : Option Slots) (won : Bool) → p' ≡ after_flagging o won c p → StandsAs p p' × (p'.safe ≡ p.safe) × (p'.slot ≡ p.slot)
+    by None won is = still is
+    by (Some s) true is = still is
+    by (Some s) false is = (
+      record { place = ap (λ (x : Period). x.place) is; other = ap (λ (x : Period). x.other) is; other_says = ap (λ (x : Period). x.other_says) is; announced = ap (λ (x : Period). x.announced) is },
+      ap (λ (x : Period). x.safe) is,
+      ap (λ (x : Period). x.slot) is,
+    )
+
+-- it has lost that card's flag, if there are places
+pub flagging_lost : (o : Option Slots) (found expected c : ℕ) (p p' : Period) → p' ≡ after_flagging o (found == expected) c p → p.lost ≡ None → (o ≢ None → p.slot ≡ Some c)
+    → LostIs o (not (found == expected)) c p'
+flagging_lost o found expected c p p' is none taken = by o (found == expected) is taken
+  where
+    by : (o : Option Slots) (won : Bool) → p' ≡ after_flagging o won c p → (o ≢ None → p.slot ≡ Some c) → LostIs o (not won) c p'
+    by None won is taken = ap (λ (x : Period). x.lost) is ∙ none
+    by (Some s) true is taken = ap (λ (x : Period). x.lost) is ∙ none
+    by (Some s) false is taken = (ap (λ (x : Period). x.lost) is, ap (λ (x : Period). x.slot) is ∙ taken (λ e. some_not_none e refl))
 
 -- no table with places has the size of one without
 pub no_places : (words last : ℕ) (s : Slots) → words ≡ slots_size s → words ≡ table_size last → ⊥
@@ -62,6 +89,7 @@ first_place_fits None last words is = record {
   unsafe = λ other e. refl;
   some = λ s e none. no_places words last s e is;
   slot = λ c is. absurd (some_not_none is refl);
+  lost = refl;
 }
 first_place_fits (Some s) last words is = record {
   place = refl;
@@ -72,6 +100,7 @@ first_place_fits (Some s) last words is = record {
   unsafe = λ other e. refl;
   some = λ t e none. some_not_none refl none;
   slot = λ c is. absurd (some_not_none is refl);
+  lost = refl;
 }
 
 -- what a pass knows of periods after it looked for a place, and found this one, or none
@@ -82,6 +111,7 @@ pub record Found (o : Option Slots) (result : Option ℕ) (old new : Period) : T
   pub announced : new.announced ≡ old.announced
   pub safe : new.safe ≡ old.safe
   pub slot : new.slot ≡ old.slot
+  pub lost : new.lost ≡ old.lost
   pub placed : (q : ℕ) → result ≡ Some q → o ≢ None
 
 pub found_is : (o : Option Slots) (result : Option ℕ) (old new : Period) → old.other ≡ None → IfSome result (λ q. (new ≡ after_take q 0 old) × (o ≢ None)) → (result ≡ None → new ≡ old)
@@ -93,6 +123,7 @@ found_is o (Some r) old new none took lost = record {
   announced = ap (λ (p : Period). p.announced) took.0;
   safe = ap (λ (p : Period). p.safe) took.0;
   slot = ap (λ (p : Period). p.slot) took.0;
+  lost = ap (λ (p : Period). p.lost) took.0;
   placed = λ q is. took.1;
 }
 found_is o None old new none took lost =
@@ -103,6 +134,7 @@ found_is o None old new none took lost =
       announced = ap (λ (p : Period). p.announced) same;
       safe = ap (λ (p : Period). p.safe) same;
       slot = ap (λ (p : Period). p.slot) same;
+      lost = ap (λ (p : Period). p.lost) same;
       placed = λ q is. absurd (some_not_none is refl);
     }
 
@@ -118,6 +150,7 @@ left_place_fits was standing words words' o result old new same found kept fits 
   unsafe = λ last e. found.safe ∙ fits.unsafe last (sym same ∙ e);
   some = λ s e none. fits.some s (sym same ∙ e) (sym kept.0 ∙ none);
   slot = λ c is. subst (λ n. HasSlotThere n c) (sym same) (fits.slot c (sym found.slot ∙ is));
+  lost = found.lost ∙ fits.lost;
 }
 
 pub right_place_fits : (standing : Standing) (o : Option Slots) (last words : ℕ) (result : Option ℕ) (old new : Period) → words ≡ size_by o last → Found o result old new → (o ≢ None → result ≢ None)
@@ -131,6 +164,7 @@ right_place_fits standing o last words result old new size found each given = re
   unsafe = λ other e. refl;
   some = λ s e none. each (λ is. no_places words last s e (size ∙ ap (λ x. size_by x last) is)) (sym given.0 ∙ none);
   slot = λ c is. absurd (some_not_none is refl);
+  lost = refl;
 }
   where
     by : (o : Option Slots) (result : Option ℕ) → words ≡ size_by o last → ((q : ℕ) → result ≡ Some q → o ≢ None) → (other : ℕ) → words ≡ table_size other → result ≡ None
@@ -150,6 +184,7 @@ joined_place_fits standing words words' (Some q) p other new same is now fits = 
   unsafe = λ last e. fits.unsafe last (sym same ∙ e);
   some = λ s e. fits.some s (sym same ∙ e);
   slot = λ c taken. subst (λ n. HasSlotThere n c) (sym same) (fits.slot c taken);
+  lost = fits.lost;
 })
 joined_place_fits standing words words' None p other new same is now fits = subst (PlaceFits standing words') (sym now) (record {
   place = fits.place;
@@ -160,6 +195,7 @@ joined_place_fits standing words words' None p other new same is now fits = subs
   unsafe = λ last e. fits.unsafe last (sym same ∙ e);
   some = λ s e. fits.some s (sym same ∙ e);
   slot = λ c taken. subst (λ n. HasSlotThere n c) (sym same) (fits.slot c taken);
+  lost = fits.lost;
 })
 
 -- what is not there is nothing

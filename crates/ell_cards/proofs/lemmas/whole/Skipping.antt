@@ -10,6 +10,9 @@ use Rattle.ell_cards.specs.declared.view.Period.{Period}
 use Rattle.ell_cards.specs.declared.view.Slots.{Slots}
 use Rattle.ell_cards.specs.declared.view.View.{View}
 use Rattle.ell_cards.specs.Ages.{HasPeriods}
+use Rattle.ell_cards.specs.Holding.{HoldsWaiting}
+use Rattle.std.proofs.lemmas.Bool.{false≢true}
+use Rattle.std.proofs.lemmas.Option.{same_Some}
 use Rattle.ell_cards.specs.Calls.{after, May}
 use Rattle.ell_cards.specs.Changes.{ledger_keys, after_claim}
 use Rattle.ell_cards.specs.Guards.{MayClaim}
@@ -18,7 +21,7 @@ use Rattle.ell_cards.specs.Naming.{IsPlaced}
 use Rattle.ell_cards.specs.Periods.{whole_size, WholeState}
 use Rattle.ell_cards.specs.Apart.{IsApart}
 use Rattle.ell_cards.specs.Shown.{IsWord, cut_word, cut_planned, shown}
-use Rattle.ell_cards.specs.Skipping.{after_one, after_row, after_claimed_row, MayStepOn, RowTells}
+use Rattle.ell_cards.specs.Skipping.{after_one, after_row, after_claimed_row, IsFresh, MayStepOn, RowTells}
 use Rattle.ell_cards.specs.Starts.{SlotsFit}
 use Rattle.ell_cards.specs.Stepping.{IsInside, KeepsPass, SameShare, MayTell}
 use Rattle.ell_cards.specs.Turns.{found_by, state_after, view_after}
@@ -33,9 +36,10 @@ use Rattle.ell_cards.proofs.lemmas.shown.ShownGuards.{claim_whole}
 use Rattle.ell_cards.proofs.lemmas.shown.ShownViews.{named_shown, placed_shown}
 use Rattle.ell_cards.proofs.lemmas.ties.Placed.{placed_to}
 use Rattle.ell_cards.proofs.lemmas.views.Rows.{one_claims_on, row_keys, row_share}
-use Rattle.ell_cards.proofs.lemmas.whole.Calling.{set_twice, tree_here, tied_whole}
+use Rattle.ell_cards.proofs.lemmas.whole.Calling.{exchange_does, tree_here, tied_whole, tree_step}
 use Rattle.ell_cards.proofs.lemmas.whole.Calling.Notes.{nothing}
 use Rattle.ell_cards.proofs.lemmas.whole.Apart.{passes_tell_apart}
+use Rattle.ell_cards.proofs.lemmas.whole.Going.{set_twice}
 use Rattle.ell_cards.proofs.lemmas.whole.Places.{size_some}
 use Rattle.ell_cards.proofs.lemmas.words.Slotted.{slot_inside}
 
@@ -48,6 +52,24 @@ pub claims_on : (plan : TablePlan) → plan.flat ≡ true → (c node_key : ℕ)
     → May plan (call.Claim (c + 1) node_key) (after_one c node_key v)
 claims_on plan flat c node_key v room may = (one_claims_on (flat_from plan) (from_some plan flat) c node_key v may.0, room)
 
+-- a pass has taken no slot for a card in hand that it may lay aside
+abbrev pub LaysAside : Known → Type 0
+LaysAside k = (d : ℕ) → HoldsWaiting k.tree d → k.period.slot ≢ Some d
+
+-- the card for which it took a slot last comes before this one
+abbrev pub SlotIsBefore : Known → ℕ → Type 0
+SlotIsBefore k c = (d : ℕ) → k.period.slot ≡ Some d → d < c
+
+-- the card that was claimed has no slot yet
+aside_now : (c node_key : ℕ) (k : Known) → SlotIsBefore k c → LaysAside (record { tree = after_one c node_key k.tree; period = k.period })
+aside_now c node_key k before d waits at =
+    let same = same_Some c d waits.0 in
+    let low = before d at in
+    absurd (by same low)
+  where
+    by : c ≡ d → d < c → ⊥
+    by e low = omega (arith, e, low)
+
 -- the table where a pass knows something else of the tree, and the claim word is another one
 abbrev pub claimed_to : WholeState → ℕ → Known → View → ℕ → WholeState
 claimed_to t id k v n = record { words = set t.words 0 n; homes = t.homes; views = set t.views id (record { tree = v; period = k.period }) }
@@ -58,7 +80,7 @@ module _ (plan : TablePlan) (s : Slots) (placed : plan.slots ≡ Some s) where
   has_words t h = let all = (subst (λ o. WordsAre o t.words h.tree.words) placed h.words).0 in omega arith
 
   has_periods : (t : WholeState) (h : IsWhole plan t) → HasPeriods plan s h.tree t
-  has_periods t h = subst (λ o. PeriodsAre plan o h.tree t) placed h.periods
+  has_periods t h = (subst (λ o. PeriodsAre plan o h.tree t) placed h.periods).0
 
   -- a pass of the table names what is in the table
   pub whole_inside : (t : WholeState) → IsWhole plan t → (id : ℕ) (k : Known) → get_elem? t.views id ≡ some k → IsInside plan k.tree
@@ -74,39 +96,39 @@ module _ (plan : TablePlan) (s : Slots) (placed : plan.slots ≡ Some s) where
   pub whole_apart : (t : WholeState) → IsWhole plan t → (id : ℕ) (k : Known) → get_elem? t.views id ≡ some k → IsApart plan k.tree
   whole_apart t h id k here = passes_tell_apart plan t h id k here
 
-  module _ (t : WholeState) (h : IsWhole plan t) (id : ℕ) (k : Known) (here : get_elem? t.views id ≡ some k) where
+  module _ (t : WholeState) (h : IsWhole plan t) (id : ℕ) (k : Known) (here : get_elem? t.views id ≡ some k) (unlost : k.period.lost ≡ None) where
     -- the claim word of the tree is that of the table
     found : found_by h.tree call.Next ≡ get_or t.words 0 0
     found = sym (has_periods t h).tied.claim
 
     -- after a claim
-    claimed : (c node_key : ℕ) → May plan (call.Claim c node_key) k.tree → (won : Bool) → (get_or t.words 0 0 == c) ≡ won
+    claimed : (c node_key : ℕ) → May plan (call.Claim c node_key) k.tree → LaysAside k → (won : Bool) → (get_or t.words 0 0 == c) ≡ won
         → IsWhole plan (claimed_to t id k (after_claim won c node_key k.tree) (cut_word (if won then c + 1 else get_or t.words 0 0)))
-    claimed c node_key may won is =
+    claimed c node_key may aside won is =
         subst (λ b. IsWhole plan (claimed_to t id k (after_claim b c node_key k.tree) (cut_word (if b then c + 1 else get_or t.words 0 0)))) is
         (subst (λ n. IsWhole plan (claimed_to t id k (after_claim (n == c) c node_key k.tree) (cut_word (if n == c then c + 1 else n)))) found
-        (tied_whole plan t h id k here (call.Claim c node_key) may tt s placed tt tt (λ none. tt) k.period (nothing refl)))
+        (tied_whole plan t h id k here (call.Claim c node_key) may tt s placed aside unlost tt (λ none. tt) k.period (nothing refl (λ some d flags. absurd flags))))
 
-    pub claim_won : (c node_key : ℕ) → May plan (call.Claim c node_key) k.tree → get_or t.words 0 0 ≡ c
+    pub claim_won : (c node_key : ℕ) → May plan (call.Claim c node_key) k.tree → LaysAside k → get_or t.words 0 0 ≡ c
         → IsWhole plan (claimed_to t id k (after_claim true c node_key k.tree) (c + 1))
-    claim_won c node_key may is =
+    claim_won c node_key may aside is =
         let low = may.1 in
         let limit = h.reached.starts.may.limit in
         subst (λ n. IsWhole plan (claimed_to t id k (after_claim true c node_key k.tree) n)) (cut_same (c + 1) (omega arith))
-        (claimed c node_key may true (eq-eqb (get_or t.words 0 0) c is))
+        (claimed c node_key may aside true (eq-eqb (get_or t.words 0 0) c is))
 
-    pub claim_lost : (c node_key : ℕ) → May plan (call.Claim c node_key) k.tree → (get_or t.words 0 0 == c) ≡ false → IsWord (get_or t.words 0 0)
+    pub claim_lost : (c node_key : ℕ) → May plan (call.Claim c node_key) k.tree → LaysAside k → (get_or t.words 0 0 == c) ≡ false → IsWord (get_or t.words 0 0)
         → IsWhole plan (claimed_to t id k (after_claim false c node_key k.tree) (get_or t.words 0 0))
-    claim_lost c node_key may is word =
+    claim_lost c node_key may aside is word =
         subst (λ n. IsWhole plan (claimed_to t id k (after_claim false c node_key k.tree) n)) (cut_same (get_or t.words 0 0) word)
-        (claimed c node_key may false is)
+        (claimed c node_key may aside false is)
 
     -- after the claim word was read
     pub read_next : (n : ℕ) → get_or t.words 0 0 ≡ n → IsWord n → IsWhole plan (claimed_to t id k (after call.Next n k.tree) n)
     read_next n is word =
         subst (λ m. IsWhole plan (claimed_to t id k (after call.Next n k.tree) m)) (cut_same n word)
         (subst (λ m. IsWhole plan (claimed_to t id k (after call.Next m k.tree) (cut_word m))) (found ∙ is)
-        (tied_whole plan t h id k here call.Next tt tt s placed tt tt (λ none. tt) k.period (nothing refl)))
+        (tied_whole plan t h id k here call.Next tt tt s placed tt unlost tt (λ none. tt) k.period (nothing refl (λ some d flags. absurd flags))))
 
   -- what was written before at the claim word and in the seat is gone
   written_again : (t : WholeState) (id : ℕ) (k l : Known) (v : View) (a n : ℕ) → l.period ≡ k.period
@@ -119,29 +141,29 @@ module _ (plan : TablePlan) (s : Slots) (placed : plan.slots ≡ Some s) where
 
   module _ (flat : plan.flat ≡ true) where
     -- after a claim that was won, and the claim word read
-    pub one_on : (c node_key : ℕ) (t : WholeState) (h : IsWhole plan t) (id : ℕ) (k : Known) → get_elem? t.views id ≡ some k
+    pub one_on : (c node_key : ℕ) (t : WholeState) (h : IsWhole plan t) (id : ℕ) (k : Known) → get_elem? t.views id ≡ some k → k.period.lost ≡ None → LaysAside k
         → May plan (call.Claim c node_key) k.tree → get_or t.words 0 0 ≡ c → IsWhole plan (claimed_to t id k (after_one c node_key k.tree) (c + 1))
-    one_on c node_key t h id k here may is =
+    one_on c node_key t h id k here unlost aside may is =
         let low = may.1 in
         let limit = h.reached.starts.may.limit in
         let now : Known = record { tree = after_claim true c node_key k.tree; period = k.period } in
         subst (IsWhole plan) (written_again t id k now (after_one c node_key k.tree) (c + 1) (c + 1) refl)
-        (read_next (claimed_to t id k (after_claim true c node_key k.tree) (c + 1)) (claim_won t h id k here c node_key may is) id now
-        (set_there t.views id now k here) (c + 1) (get_or-set_same t.words 0 (c + 1) 0 (has_words t h)) (omega arith))
+        (read_next (claimed_to t id k (after_claim true c node_key k.tree) (c + 1)) (claim_won t h id k here unlost c node_key may aside is) id now
+        (set_there t.views id now k here) unlost (c + 1) (get_or-set_same t.words 0 (c + 1) 0 (has_words t h)) (omega arith))
 
     -- a row of claims
-    pub row_whole : (n c node_key : ℕ) (t : WholeState) (h : IsWhole plan t) (id : ℕ) (k : Known) → get_elem? t.views id ≡ some k
+    pub row_whole : (n c node_key : ℕ) (t : WholeState) (h : IsWhole plan t) (id : ℕ) (k : Known) → get_elem? t.views id ≡ some k → k.period.lost ≡ None → LaysAside k → SlotIsBefore k c
         → May plan (call.Claim c node_key) k.tree → get_or t.words 0 0 ≡ c → c + n ≤ plan.last_card
         → IsWhole plan (claimed_to t id k (after_row n c node_key k.tree) (c + n + 1))
-    row_whole zero c node_key t h id k here may is room =
-        subst (λ m. IsWhole plan (claimed_to t id k (after_claim true c node_key k.tree) m)) (omega arith) (claim_won t h id k here c node_key may is)
-    row_whole (suc n) c node_key t h id k here may is room =
+    row_whole zero c node_key t h id k here unlost aside before may is room =
+        subst (λ m. IsWhole plan (claimed_to t id k (after_claim true c node_key k.tree) m)) (omega arith) (claim_won t h id k here unlost c node_key may aside is)
+    row_whole (suc n) c node_key t h id k here unlost aside before may is room =
         let now : Known = record { tree = after_one c node_key k.tree; period = k.period } in
         let v = after_row n (c + 1) node_key (after_one c node_key k.tree) in
         subst (λ m. IsWhole plan (claimed_to t id k v m)) (omega arith)
         (subst (IsWhole plan) (written_again t id k now v (c + 1) (c + 1 + n + 1) refl)
-        (row_whole n (c + 1) node_key (claimed_to t id k (after_one c node_key k.tree) (c + 1)) (one_on c node_key t h id k here may is) id now
-        (set_there t.views id now k here) (claims_on plan flat c node_key k.tree (omega arith) may)
+        (row_whole n (c + 1) node_key (claimed_to t id k (after_one c node_key k.tree) (c + 1)) (one_on c node_key t h id k here unlost aside may is) id now
+        (set_there t.views id now k here) unlost (aside_now c node_key k before) (λ d at. (let low = before d at in omega arith)) (claims_on plan flat c node_key k.tree (omega arith) may)
         (get_or-set_same t.words 0 (c + 1) 0 (has_words t h)) (omega arith)))
 
 -- what was planned before a row of claims is gone after it
@@ -151,65 +173,80 @@ planned_anew (suc n) c node_key v = refl
 
 -- what is shown of what a pass knows after a row of claims
 module _ (plan : TablePlan) (s : Slots) (placed : plan.slots ≡ Some s) (flat : plan.flat ≡ true) where
-  row_shown : (n c node_key : ℕ) (t : WholeState) (h : IsWhole plan t) (id : ℕ) (k : Known) → get_elem? t.views id ≡ some k
+  row_shown : (n c node_key : ℕ) (t : WholeState) (h : IsWhole plan t) (id : ℕ) (k : Known) → get_elem? t.views id ≡ some k → k.period.lost ≡ None → LaysAside k → SlotIsBefore k c
       → May plan (call.Claim c node_key) k.tree → get_or t.words 0 0 ≡ c → c + n ≤ plan.last_card
       → shown (after_row n c node_key k.tree) ≡ cut_planned (after_row n c node_key (shown k.tree))
-  row_shown zero c node_key t h id k here may is room = claims_are_shown plan c node_key k.tree (whole_apart plan s placed t h id k here)
-  row_shown (suc n) c node_key t h id k here may is room =
+  row_shown zero c node_key t h id k here unlost aside before may is room = claims_are_shown plan c node_key k.tree (whole_apart plan s placed t h id k here)
+  row_shown (suc n) c node_key t h id k here unlost aside before may is room =
       let now : Known = record { tree = after_one c node_key k.tree; period = k.period } in
       let first : shown (after_one c node_key k.tree) ≡ cut_planned (after_one c node_key (shown k.tree)) =
       ap (after call.Next (c + 1)) (claims_are_shown plan c node_key k.tree (whole_apart plan s placed t h id k here)) in
-      row_shown n (c + 1) node_key (claimed_to t id k (after_one c node_key k.tree) (c + 1)) (one_on plan s placed flat c node_key t h id k here may is) id now
-      (set_there t.views id now k here) (claims_on plan flat c node_key k.tree (omega arith) may)
+      row_shown n (c + 1) node_key (claimed_to t id k (after_one c node_key k.tree) (c + 1)) (one_on plan s placed flat c node_key t h id k here unlost aside may is) id now
+      (set_there t.views id now k here) unlost (aside_now c node_key k before) (λ d at. (let low = before d at in omega arith)) (claims_on plan flat c node_key k.tree (omega arith) may)
       (get_or-set_same t.words 0 (c + 1) 0 (has_words plan s placed t h)) (omega arith)
       ∙ ap cut_planned (ap (after_row n (c + 1) node_key) first ∙ planned_anew n (c + 1) node_key (after_one c node_key (shown k.tree)))
 
 -- a pass takes all numbers from its next one to a last one, or loses the claim
-module _ (plan : TablePlan) (s : Slots) (placed : plan.slots ≡ Some s) (flat : plan.flat ≡ true) (v : View) (first last node_key : ℕ) (order : first ≤ last) (room : last ≤ plan.last_card) (may : MayClaim (flat_from plan) v first node_key) where
-  module _ (k : Known) (is : shown k.tree ≡ v) (id : ℕ) (t : WholeState) (h : IsWhole plan t) (here : get_elem? t.views id ≡ some k) (small : IsWord (get_or t.words 0 0)) where
+module _ (plan : TablePlan) (s : Slots) (placed : plan.slots ≡ Some s) (flat : plan.flat ≡ true) (p : PassModel) (first last node_key : ℕ) (order : first ≤ last) (room : last ≤ plan.last_card) (may : MayClaim (flat_from plan) p.view first node_key)
+    (lays : (d : ℕ) → HoldsWaiting p.view d → p.slot ≢ Some d) where
+  abbrev v : View
+  v = p.view
+
+  module _ (k : Known) (is : shown k.tree ≡ p.view) (slotted : k.period.slot ≡ p.slot) (unlost : k.period.lost ≡ None) (id : ℕ) (t : WholeState) (h : IsWhole plan t) (here : get_elem? t.views id ≡ some k) (small : IsWord (get_or t.words 0 0)) where
     abbrev n : ℕ
     n = get_or t.words 0 0
 
     abbrev Goes : Bool → Type 0
     Goes b = (w : Known) × (a : Act (Unit {0})) × Valid t.homes [] a × IsWhole plan (stepped t 0 (either b (last + 1) n) id [] w a)
-        × (((shown w.tree ≡ after_claimed_row b first last node_key v) × IsInside plan (shown w.tree)) × (w.period ≡ k.period) × (carried_after {S = Unit {0}} [] a ≡ []))
+        × (((shown w.tree ≡ after_claimed_row b first last node_key v) × IsInside plan (shown w.tree) × IsFresh plan p.slot b last) × (w.period ≡ k.period) × (carried_after {S = Unit {0}} [] a ≡ []))
 
     by_tree : May plan (call.Claim first node_key) k.tree
     by_tree = (claim_whole plan k.tree (whole_apart plan s placed t h id k here) first node_key (subst (λ u. MayClaim (flat_from plan) u first node_key) (sym is) may), omega arith)
 
-    goes : (b : Bool) (w : View) → IsWhole plan (claimed_to t id k w (either b (last + 1) n)) → shown w ≡ after_claimed_row b first last node_key v → Goes b
-    goes b w whole shows =
+    aside : LaysAside k
+    aside d waits at = lays d (ap (λ (u : View). u.worker.card) (sym is) ∙ waits.0, ap (λ (u : View). u.worker.flagged) (sym is) ∙ waits.1) (sym slotted ∙ at)
+
+    before : n ≡ first → SlotIsBefore k first
+    before won d at = subst (λ m. d < m) won ((has_periods plan s placed t h).tied.past id d k here at)
+
+    goes : (b : Bool) (w : View) → IsWhole plan (claimed_to t id k w (either b (last + 1) n)) → shown w ≡ after_claimed_row b first last node_key v → IsFresh plan p.slot b last → Goes b
+    goes b w whole shows fresh =
         let now : Known = record { tree = w; period = k.period } in
         let names = whole_inside plan s placed (claimed_to t id k w (either b (last + 1) n)) whole id now (set_there t.views id now k here) in
-        (now, keeps, tt, whole, ((shows, (named_shown plan.last_card w names.0, placed_shown _ w names.1)), refl, refl))
+        (now, keeps, tt, whole, ((shows, (named_shown plan.last_card w names.0, placed_shown _ w names.1), fresh), refl, refl))
 
     by : (b : Bool) → (n == first) ≡ b → Goes b
     by true won =
         goes true (after_row (last - first) first node_key k.tree)
         (subst (λ m. IsWhole plan (claimed_to t id k (after_row (last - first) first node_key k.tree) m)) (omega arith)
-        (row_whole plan s placed flat (last - first) first node_key t h id k here by_tree (eqb-true n first won) (omega arith)))
-        (row_shown plan s placed flat (last - first) first node_key t h id k here by_tree (eqb-true n first won) (omega arith)
+        (row_whole plan s placed flat (last - first) first node_key t h id k here unlost aside (before (eqb-true n first won)) by_tree (eqb-true n first won) (omega arith)))
+        (row_shown plan s placed flat (last - first) first node_key t h id k here unlost aside (before (eqb-true n first won)) by_tree (eqb-true n first won) (omega arith)
         ∙ ap (λ u. cut_planned (after_row (last - first) first node_key u)) is)
+        (λ there yes at. (let low = before (eqb-true n first won) last (slotted ∙ at) in omega arith))
     by false lost =
-        goes false (after_claim false first node_key k.tree) (claim_lost plan s placed t h id k here first node_key by_tree lost small)
-        (ap (after_claim false first node_key) is)
+        goes false (after_claim false first node_key k.tree) (claim_lost plan s placed t h id k here unlost first node_key by_tree aside lost small)
+        (ap (after_claim false first node_key) is) (λ there yes. absurd (false≢true yes))
 
-  pub row_goes : MayStepOn plan v 0 (λ n. either (n == first) (last + 1) n) (RowTells plan first last node_key v)
-  row_goes k is id t h homes here small = by k is id t h here small (get_or t.words 0 0 == first) refl
+  pub row_goes : MayStepOn plan p 0 (λ n. either (n == first) (last + 1) n) (RowTells plan first last node_key p)
+  row_goes k is slotted unlost id t h homes here small = by k is slotted unlost id t h here small (get_or t.words 0 0 == first) refl
 
 -- whichever places there are
-pub row_goes_any : (plan : TablePlan) → plan.slots ≢ None → plan.flat ≡ true → (v : View) (first last node_key : ℕ) → first ≤ last → last ≤ plan.last_card
-    → MayClaim (flat_from plan) v first node_key → MayStepOn plan v 0 (λ n. either (n == first) (last + 1) n) (RowTells plan first last node_key v)
-row_goes_any plan there flat v first last node_key order room may = by plan.slots refl
+pub row_goes_any : (plan : TablePlan) → plan.slots ≢ None → plan.flat ≡ true → (p : PassModel) (first last node_key : ℕ) → first ≤ last → last ≤ plan.last_card
+    → MayClaim (flat_from plan) p.view first node_key → ((d : ℕ) → HoldsWaiting p.view d → p.slot ≢ Some d)
+    → MayStepOn plan p 0 (λ n. either (n == first) (last + 1) n) (RowTells plan first last node_key p)
+row_goes_any plan there flat p first last node_key order room may lays = by plan.slots refl
   where
-    by : (o : Option Slots) → plan.slots ≡ o → MayStepOn plan v 0 (λ n. either (n == first) (last + 1) n) (RowTells plan first last node_key v)
+    by : (o : Option Slots) → plan.slots ≡ o → MayStepOn plan p 0 (λ n. either (n == first) (last + 1) n) (RowTells plan first last node_key p)
     by None none = absurd (there none)
-    by (Some s) placed = row_goes plan s placed flat v first last node_key order room may
+    by (Some s) placed = row_goes plan s placed flat p first last node_key order room may lays
 
 -- the pass has the keys and the share that it had, and names what is in the table
-pub row_keeps_pass : (plan : TablePlan) (v : View) (first last node_key : ℕ) → KeepsPass plan v (RowTells plan first last node_key v)
-row_keeps_pass plan v first last node_key n w h = by (n == first) h.0
+pub row_keeps_pass : (plan : TablePlan) (p : PassModel) (first last node_key : ℕ) → KeepsPass plan p.view (RowTells plan first last node_key p)
+row_keeps_pass plan p first last node_key n w h = by (n == first) h.0
   where
+    v : View
+    v = p.view
+
     by : (b : Bool) → w ≡ after_claimed_row b first last node_key v → (ledger_keys w.worker.ledger ≡ ledger_keys v.worker.ledger) × SameShare v w × IsInside plan w
     by true is = (
       ap (λ (u : View). ledger_keys u.worker.ledger) is ∙ row_keys (last - first) first node_key v,
@@ -220,7 +257,7 @@ row_keeps_pass plan v first last node_key n w h = by (n == first) h.0
         (ap (λ (u : View). ledger_keys u.worker.ledger) is, subst (SameShare v) (sym is) (record { share = refl; ownable = refl }), h.1)
 
 -- a claim of one card tells what such a row does
-pub claim_tells : (plan : TablePlan) (c node_key : ℕ) (v : View) → MayTell plan (call.Claim c node_key) v (RowTells plan c c node_key v)
+claim_tells : (plan : TablePlan) (c node_key : ℕ) (v : View) → MayTell plan (call.Claim c node_key) v (λ n w. (w ≡ after_claimed_row (n == c) c c node_key v) × IsInside plan w)
 claim_tells plan c node_key v s h id w here is apart (call.Claim d key) same may can placed later =
     let card : d ≡ c = cc in
     let node : key ≡ node_key = cc in
@@ -243,15 +280,41 @@ claim_tells plan c node_key v s h id w here is apart (call.Claim d key) same may
     won whole cut same = by whole ∙ ap (λ b. after_claimed_row b d d key (shown w)) (sym same)
 claim_tells plan c node_key v s h id w here is apart _ same may can placed later = absurd cc
 
+-- so a claim is a step that the rule allows
+pub claim_goes : (plan : TablePlan) (p : PassModel) (c node_key : ℕ) → May plan (call.Claim c node_key) p.view → c + 1 < 2 ^ 64 → ((s : Slots) → plan.slots ≡ Some s → (d : ℕ) → HoldsWaiting p.view d → p.slot ≢ Some d)
+    → MayStepOn plan p 0 (λ n. either (n == c) (c + 1) n) (RowTells plan c c node_key p)
+claim_goes plan p c node_key may low lays k is slotted unlost id t h homes here small =
+    let x = tree_step plan k (call.Claim c node_key) (λ n. either (n == c) (c + 1) n) (λ n w. (w ≡ after_claimed_row (n == c) c c node_key p.view) × IsInside plan w) (λ n. k.period) tt
+    (subst (May plan (call.Claim c node_key)) (sym is) may)
+    (λ s placed d waits at. lays s placed d (ap (λ (u : View). u.worker.card) (sym is) ∙ waits.0, ap (λ (u : View). u.worker.flagged) (sym is) ∙ waits.1) (sym slotted ∙ at)) (λ there. unlost)
+    (exchange_does plan (call.Claim c node_key) c (c + 1) (record { whole = c + 1; is = refl; cut = sym (cut_same (c + 1) low); all = λ none. refl }))
+    (λ there none. tt) (λ fill. absurd fill)
+    (subst (λ v. MayTell plan (call.Claim c node_key) v (λ n w. (w ≡ after_claimed_row (n == c) c c node_key p.view) × IsInside plan w)) (sym is) (claim_tells plan c node_key p.view))
+    (λ n word. nothing refl (λ some d flags. absurd flags)) id t h homes here small in
+    (x.0, x.1, x.2, x.3, ((x.4.0.0, x.4.0.1, fresh), x.4.1, x.4.2))
+  where
+    by : (o : Option Slots) → plan.slots ≡ o → (get_or t.words 0 0 == c) ≡ true → o ≢ None → p.slot ≢ Some c
+    by None none won there at = there refl
+    by (Some s) placed won there at =
+        let past = (has_periods plan s placed t h).tied.past id c k here (slotted ∙ at) in
+        let same = eqb-true (get_or t.words 0 0) c won in
+        low_not past same
+      where
+        low_not : c < get_or t.words 0 0 → get_or t.words 0 0 ≡ c → ⊥
+        low_not past same = omega (arith, past, same)
+
+    fresh : IsFresh plan p.slot (get_or t.words 0 0 == c) c
+    fresh there won at = by plan.slots refl won there at
+
 -- what a step on the claim word owes that the rule allows, by what its caller says of the table and the pass
 module _ (t u : TableModel) (p q : PassModel) (same_table : t ≡ u) (same_pass : p ≡ q) (own : q.table ≡ u.id) (size : t.id.words ≡ whole_size t.plan) (fit : SlotsFit t.plan t.plan.slots) where
   pub claim_owed : (tree : View) → shown tree ≡ p.view → (seat : ℕ) (period : Period) (held : List (ℕ × Unit {0})) (f : ℕ → ℕ) (told : ℕ → View → Type 0)
-      → t.id.slots ≡ 0 → held ≡ [] → MayStepOn u.plan q.view 0 f told
+      → period.slot ≡ p.slot → period.lost ≡ None → t.id.slots ≡ 0 → held ≡ [] → MayStepOn u.plan q 0 f told
       → (p.table ≡ t.id) × (0 < t.id.words)
       × Allows (IsWhole t.plan) t.id.slots seat (record { tree = tree; period = period }, held) 0 f (λ n x. told n (shown x.0.tree) × (x.0.period ≡ period) × (x.1 ≡ held))
-  claim_owed tree shows seat period held f told none empty rule =
-      let step = subst (λ (m : TableModel). MayStepOn m.plan q.view 0 f told) (sym same_table) rule (record { tree = tree; period = period })
-      (shows ∙ ap (λ (m : PassModel). m.view) same_pass) in
+  claim_owed tree shows seat period held f told slotted unlost none empty rule =
+      let step = subst (λ (m : TableModel). MayStepOn m.plan q 0 f told) (sym same_table) rule (record { tree = tree; period = period })
+      (shows ∙ ap (λ (m : PassModel). m.view) same_pass) (slotted ∙ ap (λ (m : PassModel). m.slot) same_pass) unlost in
       let some = size_some t.plan in (
         of_table t u p q same_table same_pass own size fit,
         omega arith,

@@ -5,7 +5,6 @@ use Rattle.ell_layout.specs.Layout.{address, table_size}
 use Rattle.ell_layout.specs.Start.{words_at_start}
 use Rattle.ell_layout.specs.Words.{words_of}
 use Rattle.ell_cards.specs.declared.view.Slots.{Slots}
-use Rattle.ell_cards.specs.Ages.{HasPeriods}
 use Rattle.ell_cards.specs.Changes.{first_of}
 use Rattle.ell_cards.specs.Models.{TablePlan, last_slot, last_slot_of}
 use Rattle.ell_cards.specs.Periods.{AreWholeWords, period_by}
@@ -16,7 +15,7 @@ use Rattle.ell_cards.proofs.lemmas.lifetimes.Openings.{each_first}
 use Rattle.ell_cards.proofs.lemmas.runs.Reaching.{reached_first}
 use Rattle.ell_cards.proofs.lemmas.shown.ShownKinds.{field_is_whole}
 use Rattle.ell_cards.proofs.lemmas.shown.ShownViews.{unfilled_whole}
-use Rattle.ell_cards.proofs.lemmas.ties.Opens.{tree_opened, reached_opened, periods_opened}
+use Rattle.ell_cards.proofs.lemmas.ties.Opens.{tree_opened, reached_opened, periods_opened, leaks_opened}
 use Rattle.ell_cards.proofs.lemmas.whole.Lifts.{unplanned_fits}
 use Rattle.ell_cards.proofs.lemmas.whole.Opens.{with_zeros}
 
@@ -52,5 +51,6 @@ whole_first plan may cards words small size are is = by plan.slots refl may.slot
                 (field_is_whole f (get_or cards (address c f) 0) (small (address c f))),
           );
           periods = subst (λ o. PeriodsAre plan o tree (opening words [] (first_known plan))) (sym placed)
-              (subst (λ o. HasPeriods plan s tree (opening words [] (record { tree = first_of plan; period = period_by o }))) (sym placed) has);
+              (subst (λ o. PeriodsAre plan (Some s) tree (opening words [] (record { tree = first_of plan; period = period_by o }))) (sym placed)
+              (has, leaks_opened plan s cards words may fit all are small opens));
         }

@@ -1,5 +1,5 @@
 -- A pass takes the slot of its card in hand, which was set free with a stamp below the pass's safe number.
-use Rattle.std.proofs.Common.{◌≡◌, ◌≢◌, ℕ, ◌*◌, ◌%◌, ◌<◌, ◌≤◌, ◌==◌, if◌then◌else◌, Bool, true, false, Some, length, get_or, inl, inr, ◌⊎◌, refl, sym, ap, ◌∙◌, subst, arith, eq-eqb, ne_eqb}
+use Rattle.std.proofs.Common.{◌≡◌, ◌≢◌, ℕ, ◌*◌, ◌%◌, ◌<◌, ◌≤◌, ◌==◌, if◌then◌else◌, Bool, true, false, Some, None, length, get_or, inl, inr, ◌⊎◌, refl, sym, ap, ◌∙◌, subst, arith, eq-eqb, ne_eqb}
 use Rattle.std.proofs.lemmas.Bool.{cases_eq}
 use Rattle.std.proofs.lemmas.Option.{same_Some}
 use mathlib.Core.Option.{some}
@@ -18,11 +18,11 @@ use Rattle.ell_cards.specs.SlotWords.{has_slot_in, slot_of, turn_of, stamp_in}
 use Rattle.ell_cards.specs.Starts.{IsReached}
 use Rattle.ell_cards.specs.States.{TableState}
 use Rattle.ell_cards.specs.Stepping.{MayGoOn}
-use Rattle.ell_cards.specs.Tied.{HoldsWaiting}
+use Rattle.ell_cards.specs.Holding.{HoldsWaiting}
 use Rattle.ell_cards.specs.Whole.{trees_of}
 use Rattle.ell_cards.proofs.lemmas.ties.TakingSlots.{take_goes}
 use Rattle.ell_cards.proofs.lemmas.whole.Freeing.{reads_now}
-use Rattle.ell_cards.proofs.lemmas.whole.Going.{turned_to, goes_on_whole}
+use Rattle.ell_cards.proofs.lemmas.whole.Going.{GoesTo, turned_to, goes_on_whole}
 use Rattle.ell_cards.proofs.lemmas.whole.Slots.{slot_taken, taken_is_dead, taken_was_dead_for, lie_taken}
 use Rattle.ell_cards.proofs.lemmas.whole.Trees.{tree_at}
 
@@ -43,28 +43,28 @@ module _ (plan : TablePlan) (s : Slots) (tree : TableState) (t : WholeState) (id
   found = get_or t.words at 0
 
   -- it reads the slot's word
-  pub reads_so : (sought : Seek) → sought.retired ≡ k.period.sought.retired → HasPeriods plan s tree (turned_to t id k (record (after_read (slot_of c) (get_or t.words (slot_word s (slot_of c)) 0) k.period) { sought = sought }) (slot_word s (slot_of c)) (get_or t.words (slot_word s (slot_of c)) 0))
+  pub reads_so : (sought : Seek) → sought.retired ≡ k.period.sought.retired → GoesTo plan s tree t h (turned_to t id k (record (after_read (slot_of c) (get_or t.words (slot_word s (slot_of c)) 0) k.period) { sought = sought }) (slot_word s (slot_of c)) (get_or t.words (slot_word s (slot_of c)) 0))
   reads_so sought noted = reads_now plan s tree t id k here (ap (λ l. get_elem? l id) (sym same) ∙ tree_at t.views id k here) h size reached (slot_of c) inside sought
       (λ d at hand. subst (λ r. AreRetired h.ages.now.machine.words d r (λ x. IsOut plan tree h.ages.now.machine h.ages.now.uses x × IsNotedThere s t.words h.lie x)) (sym noted) (h.retired id d k here at hand))
 
   -- and counts a miss if it could not take the slot
-  pub owns_now : HasPeriods plan s tree (turned_to t id k (after_own c (get_or t.words (slot_word s (slot_of c)) 0) k.period) (slot_word s (slot_of c)) (get_or t.words (slot_word s (slot_of c)) 0))
+  pub owns_now : GoesTo plan s tree t h (turned_to t id k (after_own c (get_or t.words (slot_word s (slot_of c)) 0) k.period) (slot_word s (slot_of c)) (get_or t.words (slot_word s (slot_of c)) 0))
   owns_now = by (could_take found k.period.safe)
     where
-      by : (b : Bool) → HasPeriods plan s tree (turned_to t id k (if b then after_read (slot_of c) found k.period else after_missing c found k.period) (slot_word s (slot_of c)) found)
+      by : (b : Bool) → GoesTo plan s tree t h (turned_to t id k (if b then after_read (slot_of c) found k.period else after_missing c found k.period) (slot_word s (slot_of c)) found)
       by true = reads_so k.period.sought refl
       by false = reads_so (missed_one k.period.sought) refl
 
   -- it takes the slot, if that was set free with a stamp below the pass's safe number
-  pub takes_now : s.last < 2097152 → (n : ℕ) → get_or t.words (slot_word s (slot_of c)) 0 ≡ n → n % 8 ≡ 7 → stamp_in n < k.period.safe
-      → HasPeriods plan s tree (turned_to t id k (after_taking c k.period) (slot_word s (slot_of c)) (8 * turn_of c))
-  takes_now low n is free safe =
+  pub takes_now : k.period.lost ≡ None → s.last < 2097152 → (n : ℕ) → get_or t.words (slot_word s (slot_of c)) 0 ≡ n → n % 8 ≡ 7 → stamp_in n < k.period.safe
+      → GoesTo plan s tree t h (turned_to t id k (after_taking c k.period) (slot_word s (slot_of c)) (8 * turn_of c))
+  takes_now unlost low n is free safe =
       let full : found % 8 ≡ 7 = ap (λ m. m % 8) is ∙ free in
       let past : stamp_in found < k.period.safe = subst (λ m. stamp_in m < k.period.safe) (sym is) safe in
       let own = h.tied.own (slot_of c) inside in
       let it = take_goes plan s tree t h.lie h.dead h.was_dead low size (record { ages = h.ages; tied = h.tied }) same id k here c hand numbered
       (taken_is_dead s t id k here h.lie h.dead h.began h.was_dead h.periods size (slot_of c) inside own full past)
-      (taken_was_dead_for s t id k here h.lie h.dead h.began h.was_dead h.periods size (slot_of c) inside own full past) in record {
+      (taken_was_dead_for s t id k here h.lie h.dead h.began h.was_dead h.periods size (slot_of c) inside own full past) in record { periods = record {
         lie = put h.lie (slot_of c) c;
         lies = lie_taken s h.lie t.words h.lies (slot_of c) (omega arith) c refl;
         dead = h.dead;
@@ -74,7 +74,7 @@ module _ (plan : TablePlan) (s : Slots) (tree : TableState) (t : WholeState) (id
         ages = it.ages;
         tied = it.tied;
         retired = it.retired h.retired;
-      }
+      }; leaks = it.leaks unlost }
 
 -- these steps are steps of the table
 module _ (plan : TablePlan) (s : Slots) (placed : plan.slots ≡ Some s) (k : Known) (c : ℕ) (hand : HoldsWaiting k.tree c) (inside : slot_of c ≤ s.last) (numbered : has_slot_in s.last c ≡ true) where
@@ -85,25 +85,25 @@ module _ (plan : TablePlan) (s : Slots) (placed : plan.slots ≡ Some s) (k : Kn
       (λ tree t id reached here same h size. (owns_now plan s tree t id k here same h size c hand inside numbered reached, refl))
 
   -- it takes the slot, if the word is as it was
-  pub takes_slot : s.last < 2097152 → (n : ℕ) → n % 8 ≡ 7 → stamp_in n < k.period.safe
+  pub takes_slot : k.period.lost ≡ None → s.last < 2097152 → (n : ℕ) → n % 8 ≡ 7 → stamp_in n < k.period.safe
       → MayGoOn plan k (slot_word s (slot_of c)) (λ m. either (m == n) (8 * turn_of c) m) (λ m p. p ≡ (if m == n then after_taking c k.period else after_missing c m k.period))
-  takes_slot low n free safe =
+  takes_slot unlost low n free safe =
       goes_on_whole plan s placed k (slot_word s (slot_of c)) (λ m. either (m == n) (8 * turn_of c) m) (λ m p. p ≡ (if m == n then after_taking c k.period else after_missing c m k.period))
       (λ t. if get_or t.words (slot_word s (slot_of c)) 0 == n then after_taking c k.period else after_missing c (get_or t.words (slot_word s (slot_of c)) 0) k.period)
       (λ tree t id reached here same h size. (by tree t id reached here same h size (cases_eq (get_or t.words (slot_word s (slot_of c)) 0) n), refl))
     where
-      after : WholeState → TableState → ℕ → ℕ → Bool → Type 0
-      after t tree id m b = HasPeriods plan s tree (turned_to t id k (if b then after_taking c k.period else after_missing c m k.period) (slot_word s (slot_of c)) (either b (8 * turn_of c) m))
+      after : (t : WholeState) (tree : TableState) → HasPeriods plan s tree t → ℕ → ℕ → Bool → Type 0
+      after t tree h id m b = GoesTo plan s tree t h (turned_to t id k (if b then after_taking c k.period else after_missing c m k.period) (slot_word s (slot_of c)) (either b (8 * turn_of c) m))
 
-      by : (tree : TableState) (t : WholeState) (id : ℕ) → IsReached plan tree → get_elem? t.views id ≡ some k → trees_of t.views ≡ tree.views → HasPeriods plan s tree t → length t.words ≡ slots_size s
+      by : (tree : TableState) (t : WholeState) (id : ℕ) → IsReached plan tree → get_elem? t.views id ≡ some k → trees_of t.views ≡ tree.views → (h : HasPeriods plan s tree t) → length t.words ≡ slots_size s
           → (get_or t.words (slot_word s (slot_of c)) 0 ≡ n) ⊎ (get_or t.words (slot_word s (slot_of c)) 0 ≢ n)
-          → HasPeriods plan s tree (turned_to t id k (if get_or t.words (slot_word s (slot_of c)) 0 == n then after_taking c k.period else after_missing c (get_or t.words (slot_word s (slot_of c)) 0) k.period) (slot_word s (slot_of c))
+          → GoesTo plan s tree t h (turned_to t id k (if get_or t.words (slot_word s (slot_of c)) 0 == n then after_taking c k.period else after_missing c (get_or t.words (slot_word s (slot_of c)) 0) k.period) (slot_word s (slot_of c))
           (either (get_or t.words (slot_word s (slot_of c)) 0 == n) (8 * turn_of c) (get_or t.words (slot_word s (slot_of c)) 0)))
       by tree t id reached here same h size (inl is) =
-          subst (after t tree id (get_or t.words (slot_word s (slot_of c)) 0)) (sym (eq-eqb (get_or t.words (slot_word s (slot_of c)) 0) n is))
-          (takes_now plan s tree t id k here same h size c hand inside numbered reached low n is free safe)
+          subst (after t tree h id (get_or t.words (slot_word s (slot_of c)) 0)) (sym (eq-eqb (get_or t.words (slot_word s (slot_of c)) 0) n is))
+          (takes_now plan s tree t id k here same h size c hand inside numbered reached unlost low n is free safe)
       by tree t id reached here same h size (inr other) =
-          subst (after t tree id (get_or t.words (slot_word s (slot_of c)) 0)) (sym (ne_eqb (get_or t.words (slot_word s (slot_of c)) 0) n other))
+          subst (after t tree h id (get_or t.words (slot_word s (slot_of c)) 0)) (sym (ne_eqb (get_or t.words (slot_word s (slot_of c)) 0) n other))
           (reads_so plan s tree t id k here same h size c hand inside numbered reached (missed_one k.period.sought) refl)
 
   -- whichever card the pass has in hand, and whatever slot's word this is
@@ -117,10 +117,10 @@ module _ (plan : TablePlan) (s : Slots) (placed : plan.slots ≡ Some s) (k : Kn
       let x = may id t h homes here small in
       (x.0, x.1, x.2, x.3, (λ d has. x.4.0 ∙ ap (λ e. after_own e (get_or t.words word 0) k.period) (one d has), x.4.1, x.4.2))
 
-  pub takes_any : s.last < 2097152 → (n word turn : ℕ) → n % 8 ≡ 7 → stamp_in n < k.period.safe → word ≡ slot_word s (slot_of c) → turn ≡ turn_of c
+  pub takes_any : k.period.lost ≡ None → s.last < 2097152 → (n word turn : ℕ) → n % 8 ≡ 7 → stamp_in n < k.period.safe → word ≡ slot_word s (slot_of c) → turn ≡ turn_of c
       → MayGoOn plan k word (λ m. either (m == n) (8 * turn) m) (λ m p. (d : ℕ) → k.tree.worker.card ≡ Some d → p ≡ (if m == n then after_taking d k.period else after_missing d m k.period))
-  takes_any low n word turn free safe is at id t h homes here small =
+  takes_any unlost low n word turn free safe is at id t h homes here small =
       let may = subst (λ i. MayGoOn plan k i (λ m. either (m == n) (8 * turn) m) (λ m p. p ≡ (if m == n then after_taking c k.period else after_missing c m k.period))) (sym is)
-      (subst (λ u. MayGoOn plan k (slot_word s (slot_of c)) (λ m. either (m == n) (8 * u) m) (λ m p. p ≡ (if m == n then after_taking c k.period else after_missing c m k.period))) (sym at) (takes_slot low n free safe)) in
+      (subst (λ u. MayGoOn plan k (slot_word s (slot_of c)) (λ m. either (m == n) (8 * u) m) (λ m p. p ≡ (if m == n then after_taking c k.period else after_missing c m k.period))) (sym at) (takes_slot unlost low n free safe)) in
       let x = may id t h homes here small in
       (x.0, x.1, x.2, x.3, (λ d has. x.4.0 ∙ ap (λ e. if get_or t.words word 0 == n then after_taking e k.period else after_missing e (get_or t.words word 0) k.period) (one d has), x.4.1, x.4.2))

@@ -246,3 +246,25 @@ done_by taken_out c nodes n done = by (all_noted nodes n) taken_out (turn_in n =
     by false true e x y done = absurd (false≢true done)
     by false false true x y done = absurd (false≢true done)
     by false false false x y done = inr (x, λ same. false≢true (sym y ∙ eq-eqb (turn_in n) (turn_of c) same))
+
+-- the word of a slot that was just taken notes nothing
+pub none_noted : (turn k : ℕ) → is_noted (8 * turn) k ≡ true → ⊥
+none_noted turn zero is = grind arith
+none_noted turn (suc zero) is = grind arith
+none_noted turn (suc (suc zero)) is = grind arith
+none_noted turn (suc (suc (suc k))) is = false≢true is
+
+-- a word that notes nothing has none of the three bits
+pub unnoted : (n : ℕ) → ((i : ℕ) → is_noted n i ≡ true → ⊥) → n % 8 ≡ 0
+unnoted n none = by (is_noted n 0) (is_noted n 1) (is_noted n 2) refl refl refl
+  where
+    by : (a b c : Bool) → is_noted n 0 ≡ a → is_noted n 1 ≡ b → is_noted n 2 ≡ c → n % 8 ≡ 0
+    by true b c x y z = absurd (none 0 x)
+    by false true c x y z = absurd (none 1 y)
+    by false false true x y z = absurd (none 2 z)
+    by false false false x y z =
+        let low = low_bits n in
+        let a = ap one_if x in
+        let b = ap one_if y in
+        let c = ap one_if z in
+        omega arith

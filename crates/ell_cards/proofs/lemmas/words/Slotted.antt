@@ -1,8 +1,8 @@
 -- What it is for a number to have a slot.
-use Rattle.std.proofs.Common.{◌≡◌, ◌≢◌, ℕ, ◌%◌, ◌≤◌, ◌⊎◌, true, inl, inr, arith}
+use Rattle.std.proofs.Common.{◌≡◌, ◌≢◌, ℕ, ◌*◌, ◌%◌, ◌≤◌, ◌⊎◌, true, inl, inr, arith}
 use Rattle.std.proofs.lemmas.Bool.Decides.{nat_tests}
 use Rattle.std.proofs.lemmas.Bool.{cases_eq}
-use Rattle.ell_cards.specs.SlotWords.{has_slot_in, slot_of, turn_of}
+use Rattle.ell_cards.specs.SlotWords.{card_by, has_slot_in, slot_of, turn_of}
 
 -- its slot is one of the table
 pub slot_inside : (last c : ℕ) → has_slot_in last c ≡ true → slot_of c ≤ last
@@ -19,3 +19,7 @@ has_slot_by last c inside apart = by (cases_eq (turn_of c % 1048576) 0)
     by : (turn_of c % 1048576 ≡ 0) ⊎ (turn_of c % 1048576 ≢ 0) → has_slot_in last c ≡ true
     by (inl low) = (let first = apart low in grind (arith, nat_tests))
     by (inr other) = grind (arith, nat_tests)
+
+-- a number is that of the card in its slot at its turn
+pub card_there : (c slot turn : ℕ) → slot ≡ slot_of c → turn ≡ turn_of c → card_by slot (8 * turn) ≡ c
+card_there c slot turn at is = omega (arith, at, is)

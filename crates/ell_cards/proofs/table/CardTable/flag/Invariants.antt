@@ -6,5 +6,5 @@ use Rattle.ell_cards.proofs.table.CardTable.flag.Given as goal
 abbrev pub ghosts-flag_as : goal.ghosts-flag_as
 ghosts-flag_as g a = record {
   then = λ n w. IsTaken a.self.now.plan a.call a.pass.now.view n w;
-  notes = λ n p. after_flagging (n == a.expected) a.card p;
+  notes = λ n p. after_flagging a.self.now.plan.slots (n == a.expected) a.card p;
 }

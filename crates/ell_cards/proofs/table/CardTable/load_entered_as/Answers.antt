@@ -5,7 +5,7 @@ use Rattle.ell_cards.specs.Inside.{PassFits}
 use Rattle.ell_cards.specs.Models.{PassModel}
 use Rattle.ell_cards.proofs.lemmas.seats.Opened.{owed, stepped}
 use Rattle.ell_cards.proofs.lemmas.whole.Calling.Notes.{nothing}
-use Rattle.ell_cards.proofs.lemmas.whole.Calling.{load_asks, load_does, load_stores}
+use Rattle.ell_cards.proofs.lemmas.whole.Calling.{load_flags, load_does, load_stores}
 use Rattle.ell_cards.proofs.lemmas.whole.Lifts.{stores_word, plain_shown}
 use Rattle.ell_cards.proofs.lemmas.whole.Places.{same_place}
 use Rattle.ell_cards.proofs.table.CardTable.load_entered_as.Goals as goal
@@ -19,10 +19,10 @@ load-requires g c =
     let now : PassModel = record { table = seat.table_id; view = shown seat.me.0.tree; steps = inside.steps; label = inside.label; safe = seat.me.0.period.safe; slot = seat.me.0.period.slot; sought = seat.me.0.period.sought } in
     let same = (λ t. record { table = is.seat.0 t; view = shown (is.tree t); steps = inside.steps; label = inside.label; safe = is.safe t; slot = is.slot t; sought = is.sought t }) ∙ c.pass.view_is in
     let fits = subst (λ (m : PassModel). PassFits inside.keys.items inside.share m.table.words m.view) (sym (λ t. record { table = is.seat.0 t; view = shown (is.tree t); steps = inside.steps; label = inside.label; safe = is.safe t; slot = is.slot t; sought = is.sought t })) c.pass.invariant.0 in
-    owed _ _ now _ c.self.view_is same c.requires.own c.self.invariant.0 c.self.invariant.8 seat.me.0.tree refl seat.id seat.me.0.period refl seat.me.1 inside.keys.items inside.share c.enter.new.standing c.args.word
+    owed _ _ now _ c.self.view_is same c.requires.own c.self.invariant.0 c.self.invariant.8 seat.me.0.tree refl seat.id seat.me.0.period refl refl seat.me.1 inside.keys.items inside.share c.enter.new.standing c.args.word
     (λ n. n) g.J.Telling.then (λ n. seat.me.0.period) c.args.call c.self.invariant.1 is.seat.1 fits is.fits (stores_word c.args.call Load c.requires.atomic tt (plain_shown c.args.call (load_stores c.args.call c.requires.atomic))) c.requires.word c.requires.may
-    (λ some. load_asks c.args.call c.requires.atomic c.args.pass.now.slot c.args.pass.now.view) (load_does c.args.self.now.plan c.args.call c.requires.atomic)
-    (λ placed none. absurd (⊎_elim (λ without. placed without) (λ opened. opened none) is.open)) (λ fill. absurd (load_stores c.args.call c.requires.atomic fill)) c.requires.tells (λ n small. nothing refl)
+    c.requires.kept (load_does c.args.self.now.plan c.args.call c.requires.atomic)
+    (λ placed none. absurd (⊎_elim (λ without. placed without) (λ opened. opened none) is.open)) (λ fill. absurd (load_stores c.args.call c.requires.atomic fill)) c.requires.tells (λ n small. nothing refl (λ some d flags. absurd (load_flags c.args.call c.requires.atomic d flags)))
 
 pub invariant_of-pass : goal.invariant_of-pass
 invariant_of-pass g c =

@@ -1,0 +1,167 @@
+-- What a pass has noted for its card in hand, before it lets that go, is all that the card made dead.
+use Rattle.std.proofs.Common.{◌≡◌, ◌≢◌, ℕ, zero, suc, ◌+◌, ◌*◌, ◌%◌, ◌<◌, ◌≤◌, ◌==◌, if◌then◌else◌, nat_le, Bool, true, false, not, Some, inl, inr, ◌⊎◌, refl, sym, ap, ◌∙◌, subst, arith, eq-eqb, eqb-true, ne_eqb}
+use Rattle.std.proofs.lemmas.Bool.{cases_eq, false≢true}
+use mathlib.Core.Option.{some}
+use lib.ListN.{get_elem?}
+use Rattle.ell_ops.specs.declared.op.Op.{Op}
+use Rattle.ell_ops.specs.Meaning.{key_of}
+use Rattle.ell_word.specs.Node.{IsInternal, card, left_leaf, right_leaf}
+use Rattle.ell_layout.specs.declared.field.Field.TheVariants as field
+use Rattle.ell_layout.specs.Words.{Words, IsLeaf}
+use Rattle.ell_layout.specs.Cards.{is_replace_card}
+use Rattle.ell_core.specs.declared.fact.Fact.{Fact}
+use Rattle.ell_core.specs.declared.fact.Fact.TheVariants as fact
+use Rattle.ell_core.specs.history.Stages.{Stage, Stages, Born, is_node_born, is_born, is_changed, is_cut, is_insert, is_delete, insert_over, delete_over, is_backed}
+use Rattle.ell_core.specs.history.Invariant.{insert_key}
+use Rattle.ell_core.specs.state.Machine.{Worker}
+use Rattle.ell_core.proofs.lemmas.stages.Order.{changed-insert, cut-delete, one_kind, over-delete, backed-delete, insert_over-changed}
+use Rattle.ell_cards.specs.declared.view.Known.{Known}
+use Rattle.ell_cards.specs.declared.view.Retired.{Retired}
+use Rattle.ell_cards.specs.declared.view.Slots.{Slots}
+use Rattle.ell_cards.specs.declared.view.View.{View}
+use Rattle.ell_cards.specs.Ages.{AreRetired}
+use Rattle.ell_cards.specs.Dead.{KnowsDeleteEnded}
+use Rattle.ell_cards.specs.Holding.{HasFlagged}
+use Rattle.ell_cards.specs.Laws.{machine_of_table}
+use Rattle.ell_cards.specs.Leaks.{Kills}
+use Rattle.ell_cards.specs.LettingGo.{PutIsRetired, OwnAreRetired, CutIsRetired, IsRetired}
+use Rattle.ell_cards.specs.LettingGo.IsRetired.{put, cut, backed}
+use Rattle.ell_cards.specs.Machines.{HasMachine}
+use Rattle.ell_cards.specs.Models.{TablePlan, Knows}
+use Rattle.ell_cards.specs.SlotWords.{has_slot_in}
+use Rattle.ell_cards.specs.States.{TableState}
+use Rattle.ell_cards.specs.Tied.{HasWon}
+use Rattle.ell_cards.proofs.lemmas.runs.Alive.{own_key}
+use Rattle.ell_cards.proofs.lemmas.seats.Seats.{mine_is, mine_sound}
+use Rattle.ell_cards.proofs.lemmas.stepping.Exchanges.{told_is}
+use Rattle.ell_grace.specs.Dead.{NeverComes}
+use Rattle.ell_grace.specs.Gone.{TakesOut}
+
+over_not_cut : (s : Stage) → is_cut s ≡ true → is_backed s ≡ true → ⊥
+over_not_cut s h b = grind arith
+
+-- which nodes of the card of an insert that is over came
+put_born : (s : Stage) (place : ℕ) → insert_over s ≡ true → is_born s ≡ true → place < 3 → is_node_born s place ≡ true
+put_born s zero over born few = grind arith
+put_born s (suc zero) over born few = grind arith
+put_born s (suc (suc zero)) over born few = grind arith
+put_born s (suc (suc (suc i))) over born few = absurd (omega arith)
+
+right_born : (s : Stage) → insert_over s ≡ true → is_node_born s 2 ≡ true
+right_born s over = grind arith
+
+-- an insert's key is not that of the node above which it goes, if its leaves have two keys
+key_apart : (left right below : ℕ) → left ≢ right → (if left == below then right else left) ≢ below
+key_apart left right below apart same = elim (cases_eq left below) [
+  | inl e ↦ apart (e ∙ sym (sym (ap (λ (b : Bool). if b then right else left) (eq-eqb left below e)) ∙ same))
+  | inr n ↦ n (sym (ap (λ (b : Bool). if b then right else left) (ne_eqb left below n)) ∙ same)
+]
+
+module _ (plan : TablePlan) (tree : TableState) (id : ℕ) (v : View) (there : get_elem? tree.views id ≡ some v) (m : HasMachine plan tree) (s : Slots) (r : Retired) (c : ℕ) (hand : HasFlagged v c)
+    (P : ℕ → Type 0) (are : AreRetired m.words c r P) (own_slot : has_slot_in s.last c ≡ true) where
+  abbrev w : Words
+  w = m.words
+
+  abbrev stage : Stages
+  stage = m.stages
+
+  -- of the card of an insert or a swap
+  module _ (over : insert_over (stage c) ≡ true) (p : PutIsRetired s v r c) where
+    kind : is_insert (stage c) ≡ true
+    kind = changed-insert (stage c) (insert_over-changed (stage c) over)
+
+    below : w.l c ≡ p.below
+    below = told_is plan tree m id v there c field.L p.below p.goes
+
+    left : w.key (left_leaf c) ≡ p.left
+    left = told_is plan tree m id v there c field.LeftLeafKey p.left p.left_key
+
+    right : w.key (right_leaf c) ≡ p.right
+    right = told_is plan tree m id v there c field.RightLeafKey p.right p.right_key
+
+    own : insert_key w c ≡ key_of p.op
+    own = own_key w stage ((machine_of_table plan tree m).worker id) p.op c kind
+        ((m.invariant.workers.each id).flagged p.op c (ap (λ (u : Worker). u.operation) (mine_is plan tree m id v there) ∙ p.busy)
+        (ap (λ (u : Worker). u.card) (mine_is plan tree m id v there) ∙ hand.holds) (ap (λ (u : Worker). u.flagged) (mine_is plan tree m id v there) ∙ hand.flagged)).0
+
+    -- the leaf of a key that is not the operation's is not used
+    not_own : (key : ℕ) → IsInternal (w.l c) → key ≡ w.key (w.l c) → key ≢ key_of p.op
+    not_own key inner same e =
+        key_apart (w.key (left_leaf c)) (w.key (right_leaf c)) (w.key (w.l c)) (λ both. p.apart (ap (λ y. y % 4) (sym below) ∙ inner) (sym left ∙ (both ∙ right))) (own ∙ (sym e ∙ same))
+
+    replaced_or_born : (i : ℕ) → i < 3 → (is_node_born (stage c) i ≡ true → ⊥) → P (4 * c + i)
+    replaced_or_born i few unborn = by (is_replace_card w c) refl
+      where
+        brings : is_born (stage c) ≡ not (is_replace_card w c)
+        brings = (m.invariant.words.inserts c).brings (insert_over-changed (stage c) over)
+
+        at : (i : ℕ) → i < 3 → (is_node_born (stage c) i ≡ true → ⊥) → (r.own.internal ≡ true) × (r.own.left ≡ true) → P (4 * c + i)
+        at zero few unborn noted = are.own 0 noted.0
+        at (suc zero) few unborn noted = are.own 1 noted.1
+        at (suc (suc zero)) few unborn noted = absurd (unborn (right_born (stage c) over))
+        at (suc (suc (suc i))) few unborn noted = absurd (omega arith)
+
+        by : (b : Bool) → is_replace_card w c ≡ b → P (4 * c + i)
+        by true e = at i few unborn (p.replaced (sym left ∙ (eqb-true (w.key (left_leaf c)) (w.key (right_leaf c)) e ∙ right)) own_slot)
+        by false e = absurd (unborn (put_born (stage c) i over (brings ∙ ap not e) few))
+
+    unused : (i : ℕ) → i < 3 → IsInternal (w.l c) → IsLeaf (4 * c + i) → w.key (4 * c + i) ≡ w.key (w.l c) → P (4 * c + i)
+    unused zero few inner outer key = absurd (outer (omega arith))
+    unused (suc zero) few inner outer key =
+        are.own 1 (p.unused_left (ap (λ y. y % 4) (sym below) ∙ inner) (not_own p.left inner (sym left ∙ key)) own_slot)
+    unused (suc (suc zero)) few inner outer key =
+        are.own 2 (p.unused_right (ap (λ y. y % 4) (sym below) ∙ inner) (not_own p.right inner (sym right ∙ key)) own_slot)
+    unused (suc (suc (suc i))) few inner outer key = absurd (omega arith)
+
+    put_done : (x : ℕ) → x % 4 < 3 → has_slot_in s.last (card x) ≡ true → Kills w stage c x → P x
+    put_done x few slot (inl (inl (changed, outer, is))) =
+        subst P is (are.leaf (p.leaf (λ inner. outer (ap (λ y. y % 4) below ∙ inner)) (subst (λ y. has_slot_in s.last (card y) ≡ true) (sym is ∙ below) slot)))
+    put_done x few slot (inl (inr (cut, is))) = absurd (one_kind (stage c) kind (cut-delete (stage c) cut))
+    put_done x few slot (inr (on, ended, inl unborn)) =
+        subst P (whole x c on few) (replaced_or_born (x % 4) few (λ born. unborn (subst (λ d. is_node_born (stage d) (x % 4) ≡ true) (sym on) born)))
+      where
+        whole : (x c : ℕ) → card x ≡ c → x % 4 < 3 → 4 * c + x % 4 ≡ x
+        whole x c on few = omega (arith, on)
+    put_done x few slot (inr (on, ended, inr (changed, inner, outer, key))) =
+        let at = whole x c on few in
+        subst P at (unused (x % 4) few (subst (λ d. IsInternal (w.l d)) on inner) (subst IsLeaf (sym at) outer) (ap w.key at ∙ (key ∙ ap (λ d. w.key (w.l d)) on)))
+      where
+        whole : (x c : ℕ) → card x ≡ c → x % 4 < 3 → 4 * c + x % 4 ≡ x
+        whole x c on few = omega (arith, on)
+
+  -- of each node of the card in hand
+  all_own : OwnAreRetired s r c → (x : ℕ) → x % 4 < 3 → card x ≡ c → P x
+  all_own o x few on = subst P (whole x c on few) (by (x % 4) few)
+    where
+      whole : (x c : ℕ) → card x ≡ c → x % 4 < 3 → 4 * c + x % 4 ≡ x
+      whole x c on few = omega (arith, on)
+
+      by : (i : ℕ) → i < 3 → P (4 * c + i)
+      by zero few = are.own 0 (o.internal own_slot)
+      by (suc zero) few = are.own 1 (o.left own_slot)
+      by (suc (suc zero)) few = are.own 2 (o.right own_slot)
+      by (suc (suc (suc i))) few = absurd (omega arith)
+
+  allowed_insert : Knows v (fact.IOver c) → insert_over (stage c) ≡ true
+  allowed_insert k = (mine_sound plan tree m id v there).facts (fact.IOver c) k
+
+  allowed_delete : Knows v (fact.DOver c) → delete_over (stage c) ≡ true
+  allowed_delete k = (mine_sound plan tree m id v there).facts (fact.DOver c) k
+
+  allowed_backed : Knows v (fact.Backed c) → is_backed (stage c) ≡ true
+  allowed_backed k = (mine_sound plan tree m id v there).facts (fact.Backed c) k
+
+  -- so it is of each node that the card made dead
+  pub all_retired : IsRetired s v r c → (x : ℕ) → x % 4 < 3 → has_slot_in s.last (card x) ≡ true → Kills w stage c x → P x
+  all_retired (put knows p) x few slot kills = put_done (allowed_insert knows) p x few slot kills
+  all_retired (cut knows h own) x few slot (inl (inl (changed, outer, is))) = absurd (one_kind (stage c) (changed-insert (stage c) changed) (over-delete (stage c) (allowed_delete knows)))
+  all_retired (cut knows h own) x few slot (inl (inr (was_cut, inl is))) =
+      let parent = told_is plan tree m id v there c field.P h.parent h.above in
+      subst P is (are.parent (h.parent_noted (subst (λ y. has_slot_in s.last (card y) ≡ true) (sym is ∙ parent) slot)))
+  all_retired (cut knows h own) x few slot (inl (inr (was_cut, inr is))) =
+      let leaf = told_is plan tree m id v there c field.L h.leaf h.below in
+      subst P is (are.leaf (h.leaf_noted (subst (λ y. has_slot_in s.last (card y) ≡ true) (sym is ∙ leaf) slot)))
+  all_retired (cut knows h own) x few slot (inr (on, never)) = all_own own x few on
+  all_retired (backed knows own) x few slot (inl (inl (changed, outer, is))) = absurd (one_kind (stage c) (changed-insert (stage c) changed) (backed-delete (stage c) (allowed_backed knows)))
+  all_retired (backed knows own) x few slot (inl (inr (was_cut, is))) = absurd (over_not_cut (stage c) was_cut (allowed_backed knows))
+  all_retired (backed knows own) x few slot (inr (on, never)) = all_own own x few on
