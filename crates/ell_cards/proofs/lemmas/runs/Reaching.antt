@@ -31,12 +31,17 @@ use Rattle.ell_cards.proofs.lemmas.runs.TurnsOfRuns.{one_more_turn, runs_are_law
 use Rattle.ell_cards.proofs.lemmas.shown.ShownViews.{takings_are_shown}
 use Rattle.ell_cards.proofs.lemmas.runs.OwnLooks.{looks_read_their_own}
 
--- a new table is where no turn has led
+-- a new table starts
+pub starts_first : (plan : TablePlan) (words : List ℕ) → MayStart plan → length words ≡ table_size plan.last_card
+    → words_of words ≡ words_at_start plan.flat plan.start → Starts plan (opening words [] (first_of plan))
+starts_first plan words may size are = record { may = may; words = record { size = size; are = are }; is = refl }
+
+-- so it is where no turn has led
 pub reached_first : (plan : TablePlan) (words : List ℕ) → MayStart plan → length words ≡ table_size plan.last_card
     → words_of words ≡ words_at_start plan.flat plan.start → IsReached plan (opening words [] (first_of plan))
 reached_first plan words may size are = record {
   first = opening words [] (first_of plan);
-  starts = record { may = may; words = record { size = size; are = are }; is = refl };
+  starts = starts_first plan words may size are;
   turns = [];
   run = refl;
 }

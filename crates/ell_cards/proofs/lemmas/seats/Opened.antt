@@ -177,10 +177,10 @@ module _ (t u : TableModel) (p q : PassModel) (same_table : t ≡ u) (same_pass 
   owed tree shows seat period slotted sought held keys share standing word f told notes c none empty fits placed stores at may kept does quiet same tells noted =
       let is : q.view ≡ shown tree = ap (λ (m : PassModel). m.view) (sym same_pass) ∙ sym shows in
       let taken : q.slot ≡ period.slot = ap (λ (m : PassModel). m.slot) (sym same_pass) ∙ sym slotted in
-      let noted : q.sought ≡ period.sought = ap (λ (m : PassModel). m.sought) (sym same_pass) ∙ sym sought in
+      let seeks : q.sought ≡ period.sought = ap (λ (m : PassModel). m.sought) (sym same_pass) ∙ sym sought in
       let asks : (s : Slots) → u.plan.slots ≡ Some s → MayInMemory s period.slot period.sought.retired (shown tree) c =
       λ s some. subst (λ v. MayInMemory s period.slot period.sought.retired v c) is
-      (subst (λ (k : Seek). MayInMemory s period.slot k.retired q.view c) noted (subst (λ o. MayInMemory s o q.sought.retired q.view c) taken (kept s some))) in
+      (subst (λ (k : Seek). MayInMemory s period.slot k.retired q.view c) seeks (subst (λ o. MayInMemory s o q.sought.retired q.view c) taken (kept s some))) in
       let step = tree_step u.plan (record { tree = tree; period = period }) c f told notes stores (subst (May u.plan c) is may) asks (λ some. placed.lost) does quiet same (subst (λ v. MayTell u.plan c v told) is tells) noted in
       let rule : (id : ℕ) → Allows (IsWhole t.plan) 0 id (record { tree = tree; period = period }, []) word f (λ n x. told n (shown x.0.tree) × (x.0.period ≡ notes n) × (x.1 ≡ [])) =
       subst (λ (i : ℕ). (id : ℕ) → Allows (IsWhole t.plan) 0 id (record { tree = tree; period = period }, []) i f (λ n x. told n (shown x.0.tree) × (x.0.period ≡ notes n) × (x.1 ≡ []))) (sym at)

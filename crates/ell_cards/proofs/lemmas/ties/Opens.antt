@@ -1,5 +1,5 @@
 -- The memory of a table with places is tied to its tree as it opens.
-use Rattle.std.proofs.Common.{◌≡◌, ◌≢◌, ◌+◌, ◌-◌, ◌%◌, ◌^◌, ◌<◌, ◌≤◌, ℕ, zero, suc, if◌then◌else◌, nat_lt, Bool, true, false, Some, None, List, [], ◌∷◌, ◌++◌, replicate, length, get_or, inl, refl, sym, ap, ◌∙◌, subst, arith}
+use Rattle.std.proofs.Common.{◌≡◌, ◌≢◌, ◌+◌, ◌*◌, ◌-◌, ◌%◌, ◌^◌, ◌<◌, ◌≤◌, ℕ, zero, suc, if◌then◌else◌, nat_lt, Bool, true, false, Some, None, List, [], ◌∷◌, ◌++◌, replicate, length, get_or, inl, inr, refl, sym, ap, ◌∙◌, subst, arith, ltb-false}
 use Rattle.std.proofs.lemmas.Bool.Decides.{nat_tests}
 use Rattle.std.proofs.lemmas.List.{length-append}
 use Rattle.ell_word.specs.Node.{card}
@@ -30,7 +30,7 @@ use Rattle.ell_cards.specs.States.{TableState}
 use Rattle.ell_cards.specs.Tied.{LiesThere, HasWon, IsKept, won, stored, IsTied}
 use Rattle.ell_cards.specs.Ties.{IsTiedByAges, OpeningsAreTied}
 use Rattle.ell_cards.proofs.lemmas.lifetimes.Openings.{start_next}
-use Rattle.ell_cards.proofs.lemmas.runs.Reaching.{reached_first}
+use Rattle.ell_cards.proofs.lemmas.runs.Reaching.{reached_first, starts_first}
 use Rattle.ell_cards.proofs.lemmas.shown.CutWords.{cut_same}
 use Rattle.ell_cards.proofs.lemmas.runs.Starting.{starts_are_kept}
 use Rattle.ell_cards.proofs.lemmas.runs.Touching.{none_out}
@@ -64,7 +64,7 @@ no_field start (suc c) = by (nat_lt c (length start))
     by false = (refl, refl)
 
 -- so it is of the words of a table as it opens
-no_info : (flat : Bool) (start : List (ℕ × ℕ)) (words : List ℕ) → words_of words ≡ words_at_start flat start
+pub no_info : (flat : Bool) (start : List (ℕ × ℕ)) (words : List ℕ) → words_of words ≡ words_at_start flat start
     → (c : ℕ) (f : Field) → NoInfo f (get_or words (address c f) 0)
 no_info flat start words are c field.Gp = by flat are
   where
@@ -78,7 +78,7 @@ no_info flat start words are c field.P = by flat are
     by false are = sym (said_in_list words c field.P) ∙ (ap (λ (w : Words). w.p c) are ∙ (no_field start c).1)
 no_info flat start words are c _ = tt
 
-alone_there : (first : Known) (P : Known → Type 0) → P first → (j : ℕ) (u : Known) → get_elem? (first ∷ []) j ≡ some u → P u
+pub alone_there : (first : Known) (P : Known → Type 0) → P first → (j : ℕ) (u : Known) → get_elem? (first ∷ []) j ≡ some u → P u
 alone_there first P h zero u at = subst P (some-injective first u at) h
 alone_there first P h (suc j) u at = absurd (some-ne-none u (sym at))
 
@@ -144,24 +144,29 @@ module _ (plan : TablePlan) (s : Slots) (cards all : List ℕ) (may : MayStart p
   abbrev pub opened : WholeState
   opened = opening all [] (record { tree = first_of plan; period = period_by (Some s) })
 
-  pub reached_opened : IsReached plan tree_opened
-  reached_opened =
+  long_opened : length (cards ++ replicate long 0) ≡ table_size plan.last_card
+  long_opened =
       let last = fit.2 in
       let most = fit.4 in
-      reached_first plan (cards ++ replicate long 0) may (length-append cards (replicate long 0) ∙ (let many = zeros_many long in omega arith))
-      (words_same (cards ++ replicate long 0) cards (with_zeros cards long) ∙ are)
+      length-append cards (replicate long 0) ∙ (let many = zeros_many long in omega arith)
 
-  rest : IsAtRest (first_of plan)
+  words_opened : words_of (cards ++ replicate long 0) ≡ words_at_start plan.flat plan.start
+  words_opened = words_same (cards ++ replicate long 0) cards (with_zeros cards long) ∙ are
+
+  pub reached_opened : IsReached plan tree_opened
+  reached_opened = reached_first plan (cards ++ replicate long 0) may long_opened words_opened
+
+  pub rest : IsAtRest (first_of plan)
   rest = is_at_rest (first_of plan) refl refl refl refl refl
 
-  starts : StartIsKept plan tree_opened
-  starts = starts_are_kept plan tree_opened reached_opened.starts
+  pub starts : StartIsKept plan tree_opened
+  starts = starts_are_kept plan tree_opened (starts_first plan (cards ++ replicate long 0) may long_opened words_opened)
 
   abbrev ages : AgesAreSound plan s tree_opened opened (lies_opened (length plan.start)) out_opened (λ q x. false)
   ages = first_ages plan s tree_opened starts (length plan.start) cards all size h rest fit.0 may.limit
 
   -- the claim word is behind the cards of the start keys
-  next : get_or (cards ++ replicate long 0) 0 0 ≡ length plan.start + 1
+  pub next : get_or (cards ++ replicate long 0) 0 0 ≡ length plan.start + 1
   next =
       sym (listed_next (cards ++ replicate long 0))
       ∙ (ap (λ (w : Words). w.next) (words_same (cards ++ replicate long 0) cards (with_zeros cards long) ∙ are) ∙ start_next plan.flat plan.start)
@@ -209,7 +214,7 @@ module _ (plan : TablePlan) (s : Slots) (cards all : List ℕ) (may : MayStart p
         where
           by : (b : Bool) → nat_lt (length plan.start) slot ≡ b → get_or all (slot_word s slot) 0 ≡ (if b then free_word 0 else 0) → slot ≤ length plan.start
           by true e is = absurd (used (ap (λ n. n % 8) is))
-          by false e is = grind (arith, nat_tests)
+          by false e is = ltb-false (length plan.start) slot e
 
       given_won : (slot : ℕ) → slot ≤ s.last → get_or all (slot_word s slot) 0 % 8 ≢ 7 → HasWon starts.kept.stages (lies_opened (length plan.start) slot)
       given_won slot low used =

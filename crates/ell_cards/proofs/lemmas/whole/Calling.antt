@@ -205,7 +205,7 @@ module _ (plan : TablePlan) (s : WholeState) (h : IsWhole plan s) (id : ℕ) (k 
       has_words : (length s.words ≡ slots_size sl) × FieldsAreWhole h.tree.words
       has_words = subst (λ o. WordsAre o s.words h.tree.words) placed h.words
 
-      its_periods : PeriodsAre plan (Some sl) h.tree s
+      abbrev its_periods : PeriodsAre plan (Some sl) h.tree s
       its_periods = subst (λ o. PeriodsAre plan o h.tree s) placed h.periods
 
       abbrev pub has : HasPeriods plan sl h.tree s
@@ -297,18 +297,6 @@ module _ (plan : TablePlan) (s : WholeState) (h : IsWhole plan s) (id : ℕ) (k 
             s (memory_after h.tree s homes id k c) has.lie h.views (slots_stay s id k here (view_after h.tree k.tree c) sl (place_of c) cut tied_touch.inside) held has.retired;
       }
 
-      -- and if it noted the card whose flag it lost
-      noted_periods : (p : Period) → Notes plan.slots c (found_by h.tree c) k.period p
-          → HasPeriods plan sl after (record { words = set s.words (place_of c) cut; homes = homes; views = set s.views id (noting p) })
-      noted_periods p (nothing is flags) =
-          subst (λ q. HasPeriods plan sl after (record { words = set s.words (place_of c) cut; homes = homes; views = set s.views id (noting q) })) (sym is) tied_periods
-      noted_periods p (loses d is flags unwon) =
-          let at : get_elem? (set s.views id knows) id ≡ some knows = set_there s.views id knows k here in
-          subst (λ q. HasPeriods plan sl after (record { words = set s.words (place_of c) cut; homes = homes; views = set s.views id (noting q) })) (sym is)
-          (subst (λ l. HasPeriods plan sl after (record { words = set s.words (place_of c) cut; homes = homes; views = l })) (set_twice s.views id knows (noting (record k.period { lost = Some d })))
-          (lost_now plan sl after (memory_after h.tree s homes id k c) id knows at tied_periods (Some d)
-          (λ e is. subst (IsAside tied_ages.ages.now.machine.stages after.views) (same_Some d e is) (aside_in_ages plan sl h.tree s has.lie has.dead has.was_dead has.ages id k.tree tree_here c may (memory_after h.tree s homes id k c) tied_ages d flags unwon))))
-
       -- by that no slot stays in use for nothing
       noted_leaks : (p : Period) → Notes plan.slots c (found_by h.tree c) k.period p
           → NothingLeaks sl (record { words = set s.words (place_of c) cut; homes = homes; views = set s.views id (noting p) }) after.views tied_ages.ages.now.machine.words tied_ages.ages.now.machine.stages has.lie
@@ -324,13 +312,24 @@ module _ (plan : TablePlan) (s : WholeState) (h : IsWhole plan s) (id : ℕ) (k 
           lost_by (nothing is won) d flags unwon = absurd (false≢true (sym unwon ∙ won (λ none. some_not_none placed none) d flags))
           lost_by (loses e is flags' unwon') d flags unwon = ap (λ (x : Period). x.lost) is ∙ ap Some (flags_one c e d flags' flags)
 
-      whole_periods : (p : Period) → Notes plan.slots c (found_by h.tree c) k.period p
-          → PeriodsAre plan (Some sl) after (record { words = set s.words (place_of c) cut; homes = homes; views = set s.views id (noting p) })
-      whole_periods p notes = by p notes
-        where
-          by : (p : Period) → Notes plan.slots c (found_by h.tree c) k.period p
-              → PeriodsAre plan (Some sl) after (record { words = set s.words (place_of c) cut; homes = homes; views = set s.views id (noting p) })
-          by p notes = (noted_periods p notes, noted_leaks p notes)
+      abbrev Periods : List Known → Type 0
+      Periods views = PeriodsAre plan (Some sl) after (record { words = set s.words (place_of c) cut; homes = homes; views = views })
+
+      -- if it noted the card whose flag it lost, too
+      lost_periods_too : (d : ℕ) → FlagsCard c d → is_won (atomic_of c) (found_by h.tree c) ≡ false → Periods (set (set s.views id knows) id (noting (record k.period { lost = Some d })))
+      lost_periods_too d flags unwon = (
+        lost_now plan sl after (memory_after h.tree s homes id k c) id knows (set_there s.views id knows k here) tied_periods (Some d)
+            (λ e is. subst (IsAside tied_ages.ages.now.machine.stages after.views) (same_Some d e is) (aside_in_ages plan sl h.tree s has.lie has.dead has.was_dead has.ages id k.tree tree_here c may (memory_after h.tree s homes id k c) tied_ages d flags unwon)),
+        subst (λ l. NothingLeaks sl (record { words = set s.words (place_of c) cut; homes = homes; views = l }) after.views tied_ages.ages.now.machine.words tied_ages.ages.now.machine.stages has.lie)
+            (sym (set_twice s.views id knows (noting (record k.period { lost = Some d })))) (noted_leaks (record k.period { lost = Some d }) (loses d refl flags unwon)),
+      )
+
+      whole_periods : (p : Period) → Notes plan.slots c (found_by h.tree c) k.period p → Periods (set s.views id (noting p))
+      whole_periods p (nothing is flags) =
+          subst (λ q. Periods (set s.views id (noting q))) (sym is) (tied_periods, noted_leaks k.period (nothing refl flags))
+      whole_periods p (loses d is flags unwon) =
+          subst (λ q. Periods (set s.views id (noting q))) (sym is)
+          (subst Periods (set_twice s.views id knows (noting (record k.period { lost = Some d }))) (lost_periods_too d flags unwon))
 
       pub tied_whole : (p : Period) → Notes plan.slots c (found_by h.tree c) k.period p → IsWhole plan (stepped s (place_of c) cut id [] (noting p) keeps)
       tied_whole p notes = whole_after p (place_of c) cut

@@ -116,13 +116,13 @@ module _ (plan : TablePlan) (tree : TableState) (id : ℕ) (v : View) (there : g
     put_done : (x : ℕ) → x % 4 < 3 → has_slot_in s.last (card x) ≡ true → Kills w stage c x → P x
     put_done x few slot (inl (inl (changed, outer, is))) =
         subst P is (are.leaf (p.leaf (λ inner. outer (ap (λ y. y % 4) below ∙ inner)) (subst (λ y. has_slot_in s.last (card y) ≡ true) (sym is ∙ below) slot)))
-    put_done x few slot (inl (inr (cut, is))) = absurd (one_kind (stage c) kind (cut-delete (stage c) cut))
-    put_done x few slot (inr (on, ended, inl unborn)) =
+    put_done x few slot (inl (inr (cuts, is))) = absurd (one_kind (stage c) kind (cut-delete (stage c) cuts))
+    put_done x few slot (inr (on, (ended, inl unborn))) =
         subst P (whole x c on few) (replaced_or_born (x % 4) few (λ born. unborn (subst (λ d. is_node_born (stage d) (x % 4) ≡ true) (sym on) born)))
       where
         whole : (x c : ℕ) → card x ≡ c → x % 4 < 3 → 4 * c + x % 4 ≡ x
         whole x c on few = omega (arith, on)
-    put_done x few slot (inr (on, ended, inr (changed, inner, outer, key))) =
+    put_done x few slot (inr (on, (ended, inr (changed, inner, outer, key)))) =
         let at = whole x c on few in
         subst P at (unused (x % 4) few (subst (λ d. IsInternal (w.l d)) on inner) (subst IsLeaf (sym at) outer) (ap w.key at ∙ (key ∙ ap (λ d. w.key (w.l d)) on)))
       where

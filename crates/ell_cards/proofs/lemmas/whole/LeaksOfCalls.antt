@@ -68,8 +68,8 @@ pub won_later : (old new : Stages) → StagesLater old new → (d : ℕ) → Has
 won_later old new later d won = elim (won_kind (old d) won) [
   | inl start ↦ start_won (new d) (later.start d ∙ start)
   | inr kind ↦ elim kind [
-    | inl put ↦ insert_is_won (new d) (later.told (fact.IFlagged d) d put)
-    | inr cut ↦ delete_is_won (new d) (later.told (fact.DFlagged d) d cut)
+    | inl puts ↦ insert_is_won (new d) (later.told (fact.IFlagged d) d puts)
+    | inr cuts ↦ delete_is_won (new d) (later.told (fact.DFlagged d) d cuts)
   ]
 ]
 
@@ -97,18 +97,18 @@ module _ (w w' : Words) (old new : Stages) (words : WordsLater w w') (later : St
   changed_before : is_changed (new c) ≡ true → is_changed (old c) ≡ true
   changed_before changed = elim (ended_cases (old c) ended) [
     | inl over ↦ insert_over-changed (old c) over
-    | inr cut ↦ elim cut [
+    | inr cuts ↦ elim cuts [
       | inl over ↦ absurd (one_kind (new c) (changed-insert (new c) changed) (later.delete c (over-delete (old c) over)))
-      | inr backed ↦ absurd (one_kind (new c) (changed-insert (new c) changed) (later.delete c (backed-delete (old c) backed)))
+      | inr backs ↦ absurd (one_kind (new c) (changed-insert (new c) changed) (later.delete c (backed-delete (old c) backs)))
     ]
   ]
 
   cut_before : is_cut (new c) ≡ true → is_cut (old c) ≡ true
-  cut_before cut = elim (ended_cases (old c) ended) [
-    | inl over ↦ absurd (one_kind (new c) (later.insert c (changed-insert (old c) (insert_over-changed (old c) over))) (cut-delete (new c) cut))
+  cut_before cuts = elim (ended_cases (old c) ended) [
+    | inl over ↦ absurd (one_kind (new c) (later.insert c (changed-insert (old c) (insert_over-changed (old c) over))) (cut-delete (new c) cuts))
     | inr more ↦ elim more [
       | inl over ↦ over_cut (old c) over
-      | inr backed ↦ absurd (not_both (new c) cut (later.told (fact.Backed c) c backed))
+      | inr backs ↦ absurd (not_both (new c) cuts (later.told (fact.Backed c) c backs))
     ]
   ]
 
@@ -116,10 +116,10 @@ module _ (w w' : Words) (old new : Stages) (words : WordsLater w w') (later : St
   killed_before x (inl (inl (changed, outer, is))) =
       let same = (words.info c below).l in
       inl (inl (changed_before changed, (λ inner. outer (ap (λ y. y % 4) same ∙ inner)), sym same ∙ is))
-  killed_before x (inl (inr (cut, inl is))) = inl (inr (cut_before cut, inl (sym (words.info c below).p ∙ is)))
-  killed_before x (inl (inr (cut, inr is))) = inl (inr (cut_before cut, inr (sym (words.info c below).l ∙ is)))
-  killed_before x (inr (on, over, inl unborn)) = inr (on, subst (λ d. has_ended (old d) ≡ true) (sym on) ended, inl (λ born. unborn (later.born x born)))
-  killed_before x (inr (on, over, inr (changed, inner, outer, key))) =
+  killed_before x (inl (inr (cuts, inl is))) = inl (inr (cut_before cuts, inl (sym (words.info c below).p ∙ is)))
+  killed_before x (inl (inr (cuts, inr is))) = inl (inr (cut_before cuts, inr (sym (words.info c below).l ∙ is)))
+  killed_before x (inr (on, (over, inl unborn))) = inr (on, (subst (λ d. has_ended (old d) ≡ true) (sym on) ended, inl (λ born. unborn (later.born x born))))
+  killed_before x (inr (on, (over, inr (changed, inner, outer, key)))) =
       let was = changed_before (subst (λ d. is_changed (new d) ≡ true) on changed) in
       let same = (words.info c below).l in
       let at : card x < w.next = subst (λ d. d < w.next) (sym on) below in
@@ -127,12 +127,14 @@ module _ (w w' : Words) (old new : Stages) (words : WordsLater w w') (later : St
       let low : card (w.l (card x)) < w.next = subst (λ d. card (w.l d) < w.next) (sym on) (lower (changed-insert (old c) was)) in
       inr (
         on,
-        subst (λ d. has_ended (old d) ≡ true) (sym on) ended,
-        inr (
-          subst (λ d. is_changed (old d) ≡ true) (sym on) was,
-          ap (λ y. y % 4) (sym goes) ∙ inner,
-          outer,
-          sym (words.key x at) ∙ (key ∙ (ap w'.key goes ∙ words.key (w.l (card x)) low)),
+        (
+          subst (λ d. has_ended (old d) ≡ true) (sym on) ended,
+          inr (
+            subst (λ d. is_changed (old d) ≡ true) (sym on) was,
+            ap (λ y. y % 4) (sym goes) ∙ inner,
+            outer,
+            sym (words.key x at) ∙ (key ∙ (ap w'.key goes ∙ words.key (w.l (card x)) low)),
+          ),
         ),
       )
 
@@ -150,11 +152,11 @@ in_hand plan s m c h = hand_seat s.views h.worker c h.holds h.flagged
 -- a card that has made something dead, and has not ended, is in some hand
 pub killer_in_hand : (plan : TablePlan) (s : TableState) (m : HasMachine plan s) (c x : ℕ) → has_ended (m.stages c) ≡ false → Kills m.words m.stages c x → IsInFlaggedHand s.views c
 killer_in_hand plan s m c x un (inl (inl (changed, outer, is))) = in_hand plan s m c (m.invariant.workers.insert_in_hand c (changed_open (m.stages c) changed un))
-killer_in_hand plan s m c x un (inl (inr (cut, is))) = in_hand plan s m c (m.invariant.workers.delete_in_hand c (cut_open (m.stages c) cut un))
-killer_in_hand plan s m c x un (inr (on, ended, why)) = absurd (false≢true (sym un ∙ subst (λ d. has_ended (m.stages d) ≡ true) on ended))
+killer_in_hand plan s m c x un (inl (inr (cuts, is))) = in_hand plan s m c (m.invariant.workers.delete_in_hand c (cut_open (m.stages c) cuts un))
+killer_in_hand plan s m c x un (inr (on, (ended, why))) = absurd (false≢true (sym un ∙ subst (λ d. has_ended (m.stages d) ≡ true) on ended))
 
 -- a call by which a pass lets its card in hand go
-pub LetsCardGo : Call → Type 0
+abbrev pub LetsCardGo : Call → Type 0
 LetsCardGo call.Again = Unit {0}
 LetsCardGo call.Leave = Unit {0}
 LetsCardGo (call.Answer said) = Unit {0}
@@ -189,7 +191,7 @@ module _ (plan : TablePlan) (s : TableState) (m : HasMachine plan s) (seat : ℕ
   flagged_won c h = by v.worker.operation refl
     where
       by : (o : Option Op) → v.worker.operation ≡ o → HasWon m.stages c
-      by None none = absurd (free_no_card c none h.holds)
+      by None free = absurd (free_no_card c free h.holds)
       by (Some (Find key)) busy = absurd ((mine_sound plan s m seat v there).flagged (Find key) c busy h.holds h.flagged).0
       by (Some (Insert key value)) busy = insert_is_won (m.stages c) ((mine_sound plan s m seat v there).flagged (Insert key value) c busy h.holds h.flagged).0.0
       by (Some (Delete key)) busy = delete_is_won (m.stages c) ((mine_sound plan s m seat v there).flagged (Delete key) c busy h.holds h.flagged).0.0
@@ -226,8 +228,8 @@ module _ (plan : TablePlan) (s : TableState) (m : HasMachine plan s) (seat : ℕ
 
 -- a flag that was won is that of the card in hand
 flag_there : (b : Bool) → b ≡ true → (new : Fact) (x : ℕ) (u : Update) (v w : View) → w.worker ≡ (after_flag b new x u v).worker → (d : ℕ) → v.worker.card ≡ Some d → HasFlagged w d
-flag_there true yes new x u v w same d hand = record { holds = ap (λ k. k.card) same ∙ hand; flagged = ap (λ k. k.flagged) same }
-flag_there false yes new x u v w same d hand = absurd (false≢true yes)
+flag_there true won new x u v w same d hand = record { holds = ap (λ k. k.card) same ∙ hand; flagged = ap (λ k. k.flagged) same }
+flag_there false won new x u v w same d hand = absurd (false≢true won)
 
 pub flag_won : (c : Call) (n : ℕ) (v : View) (d : ℕ) → FlagsCard c d → v.worker.card ≡ Some d → is_won (atomic_of c) n ≡ true → HasFlagged (after c n v) d
 flag_won (call.IFlag e p from) n v d flags hand won = flag_there (n == packed from) won (fact.IFlagged e) p (unpacked n) v (after (call.IFlag e p from) n v) refl d hand
@@ -259,7 +261,7 @@ few_turn_wins s id c d = by (is_won (atomic_of c) (found_by s c))
 
 -- a card that has ended by that had its flag before
 open_by : (s : Stage) → has_ended s ≡ false → 1 ≤ length (wins_of s) → (insert_open s ≡ true) ⊎ (delete_open s ≡ true)
-open_by s un some = grind arith
+open_by s un long = grind arith
 
 was_open : (old new : Stage) (won : List Exchange) → wins_of new ≡ wins_of old ++ won → length won ≤ 1 → has_ended new ≡ true → has_ended old ≡ false → (insert_open old ≡ true) ⊎ (delete_open old ≡ true)
 was_open old new won is few ended un =
@@ -392,8 +394,8 @@ module _ (plan : TablePlan) (sl : Slots) (tree : TableState) (t : WholeState) (i
           ends_now un ended =
               let open_before = was_open (m.stages d) (m'.stages d) (turn_wins tree (Makes id c) d) (wins d) (few_turn_wins tree id c d) ended un in
               elim (hand_on d (elim open_before [
-                | inl put ↦ in_hand plan tree m d (m.invariant.workers.insert_in_hand d put)
-                | inr cut ↦ in_hand plan tree m d (m.invariant.workers.delete_in_hand d cut)
+                | inl puts ↦ in_hand plan tree m d (m.invariant.workers.insert_in_hand d puts)
+                | inr cuts ↦ in_hand plan tree m d (m.invariant.workers.delete_in_hand d cuts)
               ])) [
                 | inl hand ↦ hand
                 | inr go ↦ absurd (false≢true (sym un ∙ retired_ended plan tree m id k.tree there sl k.period.sought.retired d
@@ -401,8 +403,8 @@ module _ (plan : TablePlan) (sl : Slots) (tree : TableState) (t : WholeState) (i
               ]
 
           before : (b : Bool) → has_ended (m.stages d) ≡ b → has_ended (m'.stages d) ≡ true → IsInFlaggedHand after_it.views d
-          before true ended yes = ended_before ended
-          before false un yes = ends_now un yes
+          before true ended over = ended_before ended
+          before false un over = ends_now un over
 
           by : (b : Bool) → has_ended (m'.stages d) ≡ b → IsInFlaggedHand after_it.views d
           by false un = killer_in_hand plan after_it m' d (4 * lie slot + i) un kills

@@ -39,6 +39,7 @@ ends (_ ∷ es) = ends es
 
 -- a card has ended by what it has won
 ended_ends : (s : Stage) → has_ended s ≡ ends (wins_of s)
+unfolding ends
 ended_ends Unclaimed = refl
 ended_ends Opening = refl
 ended_ends IClaimed = refl

@@ -19,6 +19,7 @@ use Rattle.ell_cards.specs.Changes.{first_of}
 use Rattle.ell_cards.specs.Periods.{slots_of, last_for, clock_word, place_word, slot_word, slots_size, stamp_at, pending_by, opening_word, words_of_free_slots, AreOpeningWords, AreWholeWords, size_by, whole_size, period_by, announced_by, period_in, IsAtRest, PeriodHolds, PeriodsAreSound, grace_of}
 use Rattle.ell_cards.specs.Aside.{IsAside}
 use Rattle.ell_cards.specs.Ages.{is_beyond, ForgotWhen, AgesAreSound}
+use Rattle.ell_cards.specs.RunLaws.{StartIsKept}
 use Rattle.ell_cards.specs.SlotWords.{slot_of, card_by, free_word, freed_by, is_noted}
 use Rattle.ell_cards.specs.States.{TableState}
 use Rattle.ell_cards.specs.Starts.{MayStart, SlotsFit, IsReached, most_places}
@@ -236,7 +237,7 @@ module _ (s : Slots) (given : ℕ) (cards all : List ℕ) (size : length cards �
       rests = λ is. rest;
     }
 
-    alone : (P : ℕ → Known → Type 0) → P 0 first → (j : ℕ) (u : Known) → get_elem? (first ∷ []) j ≡ some u → P j u
+    pub alone : (P : ℕ → Known → Type 0) → P 0 first → (j : ℕ) (u : Known) → get_elem? (first ∷ []) j ≡ some u → P j u
     alone P h zero u at = subst (P 0) (some-injective first u at) h
     alone P h (suc j) u at = absurd (some-ne-none u (sym at))
 

@@ -64,7 +64,7 @@ flagging_lost o found expected c p p' is none taken = by o (found == expected) i
     by : (o : Option Slots) (won : Bool) → p' ≡ after_flagging o won c p → (o ≢ None → p.slot ≡ Some c) → LostIs o (not won) c p'
     by None won is taken = ap (λ (x : Period). x.lost) is ∙ none
     by (Some s) true is taken = ap (λ (x : Period). x.lost) is ∙ none
-    by (Some s) false is taken = (ap (λ (x : Period). x.lost) is, ap (λ (x : Period). x.slot) is ∙ taken (λ e. some_not_none e refl))
+    by (Some s) false is taken = (ap (λ (x : Period). x.lost) is, ap (λ (x : Period). x.slot) is ∙ taken (λ e. some_not_none refl e))
 
 -- no table with places has the size of one without
 pub no_places : (words last : ℕ) (s : Slots) → words ≡ slots_size s → words ≡ table_size last → ⊥

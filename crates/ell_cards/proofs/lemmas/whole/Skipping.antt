@@ -1,5 +1,5 @@
 -- A row of claims, in which each card but the last one is laid aside, is one step of the whole table.
-use Rattle.std.proofs.Common.{None, Option, ◌≢◌, ◌≡◌, ℕ, zero, suc, ◌+◌, ◌-◌, ◌<◌, ◌≤◌, ◌==◌, if◌then◌else◌, Bool, true, false, Some, List, [], length, get_or, set, refl, sym, ap, ◌∙◌, subst, arith, eq-eqb, eqb-true, get_or-set_same}
+use Rattle.std.proofs.Common.{None, Option, ◌≢◌, ◌≡◌, ℕ, zero, suc, ◌+◌, ◌-◌, ◌^◌, ◌<◌, ◌≤◌, ◌==◌, if◌then◌else◌, Bool, true, false, Some, List, [], length, get_or, set, refl, sym, ap, ◌∙◌, subst, arith, eq-eqb, eqb-true, get_or-set_same}
 use mathlib.Core.Option.{some}
 use lib.ListN.{get_elem?}
 use prog.Atomic.{either}
@@ -23,7 +23,7 @@ use Rattle.ell_cards.specs.Apart.{IsApart}
 use Rattle.ell_cards.specs.Shown.{IsWord, cut_word, cut_planned, shown}
 use Rattle.ell_cards.specs.Skipping.{after_one, after_row, after_claimed_row, IsFresh, MayStepOn, RowTells}
 use Rattle.ell_cards.specs.Starts.{SlotsFit}
-use Rattle.ell_cards.specs.Stepping.{IsInside, KeepsPass, SameShare, MayTell}
+use Rattle.ell_cards.specs.Stepping.{IsInside, KeepsPass, MayInTable, SameShare, MayTell}
 use Rattle.ell_cards.specs.Turns.{found_by, state_after, view_after}
 use Rattle.ell_cards.specs.Whole.{WordsAre, PeriodsAre, IsWhole}
 use Rattle.ell_cards.proofs.lemmas.runs.Reaching.{reached_kept, call_on}
@@ -230,15 +230,19 @@ module _ (plan : TablePlan) (s : Slots) (placed : plan.slots ≡ Some s) (flat :
   pub row_goes : MayStepOn plan p 0 (λ n. either (n == first) (last + 1) n) (RowTells plan first last node_key p)
   row_goes k is slotted unlost id t h homes here small = by k is slotted unlost id t h here small (get_or t.words 0 0 == first) refl
 
+-- the number before the one behind the last
+pub one_back : (last : ℕ) → last + 1 - 1 ≡ last
+one_back last = omega arith
+
 -- whichever places there are
 pub row_goes_any : (plan : TablePlan) → plan.slots ≢ None → plan.flat ≡ true → (p : PassModel) (first last node_key : ℕ) → first ≤ last → last ≤ plan.last_card
-    → MayClaim (flat_from plan) p.view first node_key → ((d : ℕ) → HoldsWaiting p.view d → p.slot ≢ Some d)
+    → MayClaim (flat_from plan) p.view first node_key → MayInTable plan p (call.Claim first node_key)
     → MayStepOn plan p 0 (λ n. either (n == first) (last + 1) n) (RowTells plan first last node_key p)
 row_goes_any plan there flat p first last node_key order room may lays = by plan.slots refl
   where
     by : (o : Option Slots) → plan.slots ≡ o → MayStepOn plan p 0 (λ n. either (n == first) (last + 1) n) (RowTells plan first last node_key p)
     by None none = absurd (there none)
-    by (Some s) placed = row_goes plan s placed flat p first last node_key order room may lays
+    by (Some s) placed = row_goes plan s placed flat p first last node_key order room may (lays s placed)
 
 -- the pass has the keys and the share that it had, and names what is in the table
 pub row_keeps_pass : (plan : TablePlan) (p : PassModel) (first last node_key : ℕ) → KeepsPass plan p.view (RowTells plan first last node_key p)
@@ -281,7 +285,7 @@ claim_tells plan c node_key v s h id w here is apart (call.Claim d key) same may
 claim_tells plan c node_key v s h id w here is apart _ same may can placed later = absurd cc
 
 -- so a claim is a step that the rule allows
-pub claim_goes : (plan : TablePlan) (p : PassModel) (c node_key : ℕ) → May plan (call.Claim c node_key) p.view → c + 1 < 2 ^ 64 → ((s : Slots) → plan.slots ≡ Some s → (d : ℕ) → HoldsWaiting p.view d → p.slot ≢ Some d)
+pub claim_goes : (plan : TablePlan) (p : PassModel) (c node_key : ℕ) → May plan (call.Claim c node_key) p.view → c + 1 < 2 ^ 64 → MayInTable plan p (call.Claim c node_key)
     → MayStepOn plan p 0 (λ n. either (n == c) (c + 1) n) (RowTells plan c c node_key p)
 claim_goes plan p c node_key may low lays k is slotted unlost id t h homes here small =
     let x = tree_step plan k (call.Claim c node_key) (λ n. either (n == c) (c + 1) n) (λ n w. (w ≡ after_claimed_row (n == c) c c node_key p.view) × IsInside plan w) (λ n. k.period) tt

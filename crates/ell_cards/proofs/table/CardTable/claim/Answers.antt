@@ -1,22 +1,25 @@
-use Rattle.std.proofs.Common.{◌+◌, refl, sym, arith}
+use Rattle.std.proofs.Common.{◌≡◌, ℕ, ◌+◌, ◌-◌, ◌==◌, sym, ap, ◌∙◌, subst, arith}
+use prog.Atomic.{either}
+use Rattle.ell_cards.specs.Skipping.{IsFresh, RowTells, MayStepOn, after_claimed_row}
 use Rattle.ell_cards.proofs.lemmas.seats.Taken.{steps_by}
-use Rattle.ell_cards.proofs.lemmas.shown.CutWords.{cut_same}
-use Rattle.ell_cards.proofs.lemmas.whole.Skipping.{claim_tells, row_keeps_pass}
+use Rattle.ell_cards.proofs.lemmas.whole.Skipping.{claim_goes, one_back, row_keeps_pass}
 use Rattle.ell_cards.proofs.table.CardTable.claim.Goals as goal
 
-pub exchange_as-requires-clause-tells : goal.exchange_as-requires-clause-tells
-exchange_as-requires-clause-tells g c = claim_tells c.args.self.now.plan c.args.card c.args.node_key c.args.pass.now.view
+pub exchange_claim-requires-clause-rule : goal.exchange_claim-requires-clause-rule
+exchange_claim-requires-clause-rule g c =
+    let p = c.args.pass.now in
+    let plan = c.args.self.now.plan in
+    subst (λ last. MayStepOn plan p 0 (λ n. either (n == c.args.card) (c.args.card + 1) n) (RowTells plan c.args.card last c.args.node_key p)) (sym (one_back c.args.card))
+    (claim_goes plan p c.args.card c.args.node_key (c.requires.may, c.requires.room) (let low = c.requires.room in let most = c.names.ensures.room in omega arith) c.requires.kept)
 
-pub exchange_as-requires-clause-keeps : goal.exchange_as-requires-clause-keeps
-exchange_as-requires-clause-keeps g c = row_keeps_pass c.args.self.now.plan c.args.pass.now.view c.args.card c.args.card c.args.node_key
-
-pub exchange_as-requires-clause-exchanges : goal.exchange_as-requires-clause-exchanges
-exchange_as-requires-clause-exchanges g c = record {
-  whole = c.args.card + 1;
-  is = refl;
-  cut = sym (cut_same (c.args.card + 1) (let low = c.requires.room in let most = c.names.ensures.room in omega arith));
-  all = λ none. refl;
-}
+pub exchange_claim-requires-clause-keeps : goal.exchange_claim-requires-clause-keeps
+exchange_claim-requires-clause-keeps g c = row_keeps_pass c.args.self.now.plan c.args.pass.now c.args.card (c.args.card + 1 - 1) c.args.node_key
 
 pub returns : goal.returns
-returns g c = record { step = steps_by c.args.pass.now c.exchange_as.new.pass _ c.exchange_as.ensures.step c.exchange_as.ensures.told.0 }
+returns g c =
+    let won = c.exchange_claim.result == c.args.card in
+    let told = c.exchange_claim.ensures.told.0 ∙ ap (λ last. after_claimed_row won c.args.card last c.args.node_key c.args.pass.now.view) (one_back c.args.card) in
+    record {
+      step = steps_by c.args.pass.now c.exchange_claim.new.pass _ c.exchange_claim.ensures.step told;
+      fresh = subst (IsFresh c.args.self.now.plan c.args.pass.now.slot won) (one_back c.args.card) c.exchange_claim.ensures.told.2;
+    }

@@ -25,7 +25,7 @@ join_seat-requires g c =
       c.right.invariant.1,
       omega arith,
       whole_joins key k l (subst (λ (p : PassModel). IsFree p.view) (sym c.left.view_is) c.requires.left_free)
-          (subst (λ (p : PassModel). IsFree p.view) (sym c.right.view_is) c.requires.right_free)
+          (subst (λ (p : PassModel). IsFree p.view) (sym c.right.view_is) c.requires.right_free) c.right.invariant.2.lost
           c.left.inside.seat.id c.right.inside.seat.id,
     )
 
