@@ -391,6 +391,7 @@ impl<A: Allocator + Copy> CardTable<A> {
         requires plain { IsNoClaim call }
         requires word { word ≡ place_of call }
         requires kept { MayInTable self.now.plan pass.old call }
+        requires unflagging { FlagsNone call }
         requires link { IsLink old }
         requires fits { self.now.plan.slots ≡ None → node < tag_unit }
         requires few { self.now.plan.slots ≡ None → old.tag ≤ greatest_card }

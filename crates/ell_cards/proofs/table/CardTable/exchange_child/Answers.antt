@@ -10,6 +10,9 @@ pub exchange_as-requires-clause-quiet : goal.exchange_as-requires-clause-quiet
 exchange_as-requires-clause-quiet g c =
     exchange_is_quiet c.args.call (linked c.args.old) (linked (next_link c.args.old c.args.node)) c.requires.atomic
 
+pub exchange_as-requires-clause-unflagging : goal.exchange_as-requires-clause-unflagging
+exchange_as-requires-clause-unflagging g c = c.requires.unflagging
+
 pub exchange_as-requires-clause-exchanges : goal.exchange_as-requires-clause-exchanges
 exchange_as-requires-clause-exchanges g c =
     child_exchanges c.args.self.now.plan c.args.call c.args.old c.args.node _ _ c.word.ensures c.next_word.ensures c.requires.atomic c.requires.fits c.requires.few

@@ -12,6 +12,7 @@ loop-place-init g c =
       stands = search rules;
       slot = search rules;
       sought = search rules;
+      lost = search rules;
       looked = search rules;
       least = search rules;
       safe = λ none. absurd (omega arith);

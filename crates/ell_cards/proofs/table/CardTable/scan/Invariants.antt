@@ -11,6 +11,7 @@ invariant-loop-place g l = record {
   stands : StandsAs l.fn.seat.me.0.period l.seat.me.0.period;
   slot : l.seat.me.0.period.slot ≡ l.fn.seat.me.0.period.slot;
   sought : l.seat.me.0.period.sought ≡ l.fn.seat.me.0.period.sought;
+  lost : l.seat.me.0.period.lost ≡ l.fn.seat.me.0.period.lost;
   looked : l.seat.me.0.period.looked ≡ l.place;
   least : l.seat.me.0.period.least ≡ l.least;
   safe : l.slots.places ≤ l.place → l.seat.me.0.period.safe ≡ l.least;
