@@ -10,6 +10,8 @@ use Rattle.ell_layout.specs.declared.field.Field.TheVariants as field
 use Rattle.ell_layout.specs.Layout.{address}
 use Rattle.ell_cards.specs.declared.call.Call.{Call}
 use Rattle.ell_cards.specs.Calls.{May, word_of}
+use Rattle.ell_cards.specs.Leaks.{NothingLeaks}
+use Rattle.ell_cards.specs.Machines.{HasMachine}
 use Rattle.ell_cards.specs.Models.{TablePlan, IsTold}
 use Rattle.ell_cards.specs.Periods.{WholeState, clock_word, slot_word}
 use Rattle.ell_cards.specs.SlotWords.{card_by, is_noted, slot_of, stamp_in}
@@ -73,3 +75,17 @@ abbrev pub RetiredNodesAreNoted : Type 0
 RetiredNodesAreNoted = (plan : TablePlan) (s : Slots) (t : WholeState) → plan.slots ≡ Some s → IsWhole plan t
     → (seat c : ℕ) (k : Known) → get_elem? t.views seat ≡ some k → k.period.slot ≡ Some c → k.tree.worker.card ≡ Some c
     → RetiredIsNoted s t k c
+
+-- No slot stays in use for nothing: so it is of the cards that lie in slots, as the words of those say, and of what has
+-- become of each card in the tree.
+pub record LeaksNoSlot (plan : TablePlan) (s : Slots) (t : WholeState) (h : IsWhole plan t) : Type 0 where
+  pub machine : HasMachine plan h.tree
+  pub lie : ℕ → ℕ
+  pub lies : (slot : ℕ) → slot ≤ s.last → slice_index t.words (slot_word s slot) % 8 ≢ 7
+      → lie slot ≡ card_by slot (slice_index t.words (slot_word s slot))
+  pub leaks : NothingLeaks s t h.tree.views machine.words machine.stages lie
+
+-- wherever steps have led a table with places
+abbrev pub NoSlotLeaks : Type 0
+NoSlotLeaks = (plan : TablePlan) (s : Slots) (t : WholeState) → plan.slots ≡ Some s → (h : IsWhole plan t)
+    → LeaksNoSlot plan s t h

@@ -42,4 +42,7 @@ returns c = record {
   began = λ plan s t placed h seat k is. began_safely plan s h.tree t (subst (λ o. PeriodsAre plan o h.tree t) placed h.periods).0 seat k is;
   free = free_slots_are_untouched;
   retired = retired_nodes_are_noted;
+  leaks = λ plan s t placed h.
+      let has = subst (λ o. PeriodsAre plan o h.tree t) placed h.periods in
+      record { machine = has.0.ages.now.machine; lie = has.0.lie; lies = has.0.lies; leaks = has.1 };
 }

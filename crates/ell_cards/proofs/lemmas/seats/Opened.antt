@@ -14,7 +14,6 @@ use Rattle.ell_cards.specs.SlotWords.{slot_of}
 use Rattle.ell_cards.specs.Tied.{MayInMemory}
 use Rattle.ell_word.specs.Link.{greatest_tag}
 use Rattle.ell_layout.proofs.lemmas.Listed.{address_in_table}
-use Rattle.ell_core.proofs.lemmas.outcomes.Decide.{some_not_none}
 use Rattle.ell_cards.specs.Changes.{ledger_keys}
 use Rattle.ell_cards.specs.Naming.{IsNamed, IsPlaced}
 use Rattle.ell_cards.specs.Inside.{HasShare, HasSlotThere, PassFits, PlaceFits}

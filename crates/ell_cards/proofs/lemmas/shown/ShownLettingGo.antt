@@ -1,5 +1,5 @@
 -- What a pass is to have noted before it lets its card in hand go, by what is shown of what it knows.
-use Rattle.std.proofs.Common.{◌≡◌, ◌≢◌, ℕ, ◌%◌, Option, true, sym, ◌∙◌, subst, arith}
+use Rattle.std.proofs.Common.{◌≡◌, ℕ, Option, true, sym, ◌∙◌, subst, arith}
 use Rattle.ell_word.specs.Node.{card}
 use Rattle.ell_layout.specs.declared.field.Field.TheVariants as field
 use Rattle.ell_cards.specs.declared.view.Retired.{Retired}
@@ -7,12 +7,11 @@ use Rattle.ell_cards.specs.declared.view.Slots.{Slots}
 use Rattle.ell_cards.specs.declared.view.Told.TheVariants.{Info}
 use Rattle.ell_cards.specs.declared.view.View.{View}
 use Rattle.ell_cards.specs.Apart.{cut_node}
-use Rattle.ell_cards.specs.Holding.{HasFlagged}
-use Rattle.ell_cards.specs.LettingGo.{PutIsRetired, OwnAreRetired, CutIsRetired, IsRetired, MayLetGo}
+use Rattle.ell_cards.specs.LettingGo.{PutIsRetired, CutIsRetired, IsRetired, MayLetGo}
 use Rattle.ell_cards.specs.LettingGo.IsRetired.{put, cut, backed}
 use Rattle.ell_cards.specs.Models.{IsTold}
 use Rattle.ell_cards.specs.Shown.{shown}
-use Rattle.ell_cards.specs.SlotWords.{has_slot_in, slot_of, turn_of}
+use Rattle.ell_cards.specs.SlotWords.{has_slot_in}
 use Rattle.ell_cards.proofs.lemmas.shown.ShownDead.{place_whole}
 use Rattle.ell_cards.proofs.lemmas.shown.ShownTold.{was_info}
 use Rattle.ell_cards.proofs.lemmas.words.Slotted.{has_slot_by, slot_inside}

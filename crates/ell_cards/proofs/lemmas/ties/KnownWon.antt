@@ -1,16 +1,16 @@
 -- A card of which a pass knows a node dead has won its flag.
-use Rattle.std.proofs.Common.{◌≡◌, ℕ, ◌%◌, true, inl, inr, ◌⊎◌, sym, ap, ◌∙◌, subst, arith}
+use Rattle.std.proofs.Common.{◌≡◌, ℕ, ◌%◌, true, inl, inr, sym, subst, arith}
 use mathlib.Core.Option.{some}
 use lib.ListN.{get_elem?}
 use Rattle.ell_word.specs.Node.{card}
 use Rattle.ell_layout.specs.declared.field.Field.TheVariants as field
 use Rattle.ell_core.specs.declared.fact.Fact.TheVariants as fact
-use Rattle.ell_core.specs.history.Stages.{Stage, Born, delete_over, is_backed, insert_over}
-use Rattle.ell_core.proofs.lemmas.stages.Order.{insert_over-changed, changed-insert, over-delete, backed-delete}
+use Rattle.ell_core.specs.history.Stages.{Stage, Born, delete_over, is_backed}
+use Rattle.ell_core.proofs.lemmas.stages.Order.{insert_over-changed, changed-insert, over-delete}
 use Rattle.ell_cards.specs.declared.view.View.{View}
-use Rattle.ell_cards.specs.Dead.{KnowsDead, KnowsDeleteEnded, KnowsNeverComes}
+use Rattle.ell_cards.specs.Dead.{KnowsDead}
 use Rattle.ell_cards.specs.Machines.{HasMachine}
-use Rattle.ell_cards.specs.Models.{TablePlan, Knows}
+use Rattle.ell_cards.specs.Models.{TablePlan}
 use Rattle.ell_cards.specs.States.{TableState}
 use Rattle.ell_cards.specs.Tied.{HasWon}
 use Rattle.ell_cards.specs.Touching.{KnowsTakenOut}

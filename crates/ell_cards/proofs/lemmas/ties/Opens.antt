@@ -1,6 +1,5 @@
 -- The memory of a table with places is tied to its tree as it opens.
 use Rattle.std.proofs.Common.{◌≡◌, ◌≢◌, ◌+◌, ◌*◌, ◌-◌, ◌%◌, ◌^◌, ◌<◌, ◌≤◌, ℕ, zero, suc, if◌then◌else◌, nat_lt, Bool, true, false, Some, None, List, [], ◌∷◌, ◌++◌, replicate, length, get_or, inl, inr, refl, sym, ap, ◌∙◌, subst, arith, ltb-false}
-use Rattle.std.proofs.lemmas.Bool.Decides.{nat_tests}
 use Rattle.std.proofs.lemmas.List.{length-append}
 use Rattle.ell_word.specs.Node.{card}
 use mathlib.Core.Option.{some, some-injective, some-ne-none}

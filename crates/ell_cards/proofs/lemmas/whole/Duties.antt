@@ -1,41 +1,34 @@
 -- What a pass has noted for its card in hand, before it lets that go, is all that the card made dead.
-use Rattle.std.proofs.Common.{◌≡◌, ◌≢◌, ℕ, zero, suc, ◌+◌, ◌*◌, ◌%◌, ◌<◌, ◌≤◌, ◌==◌, if◌then◌else◌, nat_le, Bool, true, false, not, Some, inl, inr, ◌⊎◌, refl, sym, ap, ◌∙◌, subst, arith, eq-eqb, eqb-true, ne_eqb}
-use Rattle.std.proofs.lemmas.Bool.{cases_eq, false≢true}
+use Rattle.std.proofs.Common.{◌≡◌, ◌≢◌, ℕ, zero, suc, ◌+◌, ◌*◌, ◌%◌, ◌<◌, ◌==◌, if◌then◌else◌, Bool, true, false, not, inl, inr, refl, sym, ap, ◌∙◌, subst, arith, eq-eqb, eqb-true, ne_eqb}
+use Rattle.std.proofs.lemmas.Bool.{cases_eq}
 use mathlib.Core.Option.{some}
 use lib.ListN.{get_elem?}
-use Rattle.ell_ops.specs.declared.op.Op.{Op}
 use Rattle.ell_ops.specs.Meaning.{key_of}
 use Rattle.ell_word.specs.Node.{IsInternal, card, left_leaf, right_leaf}
 use Rattle.ell_layout.specs.declared.field.Field.TheVariants as field
 use Rattle.ell_layout.specs.Words.{Words, IsLeaf}
 use Rattle.ell_layout.specs.Cards.{is_replace_card}
-use Rattle.ell_core.specs.declared.fact.Fact.{Fact}
 use Rattle.ell_core.specs.declared.fact.Fact.TheVariants as fact
-use Rattle.ell_core.specs.history.Stages.{Stage, Stages, Born, is_node_born, is_born, is_changed, is_cut, is_insert, is_delete, insert_over, delete_over, is_backed}
+use Rattle.ell_core.specs.history.Stages.{Stage, Stages, is_node_born, is_born, is_cut, is_insert, insert_over, delete_over, is_backed}
 use Rattle.ell_core.specs.history.Invariant.{insert_key}
 use Rattle.ell_core.specs.state.Machine.{Worker}
 use Rattle.ell_core.proofs.lemmas.stages.Order.{changed-insert, cut-delete, one_kind, over-delete, backed-delete, insert_over-changed}
-use Rattle.ell_cards.specs.declared.view.Known.{Known}
 use Rattle.ell_cards.specs.declared.view.Retired.{Retired}
 use Rattle.ell_cards.specs.declared.view.Slots.{Slots}
 use Rattle.ell_cards.specs.declared.view.View.{View}
 use Rattle.ell_cards.specs.Ages.{AreRetired}
-use Rattle.ell_cards.specs.Dead.{KnowsDeleteEnded}
 use Rattle.ell_cards.specs.Holding.{HasFlagged}
 use Rattle.ell_cards.specs.Laws.{machine_of_table}
 use Rattle.ell_cards.specs.Leaks.{Kills}
-use Rattle.ell_cards.specs.LettingGo.{PutIsRetired, OwnAreRetired, CutIsRetired, IsRetired}
+use Rattle.ell_cards.specs.LettingGo.{PutIsRetired, OwnAreRetired, IsRetired}
 use Rattle.ell_cards.specs.LettingGo.IsRetired.{put, cut, backed}
 use Rattle.ell_cards.specs.Machines.{HasMachine}
 use Rattle.ell_cards.specs.Models.{TablePlan, Knows}
 use Rattle.ell_cards.specs.SlotWords.{has_slot_in}
 use Rattle.ell_cards.specs.States.{TableState}
-use Rattle.ell_cards.specs.Tied.{HasWon}
 use Rattle.ell_cards.proofs.lemmas.runs.Alive.{own_key}
 use Rattle.ell_cards.proofs.lemmas.seats.Seats.{mine_is, mine_sound}
 use Rattle.ell_cards.proofs.lemmas.stepping.Exchanges.{told_is}
-use Rattle.ell_grace.specs.Dead.{NeverComes}
-use Rattle.ell_grace.specs.Gone.{TakesOut}
 
 over_not_cut : (s : Stage) → is_cut s ≡ true → is_backed s ≡ true → ⊥
 over_not_cut s h b = grind arith

@@ -103,27 +103,30 @@ module _ (plan : TablePlan) (s : Slots) (tree : TableState) (t : WholeState) (id
   pub reads_now : (slot : ℕ) → slot ≤ s.last → (sought : Seek) → HasRetired t.words sought.retired
       → GoesTo plan s tree t h (turned_to t id k (record (after_read slot (get_or t.words (slot_word s slot) 0) k.period) { sought = sought }) (slot_word s slot) (get_or t.words (slot_word s slot) 0))
   reads_now slot inside sought mine =
-      let n = get_or t.words (slot_word s slot) 0 in record { periods = record {
-        lie = h.lie;
-        lies = lie_same s h.lie t.words (set t.words (slot_word s slot) n) (λ other low. same_again plan s tree t id k here h size (slot_word s slot) (omega arith) other) h.lies;
-        dead = h.dead;
-        began = h.began;
-        was_dead = h.was_dead;
-        periods = slot_read s t id k here h.lie h.dead h.began h.was_dead h.periods size slot inside sought;
-        ages = ages_of_period plan s tree t id k here (record { tree = k.tree; period = record (after_read slot n k.period) { sought = sought } }) refl (set t.words (slot_word s slot) n) h.lie h.lie h.dead h.dead h.was_dead h.was_dead h.ages
-            h.ages.now.each h.ages.still (λ q a at an. h.ages.since id q a k here at an) (λ j q a u other at placed an. refl)
-            (same_noted plan s tree t id k here h (set t.words (slot_word s slot) n) (same_again plan s tree t id k here h size (slot_word s slot) (omega arith)))
-            (λ x out is. same_slots (set t.words (slot_word s slot) n) same x is)
-            (λ r has used i is. subst (λ (x : SlotRead). x.word % 8 ≢ 7 → is_noted x.word i ≡ true → OutThere (set t.words (slot_word s slot) n) (4 * card_by x.slot x.word + i)) (same_Some _ r has) (reads i) used is)
-            (λ c has. h.ages.lost id c k here has);
-        tied = tie_of_period s tree t h.ages.now.machine.stages h.lie h.dead h.dead h.was_dead h.was_dead h.tied id k here (record (after_read slot n k.period) { sought = sought }) refl (set t.words (slot_word s slot) n)
-            (λ j low. word_again t.words (slot_word s slot) (omega arith) j)
-            (λ c lives. lives) (λ q a at an. inl (at, an, λ c lives. lives)) (λ seat q a u other at placed an c lives. lives) t.homes;
-        retired = retired_of_period plan s tree h.ages.now.machine h.ages.now.uses t id k here (record (after_read slot n k.period) { sought = sought }) (set t.words (slot_word s slot) n) h.lie h.lie
-            (λ x out is. same_slots (set t.words (slot_word s slot) n) same x is)
-            (retired_then (set t.words (slot_word s slot) n) (λ x out is. same_slots (set t.words (slot_word s slot) n) same x is) sought.retired mine) h.retired;
-      }; leaks = λ was. leaks_same s t tree.views h.ages.now.machine.words h.ages.now.machine.stages h.lie was id k here (record (after_read slot n k.period) { sought = sought }) (set t.words (slot_word s slot) n)
-          (λ other low used. holds_so k (record (after_read slot n k.period) { sought = sought }) refl refl (h.lie other)) same }
+      let n = get_or t.words (slot_word s slot) 0 in record {
+        periods = record {
+          lie = h.lie;
+          lies = lie_same s h.lie t.words (set t.words (slot_word s slot) n) (λ other low. same_again plan s tree t id k here h size (slot_word s slot) (omega arith) other) h.lies;
+          dead = h.dead;
+          began = h.began;
+          was_dead = h.was_dead;
+          periods = slot_read s t id k here h.lie h.dead h.began h.was_dead h.periods size slot inside sought;
+          ages = ages_of_period plan s tree t id k here (record { tree = k.tree; period = record (after_read slot n k.period) { sought = sought } }) refl (set t.words (slot_word s slot) n) h.lie h.lie h.dead h.dead h.was_dead h.was_dead h.ages
+              h.ages.now.each h.ages.still (λ q a at an. h.ages.since id q a k here at an) (λ j q a u other at placed an. refl)
+              (same_noted plan s tree t id k here h (set t.words (slot_word s slot) n) (same_again plan s tree t id k here h size (slot_word s slot) (omega arith)))
+              (λ x out is. same_slots (set t.words (slot_word s slot) n) same x is)
+              (λ r has used i is. subst (λ (x : SlotRead). x.word % 8 ≢ 7 → is_noted x.word i ≡ true → OutThere (set t.words (slot_word s slot) n) (4 * card_by x.slot x.word + i)) (same_Some _ r has) (reads i) used is)
+              (λ c has. h.ages.lost id c k here has);
+          tied = tie_of_period s tree t h.ages.now.machine.stages h.lie h.dead h.dead h.was_dead h.was_dead h.tied id k here (record (after_read slot n k.period) { sought = sought }) refl (set t.words (slot_word s slot) n)
+              (λ j low. word_again t.words (slot_word s slot) (omega arith) j)
+              (λ c lives. lives) (λ q a at an. inl (at, an, λ c lives. lives)) (λ seat q a u other at placed an c lives. lives) t.homes;
+          retired = retired_of_period plan s tree h.ages.now.machine h.ages.now.uses t id k here (record (after_read slot n k.period) { sought = sought }) (set t.words (slot_word s slot) n) h.lie h.lie
+              (λ x out is. same_slots (set t.words (slot_word s slot) n) same x is)
+              (retired_then (set t.words (slot_word s slot) n) (λ x out is. same_slots (set t.words (slot_word s slot) n) same x is) sought.retired mine) h.retired;
+        };
+        leaks = λ was. leaks_same s t tree.views h.ages.now.machine.words h.ages.now.machine.stages h.lie was id k here (record (after_read slot n k.period) { sought = sought }) (set t.words (slot_word s slot) n)
+            (λ other low used. holds_so k (record (after_read slot n k.period) { sought = sought }) refl refl (h.lie other)) same;
+      }
     where
       now : ℕ
       now = get_or t.words (slot_word s slot) 0
@@ -145,26 +148,29 @@ module _ (plan : TablePlan) (s : Slots) (tree : TableState) (t : WholeState) (id
   pub stamps_now : (c : ℕ) → MayStamp k c
       → GoesTo plan s tree t h (turned_to t id k (after_stamp c (get_or t.words (clock_word s) 0) k.period) (clock_word s) (get_or t.words (clock_word s) 0))
   stamps_now c may =
-      let n = get_or t.words (clock_word s) 0 in record { periods = record {
-        lie = h.lie;
-        lies = lie_same s h.lie t.words (set t.words (clock_word s) n) (λ other low. same_again plan s tree t id k here h size (clock_word s) (omega arith) other) h.lies;
-        dead = put h.dead c true;
-        began = h.began;
-        was_dead = h.was_dead;
-        periods = card_stamped s t id k here h.lie h.dead h.began h.was_dead h.periods size c;
-        ages = ages_of_period plan s tree t id k here (record { tree = k.tree; period = after_stamp c n k.period }) refl (set t.words (clock_word s) n) h.lie h.lie h.dead (put h.dead c true) h.was_dead h.was_dead h.ages
-            each (λ q d was. still d (h.ages.still q d was)) (λ q a at an. h.ages.since id q a k here at an) (λ j q a u other at placed an. refl)
-            (same_noted plan s tree t id k here h (set t.words (clock_word s) n) (same_again plan s tree t id k here h size (clock_word s) (omega arith)))
-            (λ x out is. same_slots (set t.words (clock_word s) n) same x is)
-            (λ r has used i is. (let old = h.ages.read id k r here has used i is in (old.0, same_slots (set t.words (clock_word s) n) same _ old.1)))
-            (λ d has. h.ages.lost id d k here has);
-        tied = tie_of_period s tree t h.ages.now.machine.stages h.lie h.dead (put h.dead c true) h.was_dead h.was_dead h.tied id k here (after_stamp c n k.period) refl (set t.words (clock_word s) n)
-            (λ j low. word_again t.words (clock_word s) (omega arith) j)
-            less (λ q a at an. inl (at, an, λ d lives. lives)) (λ seat q a u other at placed an d lives. lives) t.homes;
-        retired = retired_so plan s tree h.ages.now.machine h.ages.now.uses t id k here (after_stamp c n k.period) refl refl (set t.words (clock_word s) n) h.lie h.lie
-            (λ x out is. same_slots (set t.words (clock_word s) n) same x is) h.retired;
-      }; leaks = λ was. leaks_same s t tree.views h.ages.now.machine.words h.ages.now.machine.stages h.lie was id k here (after_stamp c n k.period) (set t.words (clock_word s) n)
-          (λ other low used. holds_so k (after_stamp c n k.period) refl refl (h.lie other)) same }
+      let n = get_or t.words (clock_word s) 0 in record {
+        periods = record {
+          lie = h.lie;
+          lies = lie_same s h.lie t.words (set t.words (clock_word s) n) (λ other low. same_again plan s tree t id k here h size (clock_word s) (omega arith) other) h.lies;
+          dead = put h.dead c true;
+          began = h.began;
+          was_dead = h.was_dead;
+          periods = card_stamped s t id k here h.lie h.dead h.began h.was_dead h.periods size c;
+          ages = ages_of_period plan s tree t id k here (record { tree = k.tree; period = after_stamp c n k.period }) refl (set t.words (clock_word s) n) h.lie h.lie h.dead (put h.dead c true) h.was_dead h.was_dead h.ages
+              each (λ q d was. still d (h.ages.still q d was)) (λ q a at an. h.ages.since id q a k here at an) (λ j q a u other at placed an. refl)
+              (same_noted plan s tree t id k here h (set t.words (clock_word s) n) (same_again plan s tree t id k here h size (clock_word s) (omega arith)))
+              (λ x out is. same_slots (set t.words (clock_word s) n) same x is)
+              (λ r has used i is. (let old = h.ages.read id k r here has used i is in (old.0, same_slots (set t.words (clock_word s) n) same _ old.1)))
+              (λ d has. h.ages.lost id d k here has);
+          tied = tie_of_period s tree t h.ages.now.machine.stages h.lie h.dead (put h.dead c true) h.was_dead h.was_dead h.tied id k here (after_stamp c n k.period) refl (set t.words (clock_word s) n)
+              (λ j low. word_again t.words (clock_word s) (omega arith) j)
+              less (λ q a at an. inl (at, an, λ d lives. lives)) (λ seat q a u other at placed an d lives. lives) t.homes;
+          retired = retired_so plan s tree h.ages.now.machine h.ages.now.uses t id k here (after_stamp c n k.period) refl refl (set t.words (clock_word s) n) h.lie h.lie
+              (λ x out is. same_slots (set t.words (clock_word s) n) same x is) h.retired;
+        };
+        leaks = λ was. leaks_same s t tree.views h.ages.now.machine.words h.ages.now.machine.stages h.lie was id k here (after_stamp c n k.period) (set t.words (clock_word s) n)
+            (λ other low used. holds_so k (after_stamp c n k.period) refl refl (h.lie other)) same;
+      }
     where
       same : (other : ℕ) → get_or (set t.words (clock_word s) (get_or t.words (clock_word s) 0)) (slot_word s other) 0 ≡ get_or t.words (slot_word s other) 0
       same = same_again plan s tree t id k here h size (clock_word s) (omega arith)
@@ -223,26 +229,29 @@ module _ (plan : TablePlan) (s : Slots) (tree : TableState) (t : WholeState) (id
       → ((i : ℕ) → is_noted n i ≡ true → OutNow (4 * h.lie slot + i))
       → (n % 8 ≢ 7 → (i : ℕ) → is_noted n i ≡ true → (is_noted (get_or t.words (slot_word s slot) 0) i ≡ true) ⊎ HasWon h.ages.now.machine.stages (h.lie slot))
       → GoesTo plan s tree t h (turned_to t id k (record (k.period) { sought = sought }) (slot_word s slot) n)
-  turns_now slot n sought inside was keeps mine lies sound notes won = record { periods = record {
-    lie = h.lie;
-    lies = lies;
-    dead = h.dead;
-    began = h.began;
-    was_dead = h.was_dead;
-    periods = sound;
-    ages = ages_of_period plan s tree t id k here (record { tree = k.tree; period = record (k.period) { sought = sought } }) refl (set t.words (slot_word s slot) n) h.lie h.lie h.dead h.dead h.was_dead h.was_dead h.ages
-        h.ages.now.each h.ages.still (λ q a at an. h.ages.since id q a k here at an) (λ j q a u other at placed an. refl)
-        noted
-        (λ x out is. noted_then slot n inside was keeps x is)
-        (λ r has used i is. (let old = h.ages.read id k r here has used i is in (old.0, noted_then slot n inside was keeps _ old.1)))
-        (λ c has. h.ages.lost id c k here has);
-    tied = tie_of_period s tree t h.ages.now.machine.stages h.lie h.dead h.dead h.was_dead h.was_dead h.tied id k here (record (k.period) { sought = sought }) refl (set t.words (slot_word s slot) n)
-        (behind plan s tree t id k here h (slot_word s slot) n (omega arith)) (λ c lives. lives)
-        (λ q a at an. inl (at, an, λ c lives. lives)) (λ seat q a u other at placed an c lives. lives) t.homes;
-    retired = retired_of_period plan s tree h.ages.now.machine h.ages.now.uses t id k here (record (k.period) { sought = sought }) (set t.words (slot_word s slot) n) h.lie h.lie
-        (λ x out is. noted_then slot n inside was keeps x is) mine h.retired;
-  }; leaks = λ leaks. leaks_turned s t tree.views h.ages.now.machine.words h.ages.now.machine.stages h.lie leaks id k here (record (k.period) { sought = sought }) slot n inside (omega arith)
-      (λ other low used. holds_so k (record (k.period) { sought = sought }) refl refl (h.lie other)) (λ some. was) won keeps }
+  turns_now slot n sought inside was keeps mine lies sound notes won = record {
+    periods = record {
+      lie = h.lie;
+      lies = lies;
+      dead = h.dead;
+      began = h.began;
+      was_dead = h.was_dead;
+      periods = sound;
+      ages = ages_of_period plan s tree t id k here (record { tree = k.tree; period = record (k.period) { sought = sought } }) refl (set t.words (slot_word s slot) n) h.lie h.lie h.dead h.dead h.was_dead h.was_dead h.ages
+          h.ages.now.each h.ages.still (λ q a at an. h.ages.since id q a k here at an) (λ j q a u other at placed an. refl)
+          noted
+          (λ x out is. noted_then slot n inside was keeps x is)
+          (λ r has used i is. (let old = h.ages.read id k r here has used i is in (old.0, noted_then slot n inside was keeps _ old.1)))
+          (λ c has. h.ages.lost id c k here has);
+      tied = tie_of_period s tree t h.ages.now.machine.stages h.lie h.dead h.dead h.was_dead h.was_dead h.tied id k here (record (k.period) { sought = sought }) refl (set t.words (slot_word s slot) n)
+          (behind plan s tree t id k here h (slot_word s slot) n (omega arith)) (λ c lives. lives)
+          (λ q a at an. inl (at, an, λ c lives. lives)) (λ seat q a u other at placed an c lives. lives) t.homes;
+      retired = retired_of_period plan s tree h.ages.now.machine h.ages.now.uses t id k here (record (k.period) { sought = sought }) (set t.words (slot_word s slot) n) h.lie h.lie
+          (λ x out is. noted_then slot n inside was keeps x is) mine h.retired;
+    };
+    leaks = λ leaks. leaks_turned s t tree.views h.ages.now.machine.words h.ages.now.machine.stages h.lie leaks id k here (record (k.period) { sought = sought }) slot n inside (omega arith)
+        (λ other low used. holds_so k (record (k.period) { sought = sought }) refl refl (h.lie other)) (λ some. was) won keeps;
+  }
     where
       noted : (other i : ℕ) → other ≤ s.last → is_noted (get_or (set t.words (slot_word s slot) n) (slot_word s other) 0) i ≡ true → OutNow (4 * h.lie other + i)
       noted other i low is = elim (cases_eq other slot) [

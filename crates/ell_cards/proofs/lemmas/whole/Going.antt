@@ -74,27 +74,30 @@ module _ (plan : TablePlan) (s : Slots) (tree : TableState) (t : WholeState) (id
       → ((j : ℕ) → j < table_size s.last → get_or (set t.words i n) j 0 ≡ get_or t.words j 0)
       → ((slot : ℕ) → get_or (set t.words i n) (slot_word s slot) 0 ≡ get_or t.words (slot_word s slot) 0)
       → PeriodsAreSound s (turned_to t id k p i n) h.lie h.dead h.began h.was_dead → GoesTo plan s tree t h (turned_to t id k p i n)
-  going p i n was read lost taken retired cards same sound = record { periods = record {
-    lie = h.lie;
-    lies = lie_same s h.lie t.words (set t.words i n) (λ slot low. same slot) h.lies;
-    dead = h.dead;
-    began = h.began;
-    was_dead = h.was_dead;
-    periods = sound;
-    ages = ages_of_period plan s tree t id k here (record { tree = k.tree; period = p }) refl (set t.words i n) h.lie h.lie h.dead h.dead h.was_dead h.was_dead h.ages
-        h.ages.now.each h.ages.still
-        (λ q a at an. let old = was q a at an in h.ages.since id q a k here old.0 old.1)
-        (λ j q a u other there at an. refl)
-        (same_noted (set t.words i n) same)
-        (λ x out is. noted_same plan s t.words (set t.words i n) h.lie (λ slot low. same slot) x is)
-        (λ r has used j is. (let old = h.ages.read id k r here (sym read ∙ has) used j is in (old.0, noted_same plan s t.words (set t.words i n) h.lie (λ slot low. same slot) _ old.1)))
-        (λ c has. h.ages.lost id c k here (sym lost ∙ has));
-    tied = tie_of_period s tree t h.ages.now.machine.stages h.lie h.dead h.dead h.was_dead h.was_dead h.tied id k here p taken (set t.words i n) cards
-        (λ c lives. lives) (λ q a at an. (let old = was q a at an in inl (old.0, old.1, λ c lives. lives)))
-        (λ seat q a u other there at an c lives. lives) t.homes;
-    retired = retired_so plan s tree h.ages.now.machine h.ages.now.uses t id k here p taken retired (set t.words i n) h.lie h.lie
-        (λ x out is. noted_same plan s t.words (set t.words i n) h.lie (λ slot low. same slot) x is) h.retired;
-  }; leaks = λ was. leaks_same s t tree.views h.ages.now.machine.words h.ages.now.machine.stages h.lie was id k here p (set t.words i n) (λ slot low used. holds_so k p taken lost (h.lie slot)) same }
+  going p i n was read lost taken retired cards same sound = record {
+    periods = record {
+      lie = h.lie;
+      lies = lie_same s h.lie t.words (set t.words i n) (λ slot low. same slot) h.lies;
+      dead = h.dead;
+      began = h.began;
+      was_dead = h.was_dead;
+      periods = sound;
+      ages = ages_of_period plan s tree t id k here (record { tree = k.tree; period = p }) refl (set t.words i n) h.lie h.lie h.dead h.dead h.was_dead h.was_dead h.ages
+          h.ages.now.each h.ages.still
+          (λ q a at an. let old = was q a at an in h.ages.since id q a k here old.0 old.1)
+          (λ j q a u other there at an. refl)
+          (same_noted (set t.words i n) same)
+          (λ x out is. noted_same plan s t.words (set t.words i n) h.lie (λ slot low. same slot) x is)
+          (λ r has used j is. (let old = h.ages.read id k r here (sym read ∙ has) used j is in (old.0, noted_same plan s t.words (set t.words i n) h.lie (λ slot low. same slot) _ old.1)))
+          (λ c has. h.ages.lost id c k here (sym lost ∙ has));
+      tied = tie_of_period s tree t h.ages.now.machine.stages h.lie h.dead h.dead h.was_dead h.was_dead h.tied id k here p taken (set t.words i n) cards
+          (λ c lives. lives) (λ q a at an. (let old = was q a at an in inl (old.0, old.1, λ c lives. lives)))
+          (λ seat q a u other there at an c lives. lives) t.homes;
+      retired = retired_so plan s tree h.ages.now.machine h.ages.now.uses t id k here p taken retired (set t.words i n) h.lie h.lie
+          (λ x out is. noted_same plan s t.words (set t.words i n) h.lie (λ slot low. same slot) x is) h.retired;
+    };
+    leaks = λ was. leaks_same s t tree.views h.ages.now.machine.words h.ages.now.machine.stages h.lie was id k here p (set t.words i n) (λ slot low used. holds_so k p taken lost (h.lie slot)) same;
+  }
 
   -- a word is stored again
   pub same_again : length t.words ≡ slots_size s → (i : ℕ) → i < slots_size s → (slot : ℕ)
@@ -114,33 +117,36 @@ module _ (plan : TablePlan) (s : Slots) (tree : TableState) (t : WholeState) (id
   -- and after one begins
   pub begins_now : (q reading : ℕ) → k.period.place ≡ Some q → k.period.announced ≡ None → k.period.reading ≡ Some reading → length t.words ≡ slots_size s
       → GoesTo plan s tree t h (turned_to t id k (after_announce reading (get_or t.words (clock_word s) 0) k.period) (place_word s q) (reading + 2))
-  begins_now q reading placed quiet was size = record { periods = record {
-    lie = h.lie;
-    lies = lie_same s h.lie t.words (set t.words (place_word s q) (reading + 2)) (λ slot low. get_or-set_other t.words (place_word s q) (slot_word s slot) (reading + 2) 0 (λ e. omega arith)) h.lies;
-    dead = h.dead;
-    began = put h.began q (get_or t.words (clock_word s) 0);
-    was_dead = put h.was_dead q h.dead;
-    periods = periods_announced s t id k here h.lie h.dead h.began h.was_dead h.periods size q reading placed was;
-    ages = ages_of_period plan s tree t id k here (record { tree = k.tree; period = after_announce reading (get_or t.words (clock_word s) 0) k.period }) refl
-        (set t.words (place_word s q) (reading + 2)) h.lie h.lie h.dead h.dead h.was_dead (put h.was_dead q h.dead) h.ages h.ages.now.each still
-        (λ r a at an. inl ((h.periods.each id k here).rests quiet))
-        (λ j r a u other there at an. put_other h.was_dead q h.dead r
-        (λ e. other (h.periods.apart j id q u k there here (own (at ∙ ap (λ x. Some x) e)) (own placed))))
-        (same_noted (set t.words (place_word s q) (reading + 2)) (λ slot. get_or-set_other t.words (place_word s q) (slot_word s slot) (reading + 2) 0 (λ e. omega arith)))
-        (λ x out is. noted_same plan s t.words (set t.words (place_word s q) (reading + 2)) h.lie same_slots x is)
-        (λ r has used i is. (let old = h.ages.read id k r here has used i is in (old.0, noted_same plan s t.words (set t.words (place_word s q) (reading + 2)) h.lie same_slots _ old.1)))
-        (λ c has. h.ages.lost id c k here has);
-    tied = tie_of_period s tree t h.ages.now.machine.stages h.lie h.dead h.dead h.was_dead (put h.was_dead q h.dead) h.tied id k here (after_announce reading (get_or t.words (clock_word s) 0) k.period) refl
-        (set t.words (place_word s q) (reading + 2)) (behind (place_word s q) (reading + 2) (omega arith))
-        (λ c lives. lives)
-        (λ r a at an. inr (λ c lives. sym (ap (λ f. f c) (ap (put h.was_dead q h.dead) (same_Some r q (sym at ∙ placed)) ∙ put_same h.was_dead q h.dead)) ∙ lives))
-        (λ seat r a u other there at an c lives. sym (ap (λ f. f c) (put_other h.was_dead q h.dead r
-        (λ e. other (h.periods.apart seat id q u k there here (own (at ∙ ap (λ x. Some x) e)) (own placed))))) ∙ lives)
-        t.homes;
-    retired = retired_so plan s tree h.ages.now.machine h.ages.now.uses t id k here (after_announce reading (get_or t.words (clock_word s) 0) k.period) refl refl (set t.words (place_word s q) (reading + 2)) h.lie h.lie
-        (λ x out is. noted_same plan s t.words (set t.words (place_word s q) (reading + 2)) h.lie same_slots x is) h.retired;
-  }; leaks = λ was. leaks_same s t tree.views h.ages.now.machine.words h.ages.now.machine.stages h.lie was id k here (after_announce reading (get_or t.words (clock_word s) 0) k.period) (set t.words (place_word s q) (reading + 2))
-      (λ slot low used. holds_so k (after_announce reading (get_or t.words (clock_word s) 0) k.period) refl refl (h.lie slot)) (λ slot. get_or-set_other t.words (place_word s q) (slot_word s slot) (reading + 2) 0 (λ e. omega arith)) }
+  begins_now q reading placed quiet was size = record {
+    periods = record {
+      lie = h.lie;
+      lies = lie_same s h.lie t.words (set t.words (place_word s q) (reading + 2)) (λ slot low. get_or-set_other t.words (place_word s q) (slot_word s slot) (reading + 2) 0 (λ e. omega arith)) h.lies;
+      dead = h.dead;
+      began = put h.began q (get_or t.words (clock_word s) 0);
+      was_dead = put h.was_dead q h.dead;
+      periods = periods_announced s t id k here h.lie h.dead h.began h.was_dead h.periods size q reading placed was;
+      ages = ages_of_period plan s tree t id k here (record { tree = k.tree; period = after_announce reading (get_or t.words (clock_word s) 0) k.period }) refl
+          (set t.words (place_word s q) (reading + 2)) h.lie h.lie h.dead h.dead h.was_dead (put h.was_dead q h.dead) h.ages h.ages.now.each still
+          (λ r a at an. inl ((h.periods.each id k here).rests quiet))
+          (λ j r a u other there at an. put_other h.was_dead q h.dead r
+          (λ e. other (h.periods.apart j id q u k there here (own (at ∙ ap (λ x. Some x) e)) (own placed))))
+          (same_noted (set t.words (place_word s q) (reading + 2)) (λ slot. get_or-set_other t.words (place_word s q) (slot_word s slot) (reading + 2) 0 (λ e. omega arith)))
+          (λ x out is. noted_same plan s t.words (set t.words (place_word s q) (reading + 2)) h.lie same_slots x is)
+          (λ r has used i is. (let old = h.ages.read id k r here has used i is in (old.0, noted_same plan s t.words (set t.words (place_word s q) (reading + 2)) h.lie same_slots _ old.1)))
+          (λ c has. h.ages.lost id c k here has);
+      tied = tie_of_period s tree t h.ages.now.machine.stages h.lie h.dead h.dead h.was_dead (put h.was_dead q h.dead) h.tied id k here (after_announce reading (get_or t.words (clock_word s) 0) k.period) refl
+          (set t.words (place_word s q) (reading + 2)) (behind (place_word s q) (reading + 2) (omega arith))
+          (λ c lives. lives)
+          (λ r a at an. inr (λ c lives. sym (ap (λ f. f c) (ap (put h.was_dead q h.dead) (same_Some r q (sym at ∙ placed)) ∙ put_same h.was_dead q h.dead)) ∙ lives))
+          (λ seat r a u other there at an c lives. sym (ap (λ f. f c) (put_other h.was_dead q h.dead r
+          (λ e. other (h.periods.apart seat id q u k there here (own (at ∙ ap (λ x. Some x) e)) (own placed))))) ∙ lives)
+          t.homes;
+      retired = retired_so plan s tree h.ages.now.machine h.ages.now.uses t id k here (after_announce reading (get_or t.words (clock_word s) 0) k.period) refl refl (set t.words (place_word s q) (reading + 2)) h.lie h.lie
+          (λ x out is. noted_same plan s t.words (set t.words (place_word s q) (reading + 2)) h.lie same_slots x is) h.retired;
+    };
+    leaks = λ was. leaks_same s t tree.views h.ages.now.machine.words h.ages.now.machine.stages h.lie was id k here (after_announce reading (get_or t.words (clock_word s) 0) k.period) (set t.words (place_word s q) (reading + 2))
+        (λ slot low used. holds_so k (after_announce reading (get_or t.words (clock_word s) 0) k.period) refl refl (h.lie slot)) (λ slot. get_or-set_other t.words (place_word s q) (slot_word s slot) (reading + 2) 0 (λ e. omega arith));
+  }
     where
       same_slots : (slot : ℕ) → slot ≤ s.last → get_or (set t.words (place_word s q) (reading + 2)) (slot_word s slot) 0 ≡ get_or t.words (slot_word s slot) 0
       same_slots slot low = get_or-set_other t.words (place_word s q) (slot_word s slot) (reading + 2) 0 (λ e. omega arith)

@@ -16,7 +16,7 @@ use Rattle.ell_cards.specs.declared.view.View.{View}
 use Rattle.ell_cards.specs.Holding.{HoldsWaiting}
 use Rattle.ell_cards.specs.Leaks.{Holds, IsHeld, IsInFlaggedHand, Kills, NothingLeaks}
 use Rattle.ell_cards.specs.Leaks.Holds.{waiting, lost}
-use Rattle.ell_cards.specs.Periods.{WholeState, slot_word, after_taking}
+use Rattle.ell_cards.specs.Periods.{WholeState, slot_word}
 use Rattle.ell_cards.specs.SlotWords.{is_noted, slot_of, turn_of}
 use Rattle.ell_cards.specs.Tied.{HasWon}
 use Rattle.ell_cards.proofs.lemmas.seats.Seats.{set_there}
@@ -111,8 +111,6 @@ module _ (s : Slots) (t : WholeState) (trees : List View) (w : Words) (stage : S
             by : (b : Bool) → is_noted (get_or t.words (slot_word s other) 0) i ≡ b → ((is_noted (get_or t.words (slot_word s other) 0) i ≡ true) → ⊥) → is_noted (get_or t.words (slot_word s other) 0) i ≡ false
             by true e never = absurd (never e)
             by false e never = e
-
-
 
   -- where a pass takes the slot of its card in hand, which is not flagged
   module _ (c : ℕ) (hand : HoldsWaiting k.tree c) (inside : slot_of c ≤ s.last) (room : slot_word s (slot_of c) < length t.words) (own : (slot : ℕ) → slot ≤ s.last → slot_of (lie slot) ≡ slot)

@@ -1,8 +1,8 @@
 -- No slot stays in use for nothing where a pass makes a step call.
-use Rattle.std.proofs.Common.{◌≡◌, ◌≢◌, ℕ, zero, suc, ◌+◌, ◌*◌, ◌%◌, ◌<◌, ◌≤◌, ◌==◌, if◌then◌else◌, Bool, true, false, Option, Some, None, List, [], ◌∷◌, ◌++◌, length, get_or, set, inl, inr, ◌⊎◌, refl, sym, ap, ◌∙◌, subst, arith, length-append}
+use Rattle.std.proofs.Common.{◌≡◌, ◌≢◌, ℕ, ◌+◌, ◌*◌, ◌%◌, ◌<◌, ◌≤◌, ◌==◌, if◌then◌else◌, Bool, true, false, Option, Some, None, List, [], ◌∷◌, ◌++◌, length, get_or, set, inl, inr, ◌⊎◌, refl, sym, ap, ◌∙◌, subst, arith, length-append}
 use Rattle.std.proofs.lemmas.Bool.{cases_eq, false≢true}
 use Rattle.std.proofs.lemmas.Option.{same_Some}
-use mathlib.Core.Option.{some, none, some-injective, some-ne-none}
+use mathlib.Core.Option.{some, none, some-injective}
 use mathlib.Core.Option.{Option as Maybe}
 use lib.ListN.{get_elem?}
 use Rattle.atomic_table.proofs.Lists.{set_else}
@@ -13,17 +13,14 @@ use Rattle.ell_layout.specs.Words.{Words}
 use Rattle.ell_core.specs.declared.exchange.Exchange.{Exchange}
 use Rattle.ell_core.specs.declared.exchange.Exchange.TheVariants as exchange
 use Rattle.ell_core.specs.declared.fact.Fact.TheVariants as fact
-use Rattle.ell_core.specs.acts.Wins.{win_for}
-use Rattle.ell_core.specs.history.Stages.{Stage, Stages, Born, is_start, is_claimed, waits, insert_won, delete_won, insert_open, delete_open, insert_over, delete_over, is_backed, is_changed, is_cut, is_delete, is_insert}
+use Rattle.ell_core.specs.history.Stages.{Stage, Stages, is_start, is_claimed, waits, insert_won, delete_won, insert_open, delete_open, delete_over, is_backed, is_changed, is_cut, is_insert}
 use Rattle.ell_core.specs.history.Later.{WordsLater, StagesLater, wins_of}
 use Rattle.ell_core.specs.soundness.Sound.{IsInHand}
-use Rattle.ell_core.specs.state.Machine.{Worker, worker_of}
+use Rattle.ell_core.specs.state.Machine.{Worker}
 use Rattle.ell_core.specs.statements.Since.{has_ended}
 use Rattle.ell_core.proofs.lemmas.outcomes.Decide.{some_not_none}
-use Rattle.ell_core.proofs.lemmas.stages.Ended.{ended_cases, changed-ended, cut-ended, insert_over-ended, delete_over-ended, backed-ended}
+use Rattle.ell_core.proofs.lemmas.stages.Ended.{ended_cases, insert_over-ended, delete_over-ended, backed-ended}
 use Rattle.ell_core.proofs.lemmas.stages.Order.{changed-insert, cut-delete, one_kind, over-delete, backed-delete, insert_over-changed}
-use Rattle.ell_grace.specs.Dead.{NeverComes}
-use Rattle.ell_grace.specs.Gone.{TakesOut}
 use Rattle.ell_cards.specs.declared.call.Call.{Call}
 use Rattle.ell_cards.specs.declared.call.Call.TheVariants as call
 use Rattle.ell_ops.specs.declared.op.Op.{Op}
@@ -49,12 +46,12 @@ use Rattle.ell_cards.specs.LettingGo.IsRetired.{put, cut, backed}
 use Rattle.ell_cards.specs.Periods.{WholeState, slot_word}
 use Rattle.ell_cards.specs.SlotWords.{has_slot_in, is_noted, slot_of}
 use Rattle.ell_cards.specs.Machines.{HasMachine}
-use Rattle.ell_cards.specs.Models.{TablePlan, IsFree, Knows, flat_from}
+use Rattle.ell_cards.specs.Models.{TablePlan, IsFree, flat_from}
 use Rattle.ell_cards.specs.States.{TableState, seat_worker}
 use Rattle.ell_cards.specs.Tied.{HasWon, FlagsCard, MayInMemory}
 use Rattle.ell_cards.specs.TurnEffects.{turn_wins, win_of}
 use Rattle.ell_cards.specs.Turns.{Makes, found_by, view_after, state_after}
-use Rattle.ell_cards.proofs.lemmas.seats.Seats.{mine_is, mine_sound, set_there}
+use Rattle.ell_cards.proofs.lemmas.seats.Seats.{mine_sound, set_there}
 use Rattle.ell_cards.proofs.lemmas.whole.Ages.{noted_as}
 use Rattle.ell_cards.proofs.lemmas.whole.Duties.{all_retired}
 use Rattle.ell_cards.proofs.lemmas.ties.Winning.{IsWonStage, born_won, ended_long, start_won, insert_is_won, delete_is_won}

@@ -41,7 +41,7 @@ use Rattle.ell_cards.proofs.lemmas.views.DeadNodes.{both, of_either}
 use Rattle.ell_cards.proofs.lemmas.whole.Ages.{noted_as, noted_at}
 use Rattle.ell_cards.proofs.lemmas.whole.Apart.{ready_there}
 use Rattle.ell_cards.proofs.lemmas.whole.Freeing.{HasRetired, dead_by, frees_now, lies_by, low_slot, noted_then, notes_now, reads_now, taken_lies}
-use Rattle.ell_cards.proofs.lemmas.whole.Going.{GoesTo, turned_to, goes_on_there, stays}
+use Rattle.ell_cards.proofs.lemmas.whole.Going.{GoesTo, turned_to, goes_on_there}
 use Rattle.ell_cards.proofs.lemmas.words.NotedBits.{all_some, done_by, few_noted, few_nodes, left_some, left_turn, left_used, notes_more}
 
 -- a node that the card in hand has taken out is that one's parent, if it is an internal node, or else its leaf

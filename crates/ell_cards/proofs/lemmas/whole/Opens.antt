@@ -22,7 +22,7 @@ use Rattle.ell_cards.specs.Ages.{is_beyond, ForgotWhen, AgesAreSound}
 use Rattle.ell_cards.specs.RunLaws.{StartIsKept}
 use Rattle.ell_cards.specs.SlotWords.{slot_of, card_by, free_word, freed_by, is_noted}
 use Rattle.ell_cards.specs.States.{TableState}
-use Rattle.ell_cards.specs.Starts.{MayStart, SlotsFit, IsReached, most_places}
+use Rattle.ell_cards.specs.Starts.{MayStart, SlotsFit, most_places}
 use Rattle.ell_cards.proofs.lemmas.runs.Alive.{start_uses}
 
 -- so many zeros are as many
@@ -273,14 +273,14 @@ abbrev pub first_ages : (plan : TablePlan) (s : Slots) (tree : TableState) → S
     → IsAtRest (first_of plan) → 1 ≤ s.places → plan.last_card ≤ greatest_number
     → AgesAreSound plan s tree (opening all [] (record { tree = first_of plan; period = period_by (Some s) })) (lies_opened given) out_opened (λ q x. false)
 first_ages plan s tree start given cards all size h rest one most = record {
-      now = record { machine = start.kept; uses = start_uses plan tree start; each = λ c k low is. is_beyond (let past = ltb-true greatest_number c is in omega arith) };
-      still = λ q x is. absurd (false≢true is);
-      since = λ i q a k at. alone s given cards all size h (first_of plan) rest one (λ j u. u.period.place ≡ Some q → u.period.announced ≡ Some a → IsAtRest u.tree ⊎ ForgotWhen plan tree j (λ x. false))
-          (λ is an. inl rest) i k at;
-      noted = λ slot k low is. is_beyond (let past = noted_opened given slot k (subst (λ n. is_noted n k ≡ true) (h.slots slot low) is) in omega arith);
-      read = λ i k r at is. absurd (some_not_none is (alone s given cards all size h (first_of plan) rest one (λ j u. u.period.read ≡ None) refl i k at));
-      lost = λ i c k at. alone s given cards all size h (first_of plan) rest one (λ j u. u.period.lost ≡ Some c → IsAside start.kept.stages tree.views c) (λ is. absurd (some_not_none is refl)) i k at;
-    }
+  now = record { machine = start.kept; uses = start_uses plan tree start; each = λ c k low is. is_beyond (let past = ltb-true greatest_number c is in omega arith) };
+  still = λ q x is. absurd (false≢true is);
+  since = λ i q a k at. alone s given cards all size h (first_of plan) rest one (λ j u. u.period.place ≡ Some q → u.period.announced ≡ Some a → IsAtRest u.tree ⊎ ForgotWhen plan tree j (λ x. false))
+      (λ is an. inl rest) i k at;
+  noted = λ slot k low is. is_beyond (let past = noted_opened given slot k (subst (λ n. is_noted n k ≡ true) (h.slots slot low) is) in omega arith);
+  read = λ i k r at is. absurd (some_not_none is (alone s given cards all size h (first_of plan) rest one (λ j u. u.period.read ≡ None) refl i k at));
+  lost = λ i c k at. alone s given cards all size h (first_of plan) rest one (λ j u. u.period.lost ≡ Some c → IsAside start.kept.stages tree.views c) (λ is. absurd (some_not_none is refl)) i k at;
+}
 
 pub whole_by : (o p : Option Slots) (n m : ℕ) (cards words : List ℕ) → AreWholeWords o n cards words → o ≡ p → n ≡ m → AreWholeWords p m cards words
 whole_by o p n m cards words are same count = subst (λ x. AreWholeWords x m cards words) same (subst (λ i. AreWholeWords o i cards words) count are)

@@ -72,19 +72,22 @@ whole_splits plan k keys quiet may id s h here =
         (record { words = s.words; homes = s.homes; views = set s.views id (record { tree = left_view keys k.tree; period = after_give k.period }) ++ record { tree = right_view keys k.tree; period = given_period k.period } ∷ [] })
     by tree there same None fit periods = tt
     by tree there same (Some sl) fit (h, was) =
-        let tie = split_goes plan sl tree s h.lie h.dead h.was_dead (let low = fit.4 in omega arith) (record { ages = h.ages; tied = h.tied }) id k here there keys may.free may.may in (record {
-          lie = h.lie;
-          lies = h.lies;
-          dead = h.dead;
-          began = h.began;
-          was_dead = h.was_dead;
-          periods = split_periods sl s id k here h.lie h.dead h.began h.was_dead h.periods (left_view keys k.tree) (right_view keys k.tree) left_rests right_rests quiet;
-          ages = tie.on.ages;
-          tied = tie.tied;
-          retired = retired_on plan sl tree h.ages.now.machine h.ages.now.uses (state_split tree id k.tree keys) tie.on.ages.now.machine tie.on.ages.now.uses tie.on.words tie.on.out
-              s (record { words = s.words; homes = s.homes; views = set s.views id (left_known keys k) ++ right_known keys k ∷ [] }) h.lie same (λ slot low. refl) (split_held s id k keys) h.retired;
-        }, leaks_handed plan sl tree (state_split tree id k.tree keys) s (set s.views id (left_known keys k) ++ right_known keys k ∷ []) h.ages.now.machine tie.on.ages.now.machine tie.on.words tie.on.later tie.on.wins h.lie was
-          (λ c. split_holds plan tree h.ages.now.machine s id k here there may.free c keys) (λ c. split_hands plan tree h.ages.now.machine s id k here there may.free c (left_view keys k.tree) (right_view keys k.tree)) s.homes)
+        let tie = split_goes plan sl tree s h.lie h.dead h.was_dead (let low = fit.4 in omega arith) (record { ages = h.ages; tied = h.tied }) id k here there keys may.free may.may in (
+          record {
+            lie = h.lie;
+            lies = h.lies;
+            dead = h.dead;
+            began = h.began;
+            was_dead = h.was_dead;
+            periods = split_periods sl s id k here h.lie h.dead h.began h.was_dead h.periods (left_view keys k.tree) (right_view keys k.tree) left_rests right_rests quiet;
+            ages = tie.on.ages;
+            tied = tie.tied;
+            retired = retired_on plan sl tree h.ages.now.machine h.ages.now.uses (state_split tree id k.tree keys) tie.on.ages.now.machine tie.on.ages.now.uses tie.on.words tie.on.out
+                s (record { words = s.words; homes = s.homes; views = set s.views id (left_known keys k) ++ right_known keys k ∷ [] }) h.lie same (λ slot low. refl) (split_held s id k keys) h.retired;
+          },
+          leaks_handed plan sl tree (state_split tree id k.tree keys) s (set s.views id (left_known keys k) ++ right_known keys k ∷ []) h.ages.now.machine tie.on.ages.now.machine tie.on.words tie.on.later tie.on.wins h.lie was
+              (λ c. split_holds plan tree h.ages.now.machine s id k here there may.free c keys) (λ c. split_hands plan tree h.ages.now.machine s id k here there may.free c (left_view keys k.tree) (right_view keys k.tree)) s.homes,
+        )
 
 -- a join of the tree is a join of the table
 pub whole_joins : (plan : TablePlan) (k l : Known) → IsFree k.tree → IsFree l.tree → l.period.lost ≡ None
@@ -123,17 +126,20 @@ whole_joins plan k l free other_free unlost id other s h here aside there =
     by tree ours theirs same None fit periods there = tt
     by tree ours theirs same (Some sl) fit (h, was) there =
         let tie = join_goes plan sl tree s h.lie h.dead h.was_dead (let low = fit.4 in omega arith) (record { ages = h.ages; tied = h.tied }) id other k l here there ours theirs
-        (λ e. aside (sym e)) free other_free in (record {
-          lie = h.lie;
-          lies = h.lies;
-          dead = h.dead;
-          began = h.began;
-          was_dead = h.was_dead;
-          periods = join_periods sl s id other k l here there aside h.lie h.dead h.began h.was_dead h.periods;
-          ages = tie.on.ages;
-          tied = tie.tied;
-          retired = retired_on plan sl tree h.ages.now.machine h.ages.now.uses (state_joined tree id other k.tree l.tree) tie.on.ages.now.machine tie.on.ages.now.uses tie.on.words tie.on.out
-              s (record { words = s.words; homes = s.homes; views = set (set s.views id (joined_known k l)) other spent_known }) h.lie same (λ slot low. refl) (join_held s id other k l) h.retired;
-        }, leaks_handed plan sl tree (state_joined tree id other k.tree l.tree) s (set (set s.views id (joined_known k l)) other spent_known) h.ages.now.machine tie.on.ages.now.machine tie.on.words tie.on.later tie.on.wins h.lie was
-          (λ c. join_holds plan tree h.ages.now.machine s id other k l here there ours theirs (λ e. aside (sym e)) free other_free unlost c)
-          (λ c. join_hands plan tree h.ages.now.machine s id other k l here there ours theirs (λ e. aside (sym e)) free other_free unlost c (joined_view k.tree l.tree) spent_view) s.homes)
+        (λ e. aside (sym e)) free other_free in (
+          record {
+            lie = h.lie;
+            lies = h.lies;
+            dead = h.dead;
+            began = h.began;
+            was_dead = h.was_dead;
+            periods = join_periods sl s id other k l here there aside h.lie h.dead h.began h.was_dead h.periods;
+            ages = tie.on.ages;
+            tied = tie.tied;
+            retired = retired_on plan sl tree h.ages.now.machine h.ages.now.uses (state_joined tree id other k.tree l.tree) tie.on.ages.now.machine tie.on.ages.now.uses tie.on.words tie.on.out
+                s (record { words = s.words; homes = s.homes; views = set (set s.views id (joined_known k l)) other spent_known }) h.lie same (λ slot low. refl) (join_held s id other k l) h.retired;
+          },
+          leaks_handed plan sl tree (state_joined tree id other k.tree l.tree) s (set (set s.views id (joined_known k l)) other spent_known) h.ages.now.machine tie.on.ages.now.machine tie.on.words tie.on.later tie.on.wins h.lie was
+              (λ c. join_holds plan tree h.ages.now.machine s id other k l here there ours theirs (λ e. aside (sym e)) free other_free unlost c)
+              (λ c. join_hands plan tree h.ages.now.machine s id other k l here there ours theirs (λ e. aside (sym e)) free other_free unlost c (joined_view k.tree l.tree) spent_view) s.homes,
+        )

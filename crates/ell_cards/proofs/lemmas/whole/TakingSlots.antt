@@ -64,17 +64,20 @@ module _ (plan : TablePlan) (s : Slots) (tree : TableState) (t : WholeState) (id
       let own = h.tied.own (slot_of c) inside in
       let it = take_goes plan s tree t h.lie h.dead h.was_dead low size (record { ages = h.ages; tied = h.tied }) same id k here c hand numbered
       (taken_is_dead s t id k here h.lie h.dead h.began h.was_dead h.periods size (slot_of c) inside own full past)
-      (taken_was_dead_for s t id k here h.lie h.dead h.began h.was_dead h.periods size (slot_of c) inside own full past) in record { periods = record {
-        lie = put h.lie (slot_of c) c;
-        lies = lie_taken s h.lie t.words h.lies (slot_of c) (omega arith) c refl;
-        dead = h.dead;
-        began = h.began;
-        was_dead = h.was_dead;
-        periods = slot_taken s t id k here h.lie h.dead h.began h.was_dead h.periods size (slot_of c) inside own full past (turn_of c) c refl;
-        ages = it.ages;
-        tied = it.tied;
-        retired = it.retired h.retired;
-      }; leaks = it.leaks unlost }
+      (taken_was_dead_for s t id k here h.lie h.dead h.began h.was_dead h.periods size (slot_of c) inside own full past) in record {
+        periods = record {
+          lie = put h.lie (slot_of c) c;
+          lies = lie_taken s h.lie t.words h.lies (slot_of c) (omega arith) c refl;
+          dead = h.dead;
+          began = h.began;
+          was_dead = h.was_dead;
+          periods = slot_taken s t id k here h.lie h.dead h.began h.was_dead h.periods size (slot_of c) inside own full past (turn_of c) c refl;
+          ages = it.ages;
+          tied = it.tied;
+          retired = it.retired h.retired;
+        };
+        leaks = it.leaks unlost;
+      }
 
 -- these steps are steps of the table
 module _ (plan : TablePlan) (s : Slots) (placed : plan.slots ≡ Some s) (k : Known) (c : ℕ) (hand : HoldsWaiting k.tree c) (inside : slot_of c ≤ s.last) (numbered : has_slot_in s.last c ≡ true) where

@@ -1,4 +1,4 @@
-use Rattle.std.proofs.Common.{◌≡◌, ℕ, ◌+◌, ◌-◌, ◌==◌, sym, ap, ◌∙◌, subst}
+use Rattle.std.proofs.Common.{◌+◌, ◌-◌, ◌==◌, sym, ap, ◌∙◌, subst}
 use prog.Atomic.{either}
 use Rattle.ell_cards.specs.Skipping.{IsFresh, RowTells, MayStepOn, after_claimed_row}
 use Rattle.ell_cards.proofs.lemmas.seats.Taken.{steps_by}

@@ -1,8 +1,8 @@
-use Rattle.std.proofs.Common.{◌≡◌, ◌==◌, ◌+◌, ◌*◌, ◌≤◌, Some, inr, refl, ap, ◌∙◌, sym, subst}
+use Rattle.std.proofs.Common.{◌≡◌, ◌==◌, ◌+◌, ◌*◌, ◌≤◌, Some, inr, ap, ◌∙◌, sym, subst}
 use prog.Atomic.{either}
 use Rattle.ell_cards.specs.declared.view.Period.{Period}
 use Rattle.ell_cards.specs.Periods.{after_freeing, after_stamp, slot_word}
-use Rattle.ell_cards.specs.SlotWords.{card_by, free_word, slot_of, turn_of}
+use Rattle.ell_cards.specs.SlotWords.{free_word, slot_of}
 use Rattle.ell_cards.specs.Stepping.{MayGoOn}
 use Rattle.ell_cards.proofs.lemmas.whole.Losing.{frees_aside}
 use Rattle.ell_cards.proofs.lemmas.words.Slotted.{card_there}
@@ -31,7 +31,9 @@ period_exchange-requires-clause-rule g c =
     subst (λ i. MayGoOn c.args.self.now.plan k i (λ n. either (n == 8 * c.turn_of-word.result) (8 * c.stamp-reading.result + 7) n) (λ n p. p ≡ after_freeing k.period)) (sym word) now
 
 pub returns-clause-period : goal.returns-clause-period
-returns-clause-period g c =
-    (c.stamp-reading.result, c.period_exchange.ensures.told
-    ∙ ap after_freeing (c.stamp-reading.ensures.stamp
-    ∙ ap (λ d. after_stamp d c.stamp-reading.result c.args.seat.now.me.0.period) (card_there c.args.card c.slot_of.result c.turn_of-word.result c.slot_of.ensures c.turn_of-word.ensures)))
+returns-clause-period g c = (
+  c.stamp-reading.result,
+  c.period_exchange.ensures.told
+      ∙ ap after_freeing (c.stamp-reading.ensures.stamp
+      ∙ ap (λ d. after_stamp d c.stamp-reading.result c.args.seat.now.me.0.period) (card_there c.args.card c.slot_of.result c.turn_of-word.result c.slot_of.ensures c.turn_of-word.ensures)),
+)

@@ -1,9 +1,4 @@
-use Rattle.std.proofs.Common.{◌≡◌, ◌≤◌, ℕ, Some, get_or, sym, ap, ◌∙◌, subst}
-use Rattle.std.proofs.lemmas.Option.{same_Some}
-use Rattle.ell_cards.specs.declared.view.Slots.{Slots}
-use Rattle.ell_cards.specs.Periods.{clock_word, after_stamp, last_reading}
-use Rattle.ell_cards.specs.SlotWords.{card_by, slot_of}
-use Rattle.ell_cards.specs.Stepping.{MayGoOn}
+use Rattle.ell_cards.specs.SlotWords.{card_by}
 use Rattle.ell_cards.proofs.lemmas.whole.Freeing.{stamps_card}
 use Rattle.ell_cards.proofs.table.CardTable.stamp.Goals as goal
 
