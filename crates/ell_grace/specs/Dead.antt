@@ -105,3 +105,12 @@ ChildrenWereNotDead = (m : Machine) (stage : Stages) → Invariant m stage
     → (now : Machine) (from : ComesFrom m stage now) → UsesAreSound now.words from.stages
     → (x : ℕ) → IsInternal x → Born from.stages x → ¬ IsDead m.words stage x
     → (right : Bool) → ¬ IsDead m.words stage (now.words.child x right)
+
+-- a node is in the tree, or a card has taken it out, or nobody uses it
+abbrev pub IsInOrOut : Words → Stages → ℕ → Type 0
+IsInOrOut w stage x = Reached w x ⊎ (((c : ℕ) × TakesOut w stage c x) ⊎ IsUnused w stage x)
+
+-- so is each node that came into the tree with a card that is not of the opening tree
+abbrev pub WhatCameIsInOrOut : Type 0
+WhatCameIsInOrOut = (m : Machine) (has : HasUses m) (x : ℕ) → is_start (has.outs.stages (card x)) ≡ false → Born has.outs.stages x
+    → IsInOrOut m.words has.outs.stages x

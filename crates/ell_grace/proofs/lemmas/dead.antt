@@ -8,5 +8,7 @@ pub mod Kept
 pub mod Events
 -- What never comes is in no tree, and a card whose internal node is dead has ended.
 pub mod Out
+-- What came into the tree is in it, or was taken out, or nobody uses it.
+pub mod Came
 -- So it is in every run, and what was dead stays dead.
 pub mod Runs
