@@ -2,7 +2,7 @@
 use Rattle.std.specs.Prelude.{◌≡◌, ◌≢◌, ℕ, true, Option, Some}
 use Rattle.ell_ops.specs.declared.op.Op.{Op}
 use Rattle.ell_ops.specs.Meaning.{key_of}
-use Rattle.ell_word.specs.Node.{IsInternal, card}
+use Rattle.ell_word.specs.Node.{IsInternal, IsNode, card}
 use Rattle.ell_core.specs.declared.fact.Fact.TheVariants.{IOver, DOver, Backed}
 use Rattle.ell_layout.specs.declared.field.Field.TheVariants as field
 use Rattle.ell_layout.specs.Words.{IsLeaf}
@@ -28,7 +28,7 @@ pub record PutIsRetired (s : Slots) (v : View) (r : Retired) (c : ℕ) : Type 0 
   pub left_key : IsTold v (Info c field.LeftLeafKey left)
   pub right_key : IsTold v (Info c field.RightLeafKey right)
   pub apart : IsInternal below → left ≢ right
-  pub leaf : IsLeaf below → has_slot_in s.last (card below) ≡ true → r.leaf ≡ true
+  pub leaf : IsNode below → IsLeaf below → has_slot_in s.last (card below) ≡ true → r.leaf ≡ true
   pub replaced : left ≡ right → has_slot_in s.last c ≡ true → (r.own.internal ≡ true) × (r.own.left ≡ true)
   pub unused_left : IsInternal below → left ≢ key_of op → has_slot_in s.last c ≡ true → r.own.left ≡ true
   pub unused_right : IsInternal below → right ≢ key_of op → has_slot_in s.last c ≡ true → r.own.right ≡ true
@@ -46,7 +46,7 @@ pub record CutIsRetired (s : Slots) (v : View) (r : Retired) (c : ℕ) : Type 0 
   pub above : IsTold v (Info c field.P parent)
   pub below : IsTold v (Info c field.L leaf)
   pub parent_noted : has_slot_in s.last (card parent) ≡ true → r.parent ≡ true
-  pub leaf_noted : has_slot_in s.last (card leaf) ≡ true → r.leaf ≡ true
+  pub leaf_noted : IsNode leaf → has_slot_in s.last (card leaf) ≡ true → r.leaf ≡ true
 
 -- a pass knows that its flagged card is over, and has noted all that the card made dead
 pub data IsRetired (s : Slots) (v : View) (r : Retired) (c : ℕ) : Type 0 where

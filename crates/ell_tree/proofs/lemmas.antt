@@ -50,6 +50,8 @@ pub mod Milestones
 pub mod Putting
 -- nodes that a card took out, or that never come
 pub mod Retiring
+-- a pass that may let its card in hand go
+pub mod LettingGo
 -- calls that are made of several operations
 pub mod Computing
 -- a call that removes a key if it has a value

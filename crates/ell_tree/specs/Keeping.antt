@@ -29,14 +29,15 @@ pub record LosesNothing (v w : View) : Type 0 where
   pub hindered : w.hindered ≡ v.hindered
   pub earlier : (hs : List Hindrance) → v.hindrances ≡ v.met ++ hs → w.hindrances ≡ w.met ++ hs
 
--- a pass made at most so many steps, and kept these
+-- a pass made at most so many steps, and kept these, and the slot that it took last
 pub record Keeps (old new : PassModel) (n : ℕ) : Type 0 where
   pub table : new.table ≡ old.table
   pub label : new.label ≡ old.label
+  pub slot : new.slot ≡ old.slot
   pub view : LosesNothing old.view new.view
   pub took : Took old new n
 
--- the same in a table
+-- the same in a table, but for the slot
 pub record KeepsIn (plan : TablePlan) (old new : PassModel) (n : ℕ) : Type 0 where
   pub table : new.table ≡ old.table
   pub label : new.label ≡ old.label

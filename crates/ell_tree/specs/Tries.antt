@@ -30,7 +30,7 @@ use Rattle.ell_tree.specs.declared.trying.Next.TheVariants as next
 use Rattle.ell_tree.specs.declared.trying.Tried.{Tried}
 use Rattle.ell_tree.specs.declared.trying.Tried.TheVariants as tried
 use Rattle.ell_tree.specs.Ledgers.{TreeModel, Owns, present_in, IsIdle}
-use Rattle.ell_cards.specs.Stepping.{SameShare}
+use Rattle.ell_cards.specs.Stepping.{LetsGo, SameShare}
 use Rattle.ell_tree.specs.Counts.{Took}
 use Rattle.ell_tree.specs.CardsTaken.{TakesNoCard}
 use Rattle.ell_tree.specs.Called.{IsTakeCalled}
@@ -102,14 +102,14 @@ pub record Halts (op : Op) (old new : PassModel) : Type 0 where
   pub would : Owns old (key_of op) → reply_of op (present_in old) ≡ reply_of_change op
   pub stops : Stops op new.view
 
--- how a try ends
+-- how a try ends: if it has no answer, the pass may let its card in hand go, if it has one
 abbrev pub TryEnds : TreeModel → Op → PassModel → PassModel → Tried → Type 0
 TryEnds t op old new (tried.Answered had) =
     Answers t op (reply_by op had) old new × Meets old.view new.view × (new.view.next_at_least ≤ t.plan.last_card + 1)
-TryEnds t op old new tried.Spent = Halts op old new × NoneIsLeft t.plan op 0 new
+TryEnds t op old new tried.Spent = Halts op old new × NoneIsLeft t.plan op 0 new × LetsGo t.plan new
 TryEnds t op old new tried.Hindered =
     Halts op old new × (length old.view.hindrances + 1 ≤ length (way_of op new.view) + length new.view.hindrances)
-    × SeesMilestone t.plan.last_card old.view new.view
+    × SeesMilestone t.plan.last_card old.view new.view × LetsGo t.plan new
 
 -- what a try of a delete took
 abbrev pub TryTook : TreeModel → ℕ → PassModel → PassModel → Tried → Type 0
@@ -180,16 +180,17 @@ Claims plan op place node_key old new (claimed.Card c) =
     HasCard op place (expected_tag old.view) (filling_of c node_key old.view) new.view c × (c ≤ plan.last_card)
     × (new.view.hindrances ≡ old.view.hindrances) × GivesOut plan.last_card old.view new.view × HasSlotOf plan c new
 Claims plan op place node_key old new claimed.NoneLeft =
-    HasNone old new × NoneIsLeft plan op 0 new × (new.view.hindrances ≡ old.view.hindrances)
+    HasNone old new × NoneIsLeft plan op 0 new × (new.view.hindrances ≡ old.view.hindrances) × LetsGo plan new
 Claims plan op place node_key old new claimed.Lost =
     HasNone old new × Meets old.view new.view × (length old.view.hindrances + 1 ≤ length new.view.hindrances)
-    × GivesOut plan.last_card old.view new.view
+    × GivesOut plan.last_card old.view new.view × LetsGo plan new
 
--- a pass may take a card: it has none in hand, or, in a flat tree, one that it lays aside, which is not flagged, and of
--- which it knows that it is given out
+-- a pass may take a card: it has none in hand, or, in a flat tree, one that it lays aside, which is not flagged, of
+-- which it knows that it is given out, and whose slot it has not taken
 pub record HoldsAside (plan : TablePlan) (p : PassModel) : Type 0 where
   pub ready : MayTake (flat_from plan) p.view.worker
   pub below : (c : ℕ) → p.view.worker.card ≡ Some c → c < p.view.next_at_least
+  pub aside : plan.slots ≢ None → (c : ℕ) → p.view.worker.card ≡ Some c → p.slot ≢ Some c
 
 -- a card was claimed in vain, whose slot could not be taken: the pass stands where it stood, and would fill a card with
 -- what it would have filled it
@@ -213,6 +214,7 @@ ClaimsNext plan op place node_key old new next.InUse = ClaimsInVain plan old new
 pub record Fills (old new : PassModel) (n : ℕ) : Type 0 where
   pub table : new.table ≡ old.table
   pub label : new.label ≡ old.label
+  pub slot : new.slot ≡ old.slot
   pub took : Took old new n
   pub view : new.view ≡ with_stores new.view.stores old.view
   pub filled : IsFilled new.view

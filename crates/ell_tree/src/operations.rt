@@ -7,6 +7,7 @@ ghost use Rattle.ell_core.specs.acts.Searching.{MayStop};
 ghost use Rattle.ell_core.specs.state.Machine.{worker_of};
 ghost use Rattle.ell_cards.specs.Changes.{tries_hindered};
 ghost use Rattle.ell_cards.specs.Models.{Does};
+ghost use Rattle.ell_cards.specs.Stepping.{LetsGo};
 ghost use Rattle.ell_tree.specs.CardsTaken.{TakesNoCard, TryTakes};
 ghost use Rattle.ell_tree.specs.Counts.{Took};
 ghost use Rattle.ell_tree.specs.Ends.{try_steps_in, Answers, Ends, TakesIfDelete, changed_by, find_steps, replied_by, try_steps};
@@ -118,6 +119,8 @@ fn restart<A: Allocator + Copy, G: StepGate>(
 )
     requires own { pass.old.table ≡ table.now.id }
     requires may { MayStop (worker_of pass.old.view.worker) }
+    // Where there are places, the pass has noted all that its card in hand made dead.
+    requires noted { LetsGo table.now.plan pass.old }
     ensures begins { (op : Op) → Does pass.old.view op → (first ≡ true → AtRoot op pass.old.view) →
         Begins op (way_of op pass.old.view) (tries_hindered pass.old.view) pass.old pass.new }
     ensures first { first ≡ true → pass.new ≡ pass.old }

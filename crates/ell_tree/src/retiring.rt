@@ -1,14 +1,17 @@
 //! What the owner of a card notes once the card is over: the nodes that the card took out of the tree, and those of its own
 //! that never come into it, so that the slots of their cards can be used anew. In a table without places this does nothing.
 ghost use Rattle.std.specs.Prelude.{◌≡◌, ◌≤◌, Some};
-ghost use Rattle.ell_word.specs.Node.{greatest_number};
+ghost use Rattle.ell_word.specs.Node.{greatest_number, IsInternal};
 ghost use Rattle.ell_core.specs.declared.fact.Fact.TheVariants.{DOver};
 ghost use Rattle.ell_layout.specs.declared.field.Field.TheVariants as field;
+ghost use Rattle.ell_layout.specs.Words.{IsLeaf};
+ghost use Rattle.ell_cards.specs.declared.view.Slots.{Slots};
 ghost use Rattle.ell_cards.specs.declared.view.Told.TheVariants.{Info};
 ghost use Rattle.ell_cards.specs.Dead.{HasTakenOut, KnowsDeleteEnded};
+ghost use Rattle.ell_cards.specs.LettingGo.{CutIsRetired, OwnAreRetired, PutIsRetired};
 ghost use Rattle.ell_cards.specs.Models.{IsTold, Knows};
 ghost use Rattle.ell_cards.specs.Noting.{HasNoted};
-ghost use Rattle.ell_tree.specs.Retiring.{HasPut};
+ghost use Rattle.ell_tree.specs.Retiring.{BothAreNoted, HasPut, KeepsTakenOut};
 
 use crate::searching::Place;
 use ell_cards::{CardNodes, CardTable, Pass};
@@ -30,6 +33,9 @@ pub(crate) fn retire_put<A: Allocator + Copy>(
     requires limit { card ≤ greatest_number }
     requires put { HasPut what place pass.old.view card }
     ensures same { HasNoted pass.old pass.new }
+    // It has noted what the card made dead, where there are places.
+    ensures retired { (s : Slots) → table.now.plan.slots ≡ Some s →
+        PutIsRetired s pass.new.view pass.new.sought.retired card }
 {
     if is_internal(place.node) {
         let unused = if what.key < place.key {
@@ -64,18 +70,28 @@ pub(crate) fn retire_deleted<A: Allocator + Copy>(
     requires over { Knows pass.old.view (DOver card) }
     requires parent { IsTold pass.old.view (Info card field.P parent) }
     requires leaf { IsTold pass.old.view (Info card field.L leaf) }
+    requires inner { IsInternal parent }
+    requires outer { IsLeaf leaf }
     ensures same { HasNoted pass.old pass.new }
+    // It has noted the parent, the leaf and the card's own nodes, where there are places.
+    ensures cut { (s : Slots) → table.now.plan.slots ≡ Some s →
+        CutIsRetired s pass.new.view pass.new.sought.retired card }
+    ensures own { (s : Slots) → table.now.plan.slots ≡ Some s → OwnAreRetired s pass.new.sought.retired card }
 {
     retire_both(table, pass, parent, leaf);
     retire_own(table, pass, card);
 }
 
-// Notes two nodes that the card in hand has taken out, by one step where they lie on one card.
+// Notes an internal node and a leaf that the card in hand has taken out, by one step where they lie on one card.
 fn retire_both<A: Allocator + Copy>(table: &CardTable<A>, pass: &mut Pass<A>, one: u64, other: u64)
     requires own { pass.old.table ≡ table.now.id }
     requires one { HasTakenOut pass.old.view one }
     requires other { HasTakenOut pass.old.view other }
+    requires inner { IsInternal one }
+    requires outer { IsLeaf other }
     ensures same { HasNoted pass.old pass.new }
+    ensures noted { (s : Slots) → table.now.plan.slots ≡ Some s →
+        BothAreNoted s one other pass.new.sought.retired }
 {
     let card = card_of(one);
     if card_of(other) == card {
@@ -93,6 +109,10 @@ pub(crate) fn retire_own<A: Allocator + Copy>(table: &CardTable<A>, pass: &mut P
     requires hand { pass.old.view.worker.card ≡ Some card }
     requires ended { KnowsDeleteEnded pass.old.view card }
     ensures same { HasNoted pass.old pass.new }
+    // It has noted all of them, where there are places, and what it had noted beside them stays noted.
+    ensures own { (s : Slots) → table.now.plan.slots ≡ Some s → OwnAreRetired s pass.new.sought.retired card }
+    ensures kept { (s : Slots) → table.now.plan.slots ≡ Some s →
+        KeepsTakenOut pass.old.sought.retired pass.new.sought.retired }
 {
     table.retire_nodes(pass, card, CardNodes::all());
 }

@@ -15,6 +15,7 @@ ghost use Rattle.ell_cards.specs.Depths.{deepest, IsShallow, depth_of};
 ghost use Rattle.ell_cards.specs.Guards.{KnowsPlace, MayAnswer, MayAsk, NamesNode};
 ghost use Rattle.ell_cards.specs.Calls.{TellsNode};
 ghost use Rattle.ell_cards.specs.Looking.{ValuesAreFixed};
+ghost use Rattle.ell_cards.specs.Stepping.{LetsGo};
 ghost use Rattle.ell_tree.specs.CardsTaken.{TakesNoCard};
 ghost use Rattle.ell_tree.specs.Counts.{Took};
 ghost use Rattle.ell_tree.specs.Ends.{Answers};
@@ -62,6 +63,8 @@ pub(crate) fn again<A: Allocator + Copy, G: StepGate>(
 )
     requires own { pass.old.table ≡ table.now.id }
     requires may { MayStop (worker_of pass.old.view.worker) }
+    // Where there are places, the pass has noted all that its card in hand made dead.
+    requires noted { LetsGo table.now.plan pass.old }
     ensures { (op : Op) → Does pass.old.view op →
         Begins op (way_of op pass.old.view) (tries_hindered pass.old.view) pass.old pass.new }
 {
@@ -77,6 +80,8 @@ pub(crate) fn leave<A: Allocator + Copy, G: StepGate>(
 )
     requires own { pass.old.table ≡ table.now.id }
     requires may { MayStop (worker_of pass.old.view.worker) }
+    // Where there are places, the pass has noted all that its card in hand made dead.
+    requires noted { LetsGo table.now.plan pass.old }
     ensures lays { (op : Op) → Does pass.old.view op → Lays op pass.old pass.new }
     ensures least { pass.old.view.next_at_least ≤ table.now.plan.last_card + 1 }
 {
@@ -93,6 +98,8 @@ pub(crate) fn answer<A: Allocator + Copy, G: StepGate>(
 )
     requires own { pass.old.table ≡ table.now.id }
     requires may { MayAnswer pass.old.view said }
+    // Where there are places, the pass has noted all that its card in hand made dead.
+    requires noted { LetsGo table.now.plan pass.old }
     ensures answers { (op : Op) → Does pass.old.view op → Answers table.now op said pass.old pass.new }
     ensures hindrances { pass.new.view.hindrances ≡ pass.old.view.hindrances }
     ensures hindered { pass.new.view.hindered ≡ pass.old.view.hindered }

@@ -6,7 +6,9 @@ ghost use Rattle.ell_cards.specs.Models.{Does, Steps, flat_from};
 ghost use Rattle.ell_cards.specs.Guards.{MayClaim, MayFill, Wants};
 ghost use Rattle.ell_cards.specs.Changes.{after_fill};
 ghost use Rattle.ell_cards.specs.Shown.{shown_word};
-ghost use Rattle.ell_cards.specs.Skipping.{after_claimed_row};
+ghost use Rattle.ell_cards.specs.Skipping.{IsFresh, after_claimed_row};
+ghost use Rattle.ell_cards.specs.Stepping.{MayInTable};
+ghost use Rattle.ell_cards.specs.declared.call.Call.TheVariants as call;
 ghost use Rattle.ell_tree.specs.CardsTaken.{NextTakes, AskTakes};
 ghost use Rattle.ell_tree.specs.Keeping.{KeepsIn};
 ghost use Rattle.ell_tree.specs.Searches.{IsAt};
@@ -153,7 +155,9 @@ fn claim_up_to<A: Allocator + Copy>(
     requires order { first ≤ card }
     requires room { card ≤ table.now.plan.last_card }
     requires one { table.now.plan.slots ≡ None → card ≡ first }
-    ensures { Steps pass.old pass.new (after_claimed_row result first card node_key pass.old.view) }
+    requires kept { MayInTable table.now.plan pass.old (call.Claim first node_key) }
+    ensures step { Steps pass.old pass.new (after_claimed_row result first card node_key pass.old.view) }
+    ensures fresh { IsFresh table.now.plan pass.old.slot result card }
 {
     if card == first {
         table.claim(pass, first, node_key)

@@ -18,7 +18,9 @@ use Rattle.ell_cards.specs.Guards.{MayClaim, MayFill, Wants}
 use Rattle.ell_cards.specs.Periods.{most_claims}
 use Rattle.ell_cards.specs.Seeking.{FindsNone, missed_one}
 use Rattle.ell_cards.specs.Shown.{cut_planned}
-use Rattle.ell_cards.specs.Skipping.{after_claimed_row, after_row, IsAfterRow}
+use Rattle.ell_cards.specs.Skipping.{after_claimed_row, after_row, IsAfterRow, IsFresh}
+use Rattle.ell_cards.specs.Stepping.{LetsGo, MayInTable}
+use Rattle.ell_cards.specs.declared.call.Call.TheVariants as call
 use Rattle.ell_cards.proofs.lemmas.views.Afters.{after_next}
 use Rattle.ell_cards.proofs.lemmas.views.Rows.{rows_keep, wants_same}
 use Rattle.ell_cards.proofs.lemmas.views.Searches.{may_claim}
@@ -36,6 +38,7 @@ use Rattle.ell_tree.specs.Keeping.{LosesNothing, KeepsIn}
 use Rattle.ell_tree.specs.Searches.{seen, IsAt}
 use Rattle.ell_tree.specs.Tries.{Claims, ClaimsInVain, HasCard, HasSlotOf, HoldsAside}
 use Rattle.ell_tree.specs.Milestones.{GivesOut}
+use Rattle.ell_tree.proofs.lemmas.LettingGo.{aside_unflagged, lets_aside_go}
 use Rattle.ell_tree.proofs.lemmas.Keeping.{keeps_in, keeps_in_trans, keeps_step, keeps_all_none, loses_trans, next_keeps}
 
 -- a row of claims loses nothing
@@ -57,13 +60,6 @@ row_keeps first last node_key v w r low up = record {
 claimed_row : (first last node_key : ℕ) (v : View) → first ≤ last → IsAfterRow first last node_key v (after_claimed_row true first last node_key v)
 claimed_row first last node_key v order =
     subst (λ m. IsAfterRow first m node_key v (cut_planned (after_row (last - first) first node_key v))) (omega arith) (rows_keep (last - first) first node_key v)
-
--- a card that may be laid aside is not flagged
-aside_unflagged : (plan : TablePlan) (p : PassModel) (c : ℕ) → HoldsAside plan p → p.view.worker.card ≡ Some c → p.view.worker.flagged ≡ false
-aside_unflagged plan p c hand holds = elim hand.ready [
-  | inl none ↦ absurd (some_not_none holds none)
-  | inr aside ↦ aside.1
-]
 
 -- where a search stands at a node, and the claim word was read, a claim may be made
 pub may_claim_at : (plan : TablePlan) (old new : PassModel) (c node_key : ℕ) (op : Op) (place : Place) → Steps old new (after_next c old.view) → Does old.view op
@@ -90,6 +86,23 @@ module _ (a b e : PassModel) (first node_key : ℕ) (read : Steps a b (after_nex
       → Wants (flat_from plan) a.view op place.parent.node place.node place.key node_key → MayClaim (flat_from plan) e.view first node_key
   may_claim_there plan op place busy hand at calm wants =
       subst (λ (w : View). MayClaim (flat_from plan) w first node_key) (sym (ap (λ (p : PassModel). p.view) same)) (may_claim_at plan a b first node_key op place read busy hand low at calm wants)
+
+  -- the card that it has in hand is the one that it had, and so is the slot that it took last
+  same_card : e.view.worker.card ≡ a.view.worker.card
+  same_card = ap (λ (p : PassModel). p.view.worker.card) same ∙ ap (λ (p : PassModel). p.view.worker.card) read
+
+  same_flagged : e.view.worker.flagged ≡ a.view.worker.flagged
+  same_flagged = ap (λ (p : PassModel). p.view.worker.flagged) same ∙ ap (λ (p : PassModel). p.view.worker.flagged) read
+
+  same_slot : e.slot ≡ a.slot
+  same_slot = ap (λ (p : PassModel). p.slot) same ∙ ap (λ (p : PassModel). p.slot) read
+
+  -- so it may lay that card aside, or let it go
+  pub may_lay_aside : (plan : TablePlan) → HoldsAside plan a → MayInTable plan e (call.Claim first node_key)
+  may_lay_aside plan hand s is c h took = hand.aside (λ none. some_not_none is none) c (sym same_card ∙ h.0) (sym same_slot ∙ took)
+
+  pub lets_go_there : (plan : TablePlan) → HoldsAside plan a → LetsGo plan e
+  lets_go_there plan hand = lets_aside_go plan a e same_card same_flagged same_slot hand
 
   -- it tried to claim all cards from that to a last one
   module _ (d : PassModel) (last : ℕ) (order : first ≤ last) where
@@ -161,15 +174,18 @@ module _ (a b e : PassModel) (first node_key : ℕ) (read : Steps a b (after_nex
         )
 
     -- or it may be laid aside
-    pub in_vain : (plan : TablePlan) (f : PassModel) → plan.slots ≢ None → plan.flat ≡ true → ClaimsAll true → f.view ≡ d.view → e.sought.missed ≡ b.sought.missed
-        → f.sought ≡ missed_one d.sought → ClaimsInVain plan a f
-    in_vain plan f places flat s view none missed =
+    pub in_vain : (plan : TablePlan) (f : PassModel) → plan.slots ≢ None → plan.flat ≡ true → ClaimsAll true → IsFresh plan e.slot true last
+        → f ≡ record d { safe = f.safe; sought = f.sought } → e.sought.missed ≡ b.sought.missed → f.sought ≡ missed_one d.sought → ClaimsInVain plan a f
+    in_vain plan f places flat s fresh kept none missed =
+        let view = ap (λ (p : PassModel). p.view) kept in
+        let slot = ap (λ (p : PassModel). p.slot) kept ∙ ap (λ (p : PassModel). p.slot) s in
         let r = subst (IsAfterRow first last node_key (after_next first a.view)) (sym view) (row s) in
         record {
           slots = places;
           hand = record {
             ready = inr (from_some plan flat, r.unflagged);
             below = λ c holds. (let is = same_Some last c (sym r.card ∙ holds) in omega (arith, is, r.least));
+            aside = λ some c holds took. fresh some refl (sym slot ∙ (took ∙ (sym holds ∙ r.card)));
           };
           search = r.search;
           here = r.here;
@@ -196,6 +212,8 @@ module _ (a b e : PassModel) (first node_key : ℕ) (read : Steps a b (after_nex
           meets.0,
           meets.1,
           given_out false plan.last_card s some (omega arith),
+          lets_aside_go plan a d (ap (λ (w : View). w.worker.card) view) (ap (λ (w : View). w.worker.flagged) view)
+              (ap (λ (p : PassModel). p.slot) s ∙ same_slot) hand,
         )
 
 -- so many cards were claimed in vain, one after the other: where any was, cards lie in slots; and the pass stands where it
@@ -215,7 +233,11 @@ pub record HasAsked (plan : TablePlan) (n : ℕ) (old new : PassModel) : Type 0 
 pub asked_none : (plan : TablePlan) (p : PassModel) → p.view.worker.card ≡ None → HasAsked plan 0 p p
 asked_none plan p none = record {
   keeps = keeps_in plan p p 0 (keeps_all_none p 0).keeps;
-  hand = record { ready = inl none; below = λ c holds. absurd (some_not_none holds none) };
+  hand = record {
+    ready = inl none;
+    below = λ c holds. absurd (some_not_none holds none);
+    aside = λ some c holds. absurd (some_not_none holds none);
+  };
   search = refl;
   here = refl;
   values = refl;
@@ -294,6 +316,7 @@ module _ (plan : TablePlan) (n : ℕ) (old mid new : PassModel) (h : HasAsked pl
     record { unflagged = claims.0.unflagged; search = claims.0.search ∙ h.search },
     claims.1,
     claims.2 ∙ h.hindrances,
+    claims.3,
   )
   asked_claims op place node_key claimed.Lost claims = (
     record { unflagged = claims.0.unflagged; search = claims.0.search ∙ h.search },
@@ -305,6 +328,7 @@ module _ (plan : TablePlan) (n : ℕ) (old mid new : PassModel) (h : HasAsked pl
     },
     omega (arith, claims.2, ap (λ (hs : List Hindrance). length hs) h.hindrances),
     given_before claims.3,
+    claims.4,
   )
 
   -- and takes what it takes
@@ -345,6 +369,7 @@ asked_in_vain plan n old mid op place node_key h all = (
     no_slot = λ s is. (let many = all ∙ ap most_claims is in inr (omega (arith, many, h.missed)));
   },
   h.hindrances,
+  lets_aside_go plan mid mid refl refl refl h.hand,
 )
 
 -- all numbers were given out

@@ -94,6 +94,7 @@ fills a b n stores says h planned same =
     let filling = ap (λ (v : View). v.planned) h.view ∙ planned in record {
       table = h.table;
       label = h.label;
+      slot = h.slot;
       took = h.took;
       view = h.view ∙ ap (λ es. with_stores es a.view) (sym filled);
       filled = λ f. ap (λ es. stored_at es f) filled ∙ (same f ∙ ap (λ es. stored es f 0) (sym filling));

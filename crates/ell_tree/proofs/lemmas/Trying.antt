@@ -67,9 +67,9 @@ module _ (p q r : PassModel) (n : ℕ) (k : KeepsAllButSearch p q n) where
   pub ends_after : (t : TreeModel) (op : Op) (ended : Tried) → TryEnds t op q r ended → TryEnds t op p r ended
   ends_after t op (Answered had) h =
       (keeps_answers t op (reply_by op had) p q r n k.keeps h.0, meets_trans p.view q.view r.view (seek_meets p q n k) h.1, h.2)
-  ends_after t op Spent h = (halts_after op h.0, h.1)
+  ends_after t op Spent h = (halts_after op h.0, h.1, h.2)
   ends_after t op Hindered h =
-      (halts_after op h.0, (let same = ap length k.hindrances in omega (arith, h.1, same)), sees_after t.plan.last_card h.2)
+      (halts_after op h.0, (let same = ap length k.hindrances in omega (arith, h.1, same)), sees_after t.plan.last_card h.2, h.3)
 
   pub took_after : (t : TreeModel) (key : ℕ) (ended : Tried) → TryTook t key q r ended → TryTook t key p r ended
   took_after t key (Answered taken) h = (takes_before t key taken p q r k.keeps.view.ledger h.0, take_before key taken p q r k.keeps.view.answers h.1)

@@ -37,7 +37,7 @@ module _ (s : Slots) (v : View) (r : Retired) (c : ℕ) where
         left_key = subst (λ k. IsTold v (Info c field.LeftLeafKey k)) left.is left.has;
         right_key = subst (λ k. IsTold v (Info c field.RightLeafKey k)) right.is right.has;
         apart = λ inner. h.apart (place_whole goes.whole h.below goes.is ∙ inner);
-        leaf = λ outer has. h.leaf (λ inner. outer (sym (place_whole goes.whole h.below goes.is) ∙ inner)) (has_slot_low s.last goes.whole h.below goes.is has);
+        leaf = λ node outer has. h.leaf (λ three. node (sym (place_whole goes.whole h.below goes.is) ∙ three)) (λ inner. outer (sym (place_whole goes.whole h.below goes.is) ∙ inner)) (has_slot_low s.last goes.whole h.below goes.is has);
         replaced = h.replaced;
         unused_left = λ inner other has. h.unused_left (place_whole goes.whole h.below goes.is ∙ inner) other has;
         unused_right = λ inner other has. h.unused_right (place_whole goes.whole h.below goes.is ∙ inner) other has;
@@ -52,7 +52,7 @@ module _ (s : Slots) (v : View) (r : Retired) (c : ℕ) where
         above = above.has;
         below = below.has;
         parent_noted = λ has. h.parent_noted (has_slot_low s.last above.whole h.parent above.is has);
-        leaf_noted = λ has. h.leaf_noted (has_slot_low s.last below.whole h.leaf below.is has);
+        leaf_noted = λ node has. h.leaf_noted (λ three. node (sym (place_whole below.whole h.leaf below.is) ∙ three)) (has_slot_low s.last below.whole h.leaf below.is has);
       }
 
   retired_whole : IsRetired s (shown v) r c → IsRetired s v r c

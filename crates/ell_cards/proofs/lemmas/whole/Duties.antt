@@ -108,7 +108,7 @@ module _ (plan : TablePlan) (tree : TableState) (id : ℕ) (v : View) (there : g
 
     put_done : (x : ℕ) → x % 4 < 3 → has_slot_in s.last (card x) ≡ true → Kills w stage c x → P x
     put_done x few slot (inl (inl (changed, outer, is))) =
-        subst P is (are.leaf (p.leaf (λ inner. outer (ap (λ y. y % 4) below ∙ inner)) (subst (λ y. has_slot_in s.last (card y) ≡ true) (sym is ∙ below) slot)))
+        subst P is (are.leaf (p.leaf (λ three. absurd (omega (arith, few, is, below, three))) (λ inner. outer (ap (λ y. y % 4) below ∙ inner)) (subst (λ y. has_slot_in s.last (card y) ≡ true) (sym is ∙ below) slot)))
     put_done x few slot (inl (inr (cuts, is))) = absurd (one_kind (stage c) kind (cut-delete (stage c) cuts))
     put_done x few slot (inr (on, (ended, inl unborn))) =
         subst P (whole x c on few) (replaced_or_born (x % 4) few (λ born. unborn (subst (λ d. is_node_born (stage d) (x % 4) ≡ true) (sym on) born)))
@@ -153,7 +153,7 @@ module _ (plan : TablePlan) (tree : TableState) (id : ℕ) (v : View) (there : g
       subst P is (are.parent (h.parent_noted (subst (λ y. has_slot_in s.last (card y) ≡ true) (sym is ∙ parent) slot)))
   all_retired (cut knows h own) x few slot (inl (inr (was_cut, inr is))) =
       let leaf = told_is plan tree m id v there c field.L h.leaf h.below in
-      subst P is (are.leaf (h.leaf_noted (subst (λ y. has_slot_in s.last (card y) ≡ true) (sym is ∙ leaf) slot)))
+      subst P is (are.leaf (h.leaf_noted (λ three. absurd (omega (arith, few, is, leaf, three))) (subst (λ y. has_slot_in s.last (card y) ≡ true) (sym is ∙ leaf) slot)))
   all_retired (cut knows h own) x few slot (inr (on, never)) = all_own own x few on
   all_retired (backed knows own) x few slot (inl (inl (changed, outer, is))) = absurd (one_kind (stage c) (changed-insert (stage c) changed) (backed-delete (stage c) (allowed_backed knows)))
   all_retired (backed knows own) x few slot (inl (inr (was_cut, is))) = absurd (over_not_cut (stage c) was_cut (allowed_backed knows))

@@ -1,9 +1,12 @@
-use Rattle.std.proofs.Common.{◌+◌, ◌≡◌, ◌≢◌, Some, refl, ap, ◌∙◌, rules, arith}
+use Rattle.std.proofs.Common.{◌+◌, ◌≡◌, ◌≢◌, Some, refl, ap, sym, subst, ◌∙◌, rules, arith}
 use Rattle.ell_ops.specs.declared.op.Op.TheVariants.{Delete}
 use Rattle.ell_word.specs.declared.update.State.TheVariants.{Clean}
 use Rattle.ell_core.specs.declared.view.Search.{Search}
 use Rattle.ell_cards.specs.Depths.{deepest}
-use Rattle.ell_cards.specs.Models.{PassModel, flat_from, Does}
+use Rattle.ell_core.specs.declared.fact.Fact.TheVariants.{DOver}
+use Rattle.ell_cards.specs.declared.view.View.{View}
+use Rattle.ell_cards.specs.LettingGo.{cut}
+use Rattle.ell_cards.specs.Models.{PassModel, flat_from, Does, Knows}
 use Rattle.ell_cards.proofs.lemmas.runs.Taking.{deletes_take_what_they_tell}
 use Rattle.ell_tree.specs.CardsTaken.{cards_taken, TakesNoCard}
 use Rattle.ell_tree.specs.Helps.{help_steps}
@@ -12,6 +15,7 @@ use Rattle.ell_tree.specs.Keeping.{KeepsAllButMet}
 use Rattle.ell_tree.specs.Searches.{seen_any, below}
 use Rattle.ell_tree.proofs.lemmas.Called.{answered_taking, takes_told}
 use Rattle.ell_tree.proofs.lemmas.Keeping.{inner_kept, share_trans}
+use Rattle.ell_tree.proofs.lemmas.LettingGo.{lets_none_go, lets_flagged_go}
 use Rattle.ell_tree.proofs.lemmas.Owning.{keeps_answers, keeps_in_answers, had_value, would_delete}
 use Rattle.ell_tree.proofs.lemmas.Meeting.{meets_trans, meets_more, above_way, parent_way, nowhere_way, way_over, way_free, no_way}
 use Rattle.ell_tree.proofs.lemmas.Halting.{keeps_meets, keeps_in_meets, said_meets, flag_lost}
@@ -86,6 +90,28 @@ retire_deleted-requires-clause-leaf g c =
     c.finish_own.ensures.keeps_but_met.keeps.view.told _
     (told_leaf t.view c.flag_delete.new.pass.view c.in-Card.card c.args.place c.flag_delete.ensures.keeps.view c.args.key c.in-Some.above card)
 
+-- the parent is an internal node, and the leaf of the key is none
+pub retire_deleted-requires-clause-inner : goal.retire_deleted-requires-clause-inner
+retire_deleted-requires-clause-inner g c = c.requires.searched.ends.passed.seen.node.inner
+
+pub retire_deleted-requires-clause-outer : goal.retire_deleted-requires-clause-outer
+retire_deleted-requires-clause-outer g c = c.requires.searched.ends.outer c.requires.key
+
+-- it has noted what its card made dead
+pub answer-requires-clause-noted : goal.answer-requires-clause-noted
+answer-requires-clause-noted g c =
+    let f = c.flag_delete.new.pass in
+    let m = c.retire_deleted.new.pass in
+    let card = c.in-Card.card in
+    let same = c.retire_deleted.ensures.same in
+    let steps = help_steps (deepest c.args.table.now.plan) + 2 in
+    let met : KeepsAllButMet f m steps = keeps_but_met_noted f c.finish_own.new.pass m steps c.finish_own.ensures.keeps_but_met same in
+    let over = subst (λ (v : View). Knows v (DOver card)) (sym (ap (λ (p : PassModel). p.view) same)) (search rules) in
+    lets_flagged_go c.args.table.now.plan m card (met.card ∙ c.in_default-flag_delete.ensures.flags.card)
+    (met.flagged ∙ c.in_default-flag_delete.ensures.flags.flagged)
+    (λ some. met.keeps.slot ∙ (c.flag_delete.ensures.keeps.slot ∙ c.in-Card.ensures.claims.4 some))
+    (λ s is. cut over (c.retire_deleted.ensures.cut s is) (c.retire_deleted.ensures.own s is))
+
 -- once it is over, it is answered
 pub answer-requires-clause-may : goal.answer-requires-clause-may
 answer-requires-clause-may g c =
@@ -125,6 +151,7 @@ returns-then-ne-clause-ends g c =
       sees_end cards a.view a.view new.view above.update.state above.update.card refl
           (unknown_above a.view place.grandparent above c.in-Some.is ends.unknown_above)
           (named_above cards a.view place.grandparent above c.in-Some.is ends.passed_above) stands c.help.ensures.ended met.keeps.view.least,
+      lets_none_go c.args.table.now.plan new (met.card ∙ c.requires.searched.no_card),
     )
 
 -- or at the parent
@@ -161,6 +188,7 @@ returns-then-ne-2-clause-ends g c =
       },
       omega (arith, way.1, more),
       sees_end cards a.view a.view new.view update.state update.card refl ends.unknown ends.passed.seen.named stands help.ensures.ended met.keeps.view.least,
+      lets_none_go c.args.table.now.plan new (met.card ∙ c.requires.searched.no_card),
     )
 
 -- no card was left
@@ -192,6 +220,7 @@ returns-in-NoneLeft-clause-ends g c =
         stops = search rules;
       },
       claims.1,
+      claims.3,
     )
 
 -- another pass took the card
@@ -224,6 +253,7 @@ returns-in-Lost-clause-ends g c =
       },
       omega (arith, claims.2),
       gives_out cards a.view a.view new.view new.view (omega arith) claims.3 (omega arith),
+      claims.4,
     )
 
 -- the flag was lost
@@ -261,6 +291,7 @@ returns-in-Err-clause-ends g c =
       omega (arith, lost.1, more),
       gives_out cards a.view a.view t.view new.view (omega arith) c.in-Card.ensures.claims.3
           (omega (arith, c.flag_delete.ensures.keeps.view.least, help.ensures.keeps_but_met.keeps.view.least)),
+      lets_none_go c.args.table.now.plan new (help.ensures.keeps_but_met.card ∙ flags.no_card),
     )
 
 -- the key was taken away

@@ -1,6 +1,7 @@
 use Rattle.std.proofs.Common.{◌∙◌, rules}
 use Rattle.ell_ops.specs.declared.op.Op.TheVariants.{Delete}
 use Rattle.ell_tree.proofs.lemmas.Called.{takes_none}
+use Rattle.ell_tree.proofs.lemmas.LettingGo.{lets_none_go}
 use Rattle.ell_tree.proofs.lemmas.Owning.{keeps_answers, had_none}
 use Rattle.ell_tree.proofs.lemmas.Meeting.{meets_trans}
 use Rattle.ell_tree.proofs.lemmas.Halting.{seek_meets, said_meets}
@@ -11,6 +12,11 @@ pub delete_at-requires-clause-searched : goal.delete_at-requires-clause-searched
 delete_at-requires-clause-searched g c =
     let s = c.search-place in
     searched c.args.table.now.plan (Delete c.args.key) s.result c.args.pass.now s.new.pass _ s.ensures.keeps_but_search c.requires.root s.ensures.ends
+
+-- no card is in hand yet
+pub answer-requires-clause-noted : goal.answer-requires-clause-noted
+answer-requires-clause-noted g c =
+    lets_none_go c.args.table.now.plan c.search-place.new.pass (c.search-place.ensures.keeps_but_search.card ∙ c.requires.root.no_card)
 
 -- the key was not there
 pub returns-then-place-key-clause-ends : goal.returns-then-place-key-clause-ends

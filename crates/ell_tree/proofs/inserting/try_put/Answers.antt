@@ -5,7 +5,10 @@ use Rattle.ell_cards.specs.declared.view.Told.TheVariants.{Met}
 use Rattle.std.proofs.lemmas.Bool.{false≢true}
 use Rattle.ell_ops.specs.Meaning.{found}
 use Rattle.ell_core.proofs.lemmas.keeping.Puts.{put_key}
-use Rattle.ell_cards.specs.Models.{PassModel}
+use Rattle.ell_core.specs.declared.fact.Fact.TheVariants.{IOver}
+use Rattle.ell_cards.specs.declared.view.View.{View}
+use Rattle.ell_cards.specs.LettingGo.{put}
+use Rattle.ell_cards.specs.Models.{PassModel, Knows}
 use Rattle.ell_tree.specs.CardsTaken.{cards_taken, TakesNoCard, TakesOneCard, TakesOneIf}
 use Rattle.ell_tree.specs.Ends.{Answers, changes_by, reply_by}
 use Rattle.ell_tree.specs.Hindrances.{way_of}
@@ -13,6 +16,7 @@ use Rattle.ell_tree.specs.Keeping.{KeepsAll}
 use Rattle.ell_tree.proofs.lemmas.Searches.{may_answer}
 use Rattle.ell_tree.proofs.lemmas.Filling.{put_card, is_insert}
 use Rattle.ell_tree.proofs.lemmas.Keeping.{share_trans}
+use Rattle.ell_tree.proofs.lemmas.LettingGo.{lets_none_go, lets_flagged_go}
 use Rattle.ell_tree.proofs.lemmas.Owning.{keeps_answers, keeps_in_answers, would_put}
 use Rattle.ell_tree.proofs.lemmas.Meeting.{meets_trans, meets_more, put_way, nowhere_way, way_over, way_free, no_way}
 use Rattle.ell_tree.proofs.lemmas.Halting.{keeps_meets, keeps_in_meets, seek_meets, walk_meets, said_meets, flag_lost}
@@ -36,6 +40,11 @@ answer-requires-clause-may g c =
     (refused_outer s.result c.args.table.now.plan c.args.op c.args.what c.requires.puts s.new.pass.view s.ensures.ends
     (λ takes. false≢true (sym c.if-not-may_replace.true ∙ c.may_replace.ensures.1 takes))) s.ensures.ends.at
     (refused.says ∙ ap Some (sym (c.found.ensures ∙ ap found c.told_of_put-found.ensures)))
+
+-- no card is in hand yet
+pub answer-requires-clause-noted : goal.answer-requires-clause-noted
+answer-requires-clause-noted g c =
+    lets_none_go c.args.table.now.plan c.search-place.new.pass (c.search-place.ensures.keeps_but_search.card ∙ c.requires.root.no_card)
 
 pub flag_insert-requires-clause-tag : goal.flag_insert-requires-clause-tag
 flag_insert-requires-clause-tag g c = c.search-place.ensures.ends.passed.tag
@@ -87,6 +96,19 @@ pub answer-requires-in-Ok-clause-may : goal.answer-requires-in-Ok-clause-may
 answer-requires-in-Ok-clause-may g c =
     rw c.retire_put.ensures.same
     (search rules)
+
+-- and it has noted what its card made dead
+pub answer-requires-in-Ok-clause-noted : goal.answer-requires-in-Ok-clause-noted
+answer-requires-in-Ok-clause-noted g c =
+    let f = c.flag_insert.new.pass in
+    let m = c.retire_put.new.pass in
+    let card = c.in-Card.card in
+    let same = c.retire_put.ensures.same in
+    let kept : KeepsAll f m 3 = keeps_all_noted f c.finish_insert.new.pass m 3 c.finish_insert.ensures.keeps_all same in
+    let over = subst (λ (v : View). Knows v (IOver card)) (sym (ap (λ (p : PassModel). p.view) same)) c.finish_insert.ensures.over in
+    lets_flagged_go c.args.table.now.plan m card (kept.card ∙ c.in-Ok.ensures.flags.card) (kept.flagged ∙ c.in-Ok.ensures.flags.flagged)
+    (λ some. kept.keeps.slot ∙ (c.flag_insert.ensures.keeps.slot ∙ c.in-Card.ensures.claims.4 some))
+    (λ s is. put over (c.retire_put.ensures.retired s is))
 
 -- there was no place for it
 pub returns-then-not-may_replace-clause-ends : goal.returns-then-not-may_replace-clause-ends
@@ -143,6 +165,7 @@ returns-then-ne-clause-ends g c =
       sees_end c.args.table.now.plan.last_card a.view s.new.pass.view new.view update.state update.card s.ensures.keeps_but_search.keeps.view.before s.ensures.ends.unknown
           s.ensures.ends.passed.seen.named stands c.help.ensures.ended
           (omega (arith, s.ensures.keeps_but_search.keeps.view.least, c.help.ensures.keeps_but_met.keeps.view.least)),
+      lets_none_go c.args.table.now.plan new (c.help.ensures.keeps_but_met.card ∙ (s.ensures.keeps_but_search.card ∙ c.requires.root.no_card)),
     )
 
 -- no card was left
@@ -172,6 +195,7 @@ returns-in-NoneLeft-clause-ends g c =
         stops = search rules;
       },
       claims.1,
+      claims.3,
     )
 
 -- another pass took the card
@@ -202,6 +226,7 @@ returns-in-Lost-clause-ends g c =
       },
       omega (arith, quiet, claims.2),
       gives_out c.args.table.now.plan.last_card a.view s.new.pass.view new.view new.view s.ensures.keeps_but_search.keeps.view.least claims.3 (omega arith),
+      claims.4,
     )
 
 -- it was put
@@ -268,6 +293,7 @@ returns-in-Err-clause-ends g c =
       omega (arith, lost.1, more),
       gives_out c.args.table.now.plan.last_card a.view s.new.pass.view t.view new.view s.ensures.keeps_but_search.keeps.view.least c.in-Card.ensures.claims.3
           (omega (arith, c.flag_insert.ensures.keeps.view.least, help.ensures.keeps_but_met.keeps.view.least)),
+      lets_none_go c.args.table.now.plan new (help.ensures.keeps_but_met.card ∙ flags.no_card),
     )
 
 -- the cards of each

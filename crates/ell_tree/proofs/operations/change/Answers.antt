@@ -12,6 +12,7 @@ use Rattle.ell_tree.proofs.lemmas.Meeting.{meets_trans}
 use Rattle.ell_tree.proofs.lemmas.Milestones.{milestones_one, milestones_still, milestones_same, milestones_most, milestones_more, amortized}
 use Rattle.ell_tree.proofs.lemmas.CardsTaken.{answers_first, answered_most, answered_cards, unchanged_cards, taken_none, same_Ok}
 use Rattle.ell_tree.proofs.lemmas.Keeping.{share_trans}
+use Rattle.ell_tree.proofs.lemmas.LettingGo.{lets_none_go}
 use Rattle.ell_tree.proofs.lemmas.Owning.{answers_before, would_before, takes_before_it}
 use Rattle.ell_tree.proofs.operations.change.Goals as goal
 
@@ -42,6 +43,7 @@ loop-round-preserved g c =
       share = share_trans c.args.pass.now.view c.restart.new.pass.view c.try_once.new.pass.view
           (share_trans c.args.pass.now.view l.pass.view c.restart.new.pass.view i.share begins.share) halts.share;
       stops = halts.stops;
+      noted = c.in-Hindered.ensures.ends.3;
       root = λ none. absurd (omega (arith, none));
       would = λ some. would_before op c.args.pass.now c.restart.new.pass (begins.ledger ∙ i.ledger) halts.would;
       meets = meets_trans c.args.pass.now.view c.restart.new.pass.view c.try_once.new.pass.view begun halts.meets;
@@ -71,6 +73,7 @@ loop-round-init g c =
       answers = search rules;
       share = start.share;
       stops = search rules;
+      noted = lets_none_go c.args.table.now.plan c.begin.new.pass start.root.no_card;
       root = λ none. start.root;
       would = λ some. absurd (omega (arith, some));
       meets = search rules;

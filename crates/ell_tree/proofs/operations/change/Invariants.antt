@@ -5,7 +5,7 @@ use Rattle.ell_tree.specs.CardsTaken.{TakesAtMost}
 use Rattle.ell_tree.specs.Ends.{try_steps_in}
 use Rattle.ell_tree.specs.Hindrances.{AreOver, Meets, way_of}
 use Rattle.ell_tree.specs.Ledgers.{Owns, present_in}
-use Rattle.ell_cards.specs.Stepping.{SameShare}
+use Rattle.ell_cards.specs.Stepping.{LetsGo, SameShare}
 use Rattle.ell_tree.specs.Searches.{AtRoot}
 use Rattle.ell_tree.specs.Tries.{Stops}
 use Rattle.ell_tree.specs.Milestones.{milestones_known}
@@ -23,6 +23,7 @@ invariant-loop-round g l = record {
   answers : l.pass.view.answers ≡ l.fn.pass.view.answers;
   share : SameShare l.fn.pass.view l.pass.view;
   stops : Stops l.op l.pass.view;
+  noted : LetsGo l.table.plan l.pass;
   root : l.round ≡ 0 → AtRoot l.op l.pass.view;
   would : 1 ≤ l.round → Owns l.fn.pass (key_of l.op) → reply_of l.op (present_in l.fn.pass) ≡ reply_of_change l.op;
   meets : Meets l.fn.pass.view l.pass.view;

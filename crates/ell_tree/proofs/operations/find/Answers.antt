@@ -1,11 +1,17 @@
 use Rattle.std.proofs.Common.{◌∙◌, arith, subst}
 use Rattle.ell_ops.specs.declared.op.Op.TheVariants.{Find}
+use Rattle.ell_tree.proofs.lemmas.LettingGo.{lets_none_go}
 use Rattle.ell_tree.proofs.lemmas.Meeting.{meets_none, meets_trans}
 use Rattle.ell_tree.proofs.lemmas.Halting.{seek_meets, said_meets}
 use Rattle.ell_tree.specs.Ends.{Answers}
 use Rattle.ell_tree.proofs.lemmas.Owning.{answers_before, keeps_answers}
 use Rattle.ell_tree.proofs.lemmas.Milestones.{milestones_more, milestones_same}
 use Rattle.ell_tree.proofs.operations.find.Goals as goal
+
+-- a find has no card in hand
+pub answer-requires-clause-noted : goal.answer-requires-clause-noted
+answer-requires-clause-noted g c =
+    lets_none_go c.args.table.now.plan c.search-place.new.pass (c.search-place.ensures.keeps_but_search.card ∙ c.begin.ensures.root.no_card)
 
 pub returns-clause-answers : goal.returns-clause-answers
 returns-clause-answers g c =

@@ -12,6 +12,7 @@ use Rattle.ell_tree.proofs.lemmas.Claiming.{still_none}
 use Rattle.ell_tree.proofs.lemmas.Computing.{untouched_still}
 use Rattle.ell_tree.proofs.lemmas.Hindrances.{halts_hindered, one_hindered}
 use Rattle.ell_tree.proofs.lemmas.Keeping.{share_trans}
+use Rattle.ell_tree.proofs.lemmas.LettingGo.{lets_none_go}
 use Rattle.ell_tree.proofs.lemmas.Milestones.{milestones_one, milestones_same}
 use Rattle.ell_tree.proofs.lemmas.Owning.{answers_before, keeps_answers, takes_before}
 use Rattle.ell_tree.proofs.lemmas.Removing.{at_that, halts_laid, not_at}
@@ -22,6 +23,17 @@ pub delete_at-requires-clause-searched : goal.delete_at-requires-clause-searched
 delete_at-requires-clause-searched g c =
     let s = c.search-place in
     searched c.args.table.now.plan (Delete c.args.key) s.result c.begin.new.pass s.new.pass _ s.ensures.keeps_but_search c.begin.ensures.root s.ensures.ends
+
+-- no card is in hand, or the pass may let it go
+pub leave-requires-clause-noted : goal.leave-requires-clause-noted
+leave-requires-clause-noted g c =
+    lets_none_go c.args.table.now.plan c.search-place.new.pass (c.search-place.ensures.keeps_but_search.card ∙ c.begin.ensures.root.no_card)
+
+pub leave-requires-in-Spent-clause-noted : goal.leave-requires-in-Spent-clause-noted
+leave-requires-in-Spent-clause-noted g c = c.in-Spent.ensures.ends.2
+
+pub leave-requires-in-Hindered-clause-noted : goal.leave-requires-in-Hindered-clause-noted
+leave-requires-in-Hindered-clause-noted g c = c.in-Hindered.ensures.ends.3
 
 -- another value was there, or none: the delete was laid down
 pub returns-then-not-is_value-clause-removes : goal.returns-then-not-is_value-clause-removes

@@ -1,0 +1,41 @@
+use Rattle.std.proofs.Common.{◌≡◌, ℕ, true, false, true≢false, Some, None, inl, inr, sym, ◌∙◌, subst}
+use Rattle.std.proofs.lemmas.Option.{same_Some}
+use Rattle.ell_core.proofs.lemmas.outcomes.Decide.{some_not_none}
+use Rattle.ell_cards.specs.declared.view.Slots.{Slots}
+use Rattle.ell_cards.specs.LettingGo.{IsRetired}
+use Rattle.ell_cards.specs.Models.{TablePlan, PassModel}
+use Rattle.ell_cards.specs.Stepping.{LetsGo}
+use Rattle.ell_tree.specs.Tries.{HasSlotOf, HoldsAside}
+
+-- a pass with no card in hand lets none go
+pub lets_none_go : (plan : TablePlan) (p : PassModel) → p.view.worker.card ≡ None → LetsGo plan p
+lets_none_go plan p none s is = record {
+  waiting = λ c h took. some_not_none h.0 none;
+  taken = λ c h. absurd (some_not_none h.holds none);
+  retired = λ c h. absurd (some_not_none h.holds none);
+}
+
+-- a card that may be laid aside is not flagged
+pub aside_unflagged : (plan : TablePlan) (p : PassModel) (c : ℕ) → HoldsAside plan p → p.view.worker.card ≡ Some c → p.view.worker.flagged ≡ false
+aside_unflagged plan p c hand holds = elim hand.ready [
+  | inl none ↦ absurd (some_not_none holds none)
+  | inr aside ↦ aside.1
+]
+
+-- so it may be let go, as long as the pass has taken no other slot
+pub lets_aside_go : (plan : TablePlan) (p q : PassModel) → q.view.worker.card ≡ p.view.worker.card → q.view.worker.flagged ≡ p.view.worker.flagged → q.slot ≡ p.slot
+    → HoldsAside plan p → LetsGo plan q
+lets_aside_go plan p q card flagged slot hand s is = record {
+  waiting = λ c h took. hand.aside (λ none. some_not_none is none) c (sym card ∙ h.0) (sym slot ∙ took);
+  taken = λ c h. absurd (true≢false (sym h.flagged ∙ (flagged ∙ aside_unflagged plan p c hand (sym card ∙ h.holds))));
+  retired = λ c h. absurd (true≢false (sym h.flagged ∙ (flagged ∙ aside_unflagged plan p c hand (sym card ∙ h.holds))));
+}
+
+-- and so may a flagged one whose slot the pass took last, once that has noted all that the card made dead
+pub lets_flagged_go : (plan : TablePlan) (p : PassModel) (c : ℕ) → p.view.worker.card ≡ Some c → p.view.worker.flagged ≡ true → HasSlotOf plan c p
+    → ((s : Slots) → plan.slots ≡ Some s → IsRetired s p.view p.sought.retired c) → LetsGo plan p
+lets_flagged_go plan p c card flagged slot retired s is = record {
+  waiting = λ d h took. true≢false (sym flagged ∙ h.1);
+  taken = λ d h. slot (λ none. some_not_none is none) ∙ (sym card ∙ h.holds);
+  retired = λ d h. subst (IsRetired s p.view p.sought.retired) (same_Some c d (sym card ∙ h.holds)) (retired s is);
+}
