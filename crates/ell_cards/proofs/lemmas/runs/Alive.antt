@@ -19,7 +19,7 @@ use Rattle.ell_core.specs.history.Stages.{Stage, Stages, is_start, is_insert, is
 use Rattle.ell_core.specs.history.Invariant.{insert_key, Flagged, Invariant}
 use Rattle.ell_core.specs.history.Later.{WordsLater, wins_of}
 use Rattle.ell_core.specs.statements.Since.{has_ended}
-use Rattle.ell_core.proofs.lemmas.stages.Order.{born_is_node, over-delete, backed-delete, insert_over-changed, changed-insert, one_kind, delete_won-delete}
+use Rattle.ell_core.proofs.lemmas.stages.Order.{born-claimed, born_is_node, over-delete, backed-delete, insert_over-changed, changed-insert, one_kind, delete_won-delete}
 use Rattle.ell_core.proofs.lemmas.stages.Sums.{sum_by}
 use Rattle.ell_core.proofs.lemmas.stages.Ended.{insert_over-ended, delete_over-ended, backed-ended}
 use Rattle.ell_grace.specs.Gone.{TakesOut, HasOuts}
@@ -165,6 +165,7 @@ start_uses plan s start =
         used = λ x inner born right unused. none_changed (r.stages (card (r.words.child x right))) (start.unwon (card (r.words.child x right))) unused.0;
         taken = λ c x takes unused. none c x takes;
         stands = λ c changed still. absurd (none_changed (r.stages c) (start.unwon c) changed);
+        kept = λ x unstarted outer born used. absurd (false≢true (sym unstarted ∙ start.started (card x) (born-claimed (r.stages (card x)) (x % 4) born)));
       };
     }
 
