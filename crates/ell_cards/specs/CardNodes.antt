@@ -29,7 +29,8 @@ nodes_of_both nodes others = record {
 -- whether the word of the card's slot notes all of these
 abbrev pub all_noted : CardNodes → ℕ → Bool
 all_noted nodes word =
-    (not nodes.internal || is_noted word 0) && (not nodes.left || is_noted word 1) && (not nodes.right || is_noted word 2)
+    (not nodes.internal || is_noted word 0) && (not nodes.left || is_noted word 1)
+    && (not nodes.right || is_noted word 2)
 
 -- another word of the slot notes them too, and is of the same turn
 pub record NotesToo (nodes : CardNodes) (word noted : ℕ) : Type 0 where

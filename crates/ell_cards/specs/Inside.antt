@@ -48,7 +48,8 @@ pub record PassFits (keys : List ℕ) (kept : Share) (words : ℕ) (v : View) : 
 
 -- the place of a pass as its code keeps it is the one that it knows, and it has one in a table with places, and no
 -- other one; it announces there what its code says; its safe number is the one that its code keeps, and without
--- places 0; the slot that it has taken is one of the table; and it has set free the slot of each card whose flag it lost
+-- places 0; the slot that it has taken is one of the table; and it has set free the slot of each card whose flag it
+-- lost
 pub record PlaceFits (standing : Standing) (words : ℕ) (p : Period) : Type 0 where
   pub place : p.place ≡ standing.place
   pub other : p.other ≡ None

@@ -15,8 +15,8 @@ use Rattle.ell_cards.specs.SlotWords.{is_noted}
 use Rattle.ell_cards.specs.Holding.{HoldsWaiting, HasFlagged}
 use Rattle.ell_cards.specs.Tied.{HasWon}
 
--- A pass holds the slot of a card: it has taken that for the card, which it has in hand and has not flagged yet; or it has
--- just lost the card's flag.
+-- A pass holds the slot of a card: it has taken that for the card, which it has in hand and has not flagged yet; or
+-- it has just lost the card's flag.
 pub data Holds (k : Known) (c : ℕ) : Type 0 where
   waiting : k.period.slot ≡ Some c → HoldsWaiting k.tree c → Holds k c
   lost : k.period.lost ≡ Some c → Holds k c
@@ -38,9 +38,9 @@ pub record IsInFlaggedHand (views : List View) (c : ℕ) : Type 0 where
   pub there : get_elem? views seat ≡ some view
   pub has : HasFlagged view c
 
--- The card of each slot in use has won its flag, or a pass holds the slot for it; and where the slot's word notes a node,
--- it has won its flag. Of each of its nodes that a card has made dead, and which the word does not note, some pass has
--- that card in hand still, and so is to note it.
+-- The card of each slot in use has won its flag, or a pass holds the slot for it; and where the slot's word notes a
+-- node, it has won its flag. Of each of its nodes that a card has made dead, and which the word does not note, some
+-- pass has that card in hand still, and so is to note it.
 pub record NothingLeaks (s : Slots) (t : WholeState) (trees : List View) (w : Words) (stage : Stages) (lie : ℕ → ℕ)
     : Type 0 where
   pub used : (slot : ℕ) → slot ≤ s.last → slice_index t.words (slot_word s slot) % 8 ≢ 7

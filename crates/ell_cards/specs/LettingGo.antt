@@ -14,10 +14,9 @@ use Rattle.ell_cards.specs.Models.{IsTold, Knows, Does}
 use Rattle.ell_cards.specs.SlotWords.{has_slot_in}
 use Rattle.ell_cards.specs.Holding.{HasFlagged, HoldsWaiting}
 
--- A pass was told where the card of its insert or swap went, and the keys of the card's leaves, which are two above an
--- internal node. It has noted the leaf that
--- the card took out, if it went to a leaf; what of the card never came, if that had its key; and the leaf of the card that is
--- not used, if it went above an internal node.
+-- A pass was told where the card of its insert or swap went, and the keys of the card's leaves, which are two above
+-- an internal node. It has noted the leaf that the card took out, if it went to a leaf; what of the card never came,
+-- if that had its key; and the leaf of the card that is not used, if it went above an internal node.
 pub record PutIsRetired (s : Slots) (v : View) (r : Retired) (c : ℕ) : Type 0 where
   pub op : Op
   pub below : ℕ

@@ -33,8 +33,8 @@ abbrev pub MayRetire : View → Bool → ℕ → CardNodes → Type 0
 MayRetire v true c nodes = AreTakenOut v c nodes
 MayRetire v false c nodes = NeverCome v c nodes × (v.worker.card ≡ Some c)
 
--- By the word of its slot, a card whose nodes a pass is to note lies there: it is that of a node which the pass has met;
--- or it has this number, and the word is of its turn.
+-- By the word of its slot, a card whose nodes a pass is to note lies there: it is that of a node which the pass has
+-- met; or it has this number, and the word is of its turn.
 abbrev pub LiesThereStill : View → Bool → ℕ → ℕ → Type 0
 LiesThereStill v true c word = (x : ℕ) × IsTold v (Met x) × (card x ≡ card_by (slot_of c) word)
 LiesThereStill v false c word = turn_in word ≡ turn_of c

@@ -54,7 +54,8 @@ abbrev pub FreeSlotsAreUntouched : Type 0
 FreeSlotsAreUntouched = (plan : TablePlan) (s : Slots) (t : WholeState) → plan.slots ≡ Some s
     → IsWhole plan t → (slot : ℕ) → IsSafelyFree s t slot
     → (seat : ℕ) (k : Known) → get_elem? t.views seat ≡ some k → (c : Call) → May plan c k.tree
-    → MayInMemory s k.period.slot k.period.sought.retired k.tree c → (d : ℕ) → slot_of d ≡ slot → (f : Field) → word_of c ≢ address d f
+    → MayInMemory s k.period.slot k.period.sought.retired k.tree c
+    → (d : ℕ) → slot_of d ≡ slot → (f : Field) → word_of c ≢ address d f
 
 -- If by the word of its slot, which is in use, the card of a node lies there, the word notes the node.
 abbrev pub IsNotedInSlot : Slots → WholeState → ℕ → Type 0
@@ -63,8 +64,8 @@ IsNotedInSlot s t x =
     → card_by (slot_of (card x)) (slice_index t.words (slot_word s (slot_of (card x)))) ≡ card x
     → is_noted (slice_index t.words (slot_word s (slot_of (card x)))) (x % 4) ≡ true
 
--- so it is of what a pass has noted for a card: of the parent and the leaf of the card, as the pass was told of them, and
--- of nodes of the card itself
+-- so it is of what a pass has noted for a card: of the parent and the leaf of the card, as the pass was told of them,
+-- and of nodes of the card itself
 pub record RetiredIsNoted (s : Slots) (t : WholeState) (k : Known) (c : ℕ) : Type 0 where
   pub parent : (x : ℕ) → IsTold k.tree (Info c field.P x) → k.period.sought.retired.parent ≡ true → IsNotedInSlot s t x
   pub leaf : (x : ℕ) → IsTold k.tree (Info c field.L x) → k.period.sought.retired.leaf ≡ true → IsNotedInSlot s t x

@@ -43,9 +43,9 @@ pub record IsToldInRow (first last node_key : ℕ) (v : View) (e : Told) : Type 
   pub among : Has (told_of_claim card node_key v) e
 
 -- What a pass knows after a row of claims, from a first card to a last one: that is in hand, not flagged, and nothing
--- of it is stored; it is to say what it would have been to say had it been the first, cut to 64 bits; and beside what was told
--- before, what was told is of the cards of the row, and no leaf's value. It has won a claim for each of these, and
--- has made a call between two of them. All else is as it was.
+-- of it is stored; it is to say what it would have been to say had it been the first, cut to 64 bits; and beside what
+-- was told before, what was told is of the cards of the row, and no leaf's value. It has won a claim for each of
+-- these, and has made a call between two of them. All else is as it was.
 pub record IsAfterRow (first last node_key : ℕ) (old new : View) : Type 0 where
   pub operation : new.worker.operation ≡ old.worker.operation
   pub search : new.worker.search ≡ old.worker.search
@@ -78,9 +78,9 @@ pub record IsAfterRow (first last node_key : ℕ) (old new : View) : Type 0 wher
   pub says : (e : Told) → Has (told_of_claim last node_key old) e → IsTold new e
   pub only : (e : Told) → IsTold new e → IsTold old e ⊎ IsToldInRow first last node_key old e
 
--- Whatever the table is when a word becomes another one, and whatever a pass knows of which this is shown, where it took
--- a slot last for the card that contracts see: this holds of the word found and of what is shown of what the pass knows
--- of the tree after, and what it knows of periods is as it was.
+-- Whatever the table is when a word becomes another one, and whatever a pass knows of which this is shown, where it
+-- took a slot last for the card that contracts see: this holds of the word found and of what is shown of what the
+-- pass knows of the tree after, and what it knows of periods is as it was.
 abbrev pub MayStepOn : TablePlan → PassModel → ℕ → (ℕ → ℕ) → (ℕ → View → Type 0) → Type 0
 MayStepOn plan p i f told =
     (k : Known) → shown k.tree ≡ p.view → k.period.slot ≡ p.slot → k.period.lost ≡ None

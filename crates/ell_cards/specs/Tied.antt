@@ -45,9 +45,9 @@ pub data IsKept (stage : Stages) (views : List Known) (c : ℕ) (f : Field) : Ty
 
 -- What the memory of a table with places has of its tree: the claim word, and the word from which the tree is flat;
 -- and at each slot, of the card that lies there, what is kept, with tags cut. The card of the root lies in slot 0,
--- and so does each card in its slot that has won its flag and is not dead; for a pass that is in a period, each
--- that was not dead when the period began; and the card in hand whose slot the pass has taken. Whichever card has won
--- its flag has a slot. The card for which a pass took a slot last has one, and was claimed, and what a pass has stored of
+-- and so does each card in its slot that has won its flag and is not dead; for a pass that is in a period, each that
+-- was not dead when the period began; and the card in hand whose slot the pass has taken. Whichever card has won its
+-- flag has a slot. The card for which a pass took a slot last has one, and was claimed, and what a pass has stored of
 -- its card in hand it stored once it had taken that one's slot.
 pub record IsTied (s : Slots) (tree : TableState) (t : WholeState) (stage : Stages) (lie : ℕ → ℕ) (dead : ℕ → Bool)
     (was_dead : ℕ → ℕ → Bool) : Type 0 where
@@ -70,10 +70,10 @@ pub record IsTied (s : Slots) (tree : TableState) (t : WholeState) (stage : Stag
   pub stores : (seat c : ℕ) (f : Field) (k : Known) → get_elem? t.views seat ≡ some k → HoldsWaiting k.tree c
       → HasStored k.tree f → k.period.slot ≡ Some c
 
--- What a call asks beside what it asks of the tree, by the card for which the pass took a slot last, and what it has noted
--- for that: what is stored goes to that slot, and a card is flagged of which all that it says was stored there. A card is
--- laid aside for which the pass has taken no slot; and it lets go a card that has won its flag once it has noted all that
--- the card made dead.
+-- What a call asks beside what it asks of the tree, by the card for which the pass took a slot last, and what it has
+-- noted for that: what is stored goes to that slot, and a card is flagged of which all that it says was stored there.
+-- A card is laid aside for which the pass has taken no slot; and it lets go a card that has won its flag once it has
+-- noted all that the card made dead.
 abbrev pub MayInMemory : Slots → Option ℕ → Retired → View → Call → Type 0
 MayInMemory s slot r v (call.Fill c f value) = slot ≡ Some c
 MayInMemory s slot r v (call.IFlag c p from) = (slot ≡ Some c) × HasStoredAll v put_says

@@ -74,9 +74,10 @@ pub fn table_pairs_change_at_wins()
     ensures operations { TableChangesAreOperations }
 {}
 
-/// Each answer of a pass is the map's answer to its operation, by its ledger, which becomes the map after the operation; no other
-/// step call changes a ledger. And the map is the one in the table: each key of the tree that the table's own words make is some
-/// pass's, and a pass with nothing in hand has each of its keys in its ledger as that tree has it, with its value.
+/// Each answer of a pass is the map's answer to its operation, by its ledger, which becomes the map after the
+/// operation; no other step call changes a ledger. And the map is the one in the table: each key of the tree that the
+/// table's own words make is some pass's, and a pass with nothing in hand has each of its keys in its ledger as that
+/// tree has it, with its value.
 pub fn table_answers_are_the_maps()
     // Answers on a key that the pass owns are those of its ledger, and what an idle pass has present is what the tree
     // has of its keys.
@@ -152,9 +153,9 @@ pub fn runs_from_starts_are_lawful()
     ensures { RunsFromStarts }
 {}
 
-/// In every state that turns lead a table to, what each pass knows of the claim word belongs to the past: a reading of
-/// it is at most what the word is now, and a card whose claim the pass lost is below it. And some pass has won the claim of
-/// each card that was claimed.
+/// In every state that turns lead a table to, what each pass knows of the claim word belongs to the past: a reading
+/// of it is at most what the word is now, and a card whose claim the pass lost is below it. And some pass has won the
+/// claim of each card that was claimed.
 pub fn readings_are_past()
     // What a pass knows of the claim word belongs to the past.
     ensures past { ReadingsArePast }
@@ -163,16 +164,16 @@ pub fn readings_are_past()
 {}
 
 /// In every run from a start, consider the part from where a pass begins a search, for as long as the pass takes no
-/// other operation in hand, no matter which turns of which passes come between. Each flag and mark that its search has
-/// read and has with it, and each that was in its way in any of its tries, is of a card that had not come to its end at
-/// that beginning; if the pass knows that the card has, the card did so meanwhile. A card whose claim was lost was
-/// given out meanwhile, and a clean word that a lost flag or mark found is of a card that ended meanwhile. While the
-/// pass has a card in hand, nothing that was in its way is of that card. Each claim that it lost is of an earlier card,
-/// or, in a flat tree, of a later one where it was lost while that card was in hand. A search begins after each begin
-/// and each again. What a pass knows of milestones was reached: the cards that its claims have shown to be given out
-/// are, and each card that it knows to have come to its end did so in the run. And of its tries at one operation, others
-/// can hinder two for each card that is given out to them meanwhile, and one for each card that was in a hand at the
-/// beginning.
+/// other operation in hand, no matter which turns of which passes come between. Each flag and mark that its search
+/// has read and has with it, and each that was in its way in any of its tries, is of a card that had not come to its
+/// end at that beginning; if the pass knows that the card has, the card did so meanwhile. A card whose claim was lost
+/// was given out meanwhile, and a clean word that a lost flag or mark found is of a card that ended meanwhile. While
+/// the pass has a card in hand, nothing that was in its way is of that card. Each claim that it lost is of an earlier
+/// card, or, in a flat tree, of a later one where it was lost while that card was in hand. A search begins after each
+/// begin and each again. What a pass knows of milestones was reached: the cards that its claims have shown to be
+/// given out are, and each card that it knows to have come to its end did so in the run. And of its tries at one
+/// operation, others can hinder two for each card that is given out to them meanwhile, and one for each card that was
+/// in a hand at the beginning.
 pub fn searches_read_meanwhile()
     // What a search meets in its way is of another card that had not ended when the operation began, or that was given
     // out or ended since then.
@@ -294,8 +295,8 @@ pub fn histories_are_linearizable()
 /// that each pass was answered.
 pub fn stories_are_told()
     // All that was done with a table is one linearizable history, in whose sequence are the calls that a pass was
-    // answered, each as often as it was, and no others if all passes were joined to it. Each delete stands where the key
-    // had the value that it took.
+    // answered, each as often as it was, and no others if all passes were joined to it. Each delete stands where the
+    // key had the value that it took.
     ensures { StoriesAreTold }
 {}
 
@@ -320,10 +321,11 @@ pub fn steps_tell_what_is_there()
     ensures untried { NoUntriedClaimLost }
 {}
 
-/// What a pass was told it has forgotten where it begins an operation or a look, and again where that ends. So from there on,
-/// in every run, each step call of the pass touches only what was not gone then: the word of a node that no card had taken
-/// out of the tree for good, or that of a card that had not come to its end. Nor does it touch what was dead then: the word of
-/// a node that was gone or never comes into the tree, or that of a card whose internal node was, or that was laid aside.
+/// What a pass was told it has forgotten where it begins an operation or a look, and again where that ends. So from
+/// there on, in every run, each step call of the pass touches only what was not gone then: the word of a node that no
+/// card had taken out of the tree for good, or that of a card that had not come to its end. Nor does it touch what
+/// was dead then: the word of a node that was gone or never comes into the tree, or that of a card whose internal
+/// node was, or that was laid aside.
 pub fn calls_touch_nothing_gone()
     // Each step call touches a word of the node or of the card that it is said to touch.
     ensures words { CallsTouchTheirWords }
@@ -337,15 +339,16 @@ pub fn calls_touch_nothing_gone()
     ensures gone { KnownTakenOutIsGone }
     // A pass at rest touches nothing but the root's words and the claim word.
     ensures rest { RestTouchesTheRoot }
-    // Wherever turns have led a table, no internal node that came into its tree has a child that nobody uses, and what was dead
-    // stays so.
+    // Wherever turns have led a table, no internal node that came into its tree has a child that nobody uses, and
+    // what was dead stays so.
     ensures uses { TablesHaveUses }
     ensures stays { TurnsKeepDead }
-    // From where a pass forgets, its step calls touch nothing that was dead then, and no word of a card whose nodes all were.
+    // From where a pass forgets, its step calls touch nothing that was dead then, and no word of a card whose nodes
+    // all were.
     ensures alive { CallsTouchNothingDead }
     ensures cards { CallsTouchNoDeadCard }
-    // A node is dead if a pass knows that its card is over and does not bring it, that nobody uses it, or that a card which is
-    // over has taken it out.
+    // A node is dead if a pass knows that its card is over and does not bring it, that nobody uses it, or that a card
+    // which is over has taken it out.
     ensures never { KnownNeverComes }
     ensures dead { KnownDeadIsDead }
     // Passes know that a node is dead by one card alone.
@@ -354,12 +357,14 @@ pub fn calls_touch_nothing_gone()
     ensures known { DeadIsKnown }
     // Nor do they touch a word of a card that had been laid aside then.
     ensures aside { CallsTouchNoCardAside }
-    // A pass has met each node that it names, but for leaves of cards, and a marked card's leaf is a child of the card's parent.
+    // A pass has met each node that it names, but for leaves of cards, and a marked card's leaf is a child of the
+    // card's parent.
     ensures named { PassesNameMet }
 {}
 
-/// Where a table has places, and wherever the steps of its passes have led it: a pass that is in a period, which it announces at
-/// its place, began that when the clock was the safe number of each pass at least, and the reading that it announces.
+/// Where a table has places, and wherever the steps of its passes have led it: a pass that is in a period, which it
+/// announces at its place, began that when the clock was the safe number of each pass at least, and the reading that
+/// it announces.
 pub fn safe_numbers_are_safe()
     // A pass in a period began it when the clock was each safe number at least.
     ensures began { SafeNumbersAreSafe }
@@ -367,21 +372,23 @@ pub fn safe_numbers_are_safe()
     ensures free { FreeSlotsAreUntouched }
     // What a pass has noted for its card in hand is noted still, unless its slot is free or has another card by now.
     ensures retired { RetiredNodesAreNoted }
-    // The card of each slot that is in use has won its flag, or a pass holds the slot for it; and of each of its nodes that
-    // is dead and not noted, the card that made it so is in hand of a pass, which is to note it.
+    // The card of each slot that is in use has won its flag, or a pass holds the slot for it; and of each of its
+    // nodes that is dead and not noted, the card that made it so is in hand of a pass, which is to note it.
     ensures leaks { NoSlotLeaks }
 {}
 
-/// How a table with places uses slots anew. Its memory, which has words for slots alone, in each of which a card lies, is tied
-/// to a tree that has words for each card number: at a slot it has what the tree has of the card that lies there, cut to 64
-/// bits, as far as that is kept. A step call touches words that are tied so, and keeps memory tied.
+/// How a table with places uses slots anew. Its memory, which has words for slots alone, in each of which a card
+/// lies, is tied to a tree that has words for each card number: at a slot it has what the tree has of the card that
+/// lies there, cut to 64 bits, as far as that is kept. A step call touches words that are tied so, and keeps memory
+/// tied.
 pub fn ties_are_kept()
     // A step call finds in memory what is cut of what it finds in the tree, and memory is tied to the tree after it.
     ensures calls { CallsKeepTies }
     // So it is after a split of a pass, and a join of two.
     ensures splits { SplitsKeepTies }
     ensures joins { JoinsKeepTies }
-    // A step on the words of periods keeps memory tied, and so does one by which a pass takes a slot in which a dead card lies.
+    // A step on the words of periods keeps memory tied, and so does one by which a pass takes a slot in which a dead
+    // card lies.
     ensures periods { PeriodsKeepTies }
     ensures takes { TakesKeepTies }
     // And so it is as a table opens.
@@ -396,17 +403,19 @@ pub fn ties_are_kept()
     ensures children { ChildrenAreApart }
 {}
 
-/// Where words have 64 bits, child words have their tags cut, and a pass that reads them knows what is shown of what it
-/// would know by whole words: the same, with each tag cut. Step calls go by that as they do by the whole: what is shown of
-/// what a pass knows after a call is what it knows after the call that is shown, and a call that it may make by what is
-/// shown is one that it may make by the whole.
+/// Where words have 64 bits, child words have their tags cut, and a pass that reads them knows what is shown of what
+/// it would know by whole words: the same, with each tag cut. Step calls go by that as they do by the whole: what is
+/// shown of what a pass knows after a call is what it knows after the call that is shown, and a call that it may make
+/// by what is shown is one that it may make by the whole.
 pub fn shown_views_step_alike()
     // What is shown of what a pass knows after a call is what it knows after the call that is shown.
     ensures steps { StepsAreShown }
     ensures claims { ClaimsAreShown }
-    // Each call can be shown whose word 64 bits hold, and an exchange of a child word if the link that it expects is near.
+    // Each call can be shown whose word 64 bits hold, and an exchange of a child word if the link that it expects is
+    // near.
     ensures can { CallsCanBeShown }
-    // A call that may be made by what is shown is shown of one that may be made by the whole: the same one, but for tags.
+    // A call that may be made by what is shown is shown of one that may be made by the whole: the same one, but for
+    // tags.
     ensures guards { GuardsAreLifted }
     ensures stores { StoresStayWhole }
     // What a call tells of its word, and all that it leaves of a pass, is so of what is shown too.

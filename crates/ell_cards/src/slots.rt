@@ -267,7 +267,8 @@ impl<A: Allocator + Copy> CardTable<A> {
         requires empty { seat.old.me.1 ≡ [] }
         requires slots { self.now.plan.slots ≡ Some slots }
         requires slot { slot_of card ≤ slots.last }
-        requires rule { MayGoOn self.now.plan seat.old.me.0 (slot_word slots (slot_of card)) (λ n. either (n == word) other n) J.then }
+        requires rule { MayGoOn self.now.plan seat.old.me.0 (slot_word slots (slot_of card))
+            (λ n. either (n == word) other n) J.then }
         ensures told { J.then result seat.new.me.0.period }
         ensures tree { seat.new.me.0.tree ≡ seat.old.me.0.tree }
         ensures seat { (seat.new.table_id ≡ seat.old.table_id) × (seat.new.me.1 ≡ []) }
@@ -276,9 +277,9 @@ impl<A: Allocator + Copy> CardTable<A> {
         self.period_exchange::<J>(seat, self.slot_address(slots, slot_of(card)), word, other)
     }
 
-    // Reads the word of the slot of a card of which the pass is to note nodes: nodes that its card in hand has taken out
-    // of the tree, of whose numbers it knows the low bits, or nodes of that card that never come. Unless the word shows
-    // that none of them is left, the card lies there still.
+    // Reads the word of the slot of a card of which the pass is to note nodes: nodes that its card in hand has taken
+    // out of the tree, of whose numbers it knows the low bits, or nodes of that card that never come. Unless the word
+    // shows that none of them is left, the card lies there still.
     fn read_to_note(
         &self,
         seat: &mut Seat<(), Known>,
@@ -322,7 +323,8 @@ impl<A: Allocator + Copy> CardTable<A> {
         requires may { MayNote seat.old.me.0.tree taken_out card nodes word }
         requires notes { NotesToo nodes word noted }
         requires left { noted % 8 ≢ 7 }
-        ensures period { seat.new.me.0.period ≡ after_noting (result == word) taken_out card nodes result seat.old.me.0.period }
+        ensures period { seat.new.me.0.period ≡
+            after_noting (result == word) taken_out card nodes result seat.old.me.0.period }
         ensures next { MayNoteNext seat.old.me.0.tree taken_out card nodes word result }
         ensures tree { seat.new.me.0.tree ≡ seat.old.me.0.tree }
         ensures seat { (seat.new.table_id ≡ seat.old.table_id) × (seat.new.me.1 ≡ []) }
@@ -348,7 +350,8 @@ impl<A: Allocator + Copy> CardTable<A> {
         requires read { seat.old.me.0.period.read ≡ Some (record { slot = slot_of card; word = word }) }
         requires may { MayNote seat.old.me.0.tree taken_out card nodes word }
         requires last { (i : ℕ) → i < 3 → (is_noted word i ≡ true) ⊎ (has_node nodes i ≡ true) }
-        ensures period { (reading : ℕ) × (seat.new.me.0.period ≡ after_noting (result == word) taken_out card nodes result
+        ensures period { (reading : ℕ) ×
+            (seat.new.me.0.period ≡ after_noting (result == word) taken_out card nodes result
             (after_stamp (card_by (slot_of card) word) reading seat.old.me.0.period)) }
         ensures next { MayNoteNext seat.old.me.0.tree taken_out card nodes word result }
         ensures tree { seat.new.me.0.tree ≡ seat.old.me.0.tree }
@@ -358,9 +361,9 @@ impl<A: Allocator + Copy> CardTable<A> {
         self.exchange_noted::<Brand>(seat, slots, card, nodes, taken_out, word, 8 * reading + 7)
     }
 
-    // Notes such nodes by an exchange of the word that was read, which leaves some of them, for one that notes them too,
-    // or that sets the slot free as all three are. Returns the word that it found: if that is another one, the pass has
-    // read it by that.
+    // Notes such nodes by an exchange of the word that was read, which leaves some of them, for one that notes them
+    // too, or that sets the slot free as all three are. Returns the word that it found: if that is another one, the
+    // pass has read it by that.
     fn note_word(
         &self,
         seat: &mut Seat<(), Known>,
@@ -381,7 +384,8 @@ impl<A: Allocator + Copy> CardTable<A> {
         ensures slot { seat.new.me.0.period.slot ≡ seat.old.me.0.period.slot }
         ensures lost { seat.new.me.0.period.lost ≡ seat.old.me.0.period.lost }
         ensures sought { seat.new.me.0.period.sought ≡
-            retires_if (result == word || is_done taken_out card nodes result) taken_out nodes seat.old.me.0.period.sought }
+            retires_if (result == word || is_done taken_out card nodes result) taken_out nodes
+            seat.old.me.0.period.sought }
         ensures read { result ≢ word →
             seat.new.me.0.period.read ≡ Some (record { slot = slot_of card; word = result }) }
         ensures next { MayNoteNext seat.old.me.0.tree taken_out card nodes word result }
@@ -397,9 +401,9 @@ impl<A: Allocator + Copy> CardTable<A> {
         }
     }
 
-    // Notes such nodes in the word of their card's slot. If another pass changes the word meanwhile, it goes on by the
-    // word that it found: that happens at most twice, as each such word notes more of the three nodes. Returns whether it
-    // set the slot free.
+    // Notes such nodes in the word of their card's slot. If another pass changes the word meanwhile, it goes on by
+    // the word that it found: that happens at most twice, as each such word notes more of the three nodes. Returns
+    // whether it set the slot free.
     fn note_dead(
         &self,
         seat: &mut Seat<(), Known>,
@@ -435,15 +439,16 @@ impl<A: Allocator + Copy> CardTable<A> {
         false
     }
 
-    // Sets the slot free of a card that the pass has laid aside: nobody else knows of the card, so the slot's word notes
-    // no node.
+    // Sets the slot free of a card that the pass has laid aside: nobody else knows of the card, so the slot's word
+    // notes no node.
     fn set_free(&self, seat: &mut Seat<(), Known>, slots: Slots, card: u64)
         requires own { seat.old.table_id ≡ self.now.id }
         requires empty { seat.old.me.1 ≡ [] }
         requires slots { self.now.plan.slots ≡ Some slots }
         requires lost { seat.old.me.0.period.lost ≡ Some card }
         requires taken { seat.old.me.0.period.slot ≡ Some card }
-        ensures period { (reading : ℕ) × (seat.new.me.0.period ≡ after_freeing (after_stamp card reading seat.old.me.0.period)) }
+        ensures period { (reading : ℕ) ×
+            (seat.new.me.0.period ≡ after_freeing (after_stamp card reading seat.old.me.0.period)) }
         ensures tree { seat.new.me.0.tree ≡ seat.old.me.0.tree }
         ensures seat { (seat.new.table_id ≡ seat.old.table_id) × (seat.new.me.1 ≡ []) }
     {
@@ -491,10 +496,10 @@ impl<A: Allocator + Copy> CardTable<A> {
         self.retire_taken_out(pass, card_of(node), CardNodes::only(node))
     }
 
-    /// Notes nodes of one card that the card in hand, which is over, has taken out of the tree, all by one exchange. Of
-    /// them the pass knows the low 43 bits, and so of their card the low 41. Once all three nodes of a card are noted,
-    /// its slot is free. Returns `true` if it became free by this call. It does nothing if the table has no places. Its
-    /// steps are not counted.
+    /// Notes nodes of one card that the card in hand, which is over, has taken out of the tree: all by one exchange,
+    /// or by up to three if other passes change the word meanwhile. Of them the pass knows the low 43 bits, and so of
+    /// their card the low 41. Once all three nodes of a card are noted, its slot is free. Returns `true` if it became
+    /// free by this call. It does nothing if the table has no places. Its steps are not counted.
     pub fn retire_taken_out(&self, pass: &mut Pass<A>, card: u64, nodes: CardNodes) -> bool
         requires own { pass.old.table ≡ self.now.id }
         requires taken { AreTakenOut pass.old.view card nodes }
@@ -516,8 +521,10 @@ impl<A: Allocator + Copy> CardTable<A> {
         self.note_dead(&mut pass.seat, slots, card, nodes, true)
     }
 
-    /// Notes nodes of the card in hand that never come into the tree, as the card is over, all by one exchange. Once all three nodes of a card are noted, its slot is free. Returns `true` if it became free by this call. It
-    /// does nothing if the table has no places. Its steps are not counted.
+    /// Notes nodes of the card in hand that never come into the tree, as the card is over: all by one exchange, or by
+    /// up to three if other passes change the word meanwhile. Once all three nodes of a card are noted, its slot is
+    /// free. Returns `true` if it became free by this call. It does nothing if the table has no places. Its steps are
+    /// not counted.
     pub fn retire_nodes(&self, pass: &mut Pass<A>, card: u64, nodes: CardNodes) -> bool
         requires own { pass.old.table ≡ self.now.id }
         requires hand { pass.old.view.worker.card ≡ Some card }
@@ -575,10 +582,10 @@ impl<A: Allocator + Copy> CardTable<A> {
         self.period_exchange::<Brand>(seat, address, word, 8 * turn_of(card)) == word
     }
 
-    // Counts the number of a card whose slot the pass is to take, and lets the clock go on and looks at all places once in
-    // so many numbers that it went by. It does so for each of the next takings where it went by many at once, as few
-    // slots are free, and for each slot that is for deletes alone: then the slots that these changes set free have different
-    // stamps, of which the next change can take the oldest.
+    // Counts the number of a card whose slot the pass is to take, and lets the clock go on and looks at all places
+    // once in so many numbers that it went by. It does so for each of the next takings where it went by many at once,
+    // as few slots are free, and for each slot that is for deletes alone: then the slots that these changes set free
+    // have different stamps, of which the next change can take the oldest.
     fn look_now_and_then(&self, pass: &mut Pass<A>, slots: Slots, card: u64)
         requires own { pass.old.table ≡ self.now.id }
         ensures { pass.new ≡ record (pass.old) { safe = pass.new.safe } }
@@ -593,7 +600,8 @@ impl<A: Allocator + Copy> CardTable<A> {
         self.safe_number(pass);
     }
 
-    // Lets the clock go on and looks at all places, if the pass has not done so yet: no stamp is below the safe number 0.
+    // Lets the clock go on and looks at all places, if the pass has not done so yet: no stamp is below the safe
+    // number 0.
     fn look_first(&self, pass: &mut Pass<A>)
         requires own { pass.old.table ≡ self.now.id }
         ensures { pass.new ≡ record (pass.old) { safe = pass.new.safe } }
@@ -626,7 +634,8 @@ impl<A: Allocator + Copy> CardTable<A> {
         self.period_load::<J>(seat, self.slot_address(slots, slot_of(card)))
     }
 
-    // Reads the word of the slot of a card by a search, which begins with it or goes on, for a delete or another change.
+    // Reads the word of the slot of a card by a search, which begins with it or goes on, for a delete or another
+    // change.
     #[inline(always)]
     fn seek_slot(
         &self,
@@ -648,9 +657,9 @@ impl<A: Allocator + Copy> CardTable<A> {
         self.load_sought::<Brand>(seat, slots, card, begins, for_delete)
     }
 
-    // Reads the word of the slot of a card by a search, which begins with it or goes on, for a delete or another change.
-    // Returns `true` if the pass could take the slot for that change: it was set free with a stamp below the pass's safe
-    // number, and it is for deletes alone only if the change is one.
+    // Reads the word of the slot of a card by a search, which begins with it or goes on, for a delete or another
+    // change. Returns `true` if the pass could take the slot for that change: it was set free with a stamp below the
+    // pass's safe number, and it is for deletes alone only if the change is one.
     fn is_takeable(
         &self,
         pass: &mut Pass<A>,
@@ -671,8 +680,8 @@ impl<A: Allocator + Copy> CardTable<A> {
         is_free_before(word, pass.standing.safe) && (for_delete || slots.is_for_all(slot_of(card)))
     }
 
-    // Returns the least number of a card, from this card on, whose slot the pass could take for a delete, or for another
-    // change. It reads the word of each slot once at most.
+    // Returns the least number of a card, from this card on, whose slot the pass could take for a delete, or for
+    // another change. It reads the word of each slot once at most.
     fn seek_takeable(
         &self,
         pass: &mut Pass<A>,
@@ -715,9 +724,9 @@ impl<A: Allocator + Copy> CardTable<A> {
         requires room { card ≤ self.now.plan.last_card }
         // What the pass knows of the tree is as it was, and it has made no step that is counted.
         ensures same { pass.new ≡ record (pass.old) { safe = pass.new.safe; sought = pass.new.sought } }
-        // If there is none, then no number of the table from this card on has a slot; or the pass has read the words of
-        // all slots in a row, or of all that are left to numbers of the table, and could have taken none of them for its
-        // change. It has made no step call since it began that row.
+        // If there is none, then no number of the table from this card on has a slot; or the pass has read the words
+        // of all slots in a row, or of all that are left to numbers of the table, and could have taken none of them
+        // for its change. It has made no step call since it began that row.
         ensures none { result ≡ None → FindsNoneIn self.now.plan.slots self.now.plan.last_card card for_delete
             pass.old.view.made pass.new.sought }
         // No slot of a card in hand was missed by that.
@@ -744,8 +753,9 @@ impl<A: Allocator + Copy> CardTable<A> {
         }
     }
 
-    /// Takes the slot of the card in hand, if that was set free with a stamp below the pass's safe number. Returns `true`
-    /// if it did: in a table without places always, and never where the card has no slot. Its steps are not counted.
+    /// Takes the slot of the card in hand, if that was set free with a stamp below the pass's safe number. Returns
+    /// `true` if it did: in a table without places always, and never where the card has no slot. Its steps are not
+    /// counted.
     pub fn take_slot(&self, pass: &mut Pass<A>, card: u64) -> bool
         requires own { pass.old.table ≡ self.now.id }
         requires may { MayFill pass.old.view card }

@@ -312,7 +312,8 @@ impl<A: Allocator + Copy> CardTable<A> {
         requires atomic { atomic_of call ≡ Exchange expected value }
         requires tells { MayTell self.now.plan call pass.old.view J.then }
         requires keeps { KeepsPass self.now.plan pass.old.view J.then }
-        requires notes { (n : ℕ) (p : Period) → J.notes n p ≡ after_flagging self.now.plan.slots (n == expected) card p }
+        requires notes { (n : ℕ) (p : Period) →
+            J.notes n p ≡ after_flagging self.now.plan.slots (n == expected) card p }
         ensures told { J.then result pass.new.view }
         ensures step { StepsBy pass.old pass.new }
     {
