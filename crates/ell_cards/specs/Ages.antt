@@ -31,10 +31,11 @@ pub data IsOut (plan : TablePlan) (tree : TableState) (machine : HasMachine plan
   is_aside : IsAside machine.stages tree.views (card x) → IsOut plan tree machine uses x
   is_beyond : plan.last_card < card x → IsOut plan tree machine uses x
 
--- all three nodes of these cards are out in a state of a table's tree
+-- all three nodes of these cards are out in a state of a table's tree, by the stages of its machine
 pub record AreDead (plan : TablePlan) (tree : TableState) (dead : ℕ → Bool) : Type 0 where
   pub machine : HasMachine plan tree
   pub uses : HasUses (machine_of_table plan tree machine)
+  pub same : uses.outs.stages ≡ machine.stages
   pub each : (c k : ℕ) → k < 3 → dead c ≡ true → IsOut plan tree machine uses (4 * c + k)
 
 -- the pass in a seat made a call by which it forgot what it was told, when these cards were dead or laid aside; turns

@@ -35,8 +35,8 @@ abbrev pub act_wins : Option Act → Option ℕ → Stepped → ℕ → List Exc
 act_wins None hand said d = []
 act_wins (Some a) hand said d = wins_by a hand said d
 
--- the state after a call has a machine again: the one to which the call's event leads, or the same one; the wins of
--- each card grow by what the event wins for it; and what the call tells is so
+-- the state after a call has a machine again: the one to which the call's event leads, or the same one, with all cards
+-- at their stages; the wins of each card grow by what the event wins for it; and what the call tells is so
 pub record IsEvent (plan : TablePlan) (s : TableState) (r : HasMachine plan s) (id : ℕ) (v : View)
     (c : Call) : Type 0 where
   pub kept : HasMachine plan (state_after s id v c)
@@ -45,6 +45,7 @@ pub record IsEvent (plan : TablePlan) (s : TableState) (r : HasMachine plan s) (
       (machine_of_table plan (state_after s id v c) kept)
   pub wins : (d : ℕ) → wins_of (kept.stages d)
       ≡ wins_of (r.stages d) ++ act_wins (act_of c (found_by s c)) v.worker.card (said_of c (found_by s c)) d
+  pub still : act_of c (found_by s c) ≡ None → kept.stages ≡ r.stages
   pub tells : Tells plan c v (found_by s c)
 
 -- each step call is one event of the machine, or leaves it

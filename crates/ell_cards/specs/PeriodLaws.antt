@@ -1,4 +1,5 @@
-use Rattle.std.specs.Prelude.{◌≡◌, ◌≢◌, ℕ, ◌+◌, ◌*◌, ◌%◌, ◌<◌, ◌≤◌, true, Some, slice_index}
+use Rattle.std.specs.Prelude.{◌≡◌, ◌≢◌, ℕ, ◌⊎◌, ◌+◌, ◌*◌, ◌%◌, ◌<◌, ◌≤◌, ◌==◌, true, Some, None, List, length, slice_index, Contains}
+use Rattle.std.specs.List.{IsDistinct, AllByRecursion}
 use mathlib.Core.Option.{some}
 use lib.ListN.{get_elem?}
 use Rattle.ell_cards.specs.declared.view.Known.{Known}
@@ -8,6 +9,7 @@ use Rattle.ell_word.specs.Node.{card}
 use Rattle.ell_layout.specs.declared.field.Field.{Field}
 use Rattle.ell_layout.specs.declared.field.Field.TheVariants as field
 use Rattle.ell_layout.specs.Layout.{address}
+use Rattle.ell_core.specs.tree.Tree.{ListsTreePairs}
 use Rattle.ell_cards.specs.declared.call.Call.{Call}
 use Rattle.ell_cards.specs.Calls.{May, word_of}
 use Rattle.ell_cards.specs.Leaks.{NothingLeaks}
@@ -17,6 +19,7 @@ use Rattle.ell_cards.specs.Periods.{WholeState, clock_word, slot_word}
 use Rattle.ell_cards.specs.SlotWords.{card_by, is_noted, slot_of, stamp_in}
 use Rattle.ell_cards.specs.CardNodes.{has_node}
 use Rattle.ell_cards.specs.Tied.{MayInMemory}
+use Rattle.ell_cards.specs.TurnEffects.{own_words}
 use Rattle.ell_cards.specs.Whole.{IsWhole}
 
 -- a pass in a seat of a table is in a period: it has a place, and announces a reading there
@@ -90,3 +93,20 @@ pub record LeaksNoSlot (plan : TablePlan) (s : Slots) (t : WholeState) (h : IsWh
 abbrev pub NoSlotLeaks : Type 0
 NoSlotLeaks = (plan : TablePlan) (s : Slots) (t : WholeState) → plan.slots ≡ Some s → (h : IsWhole plan t)
     → LeaksNoSlot plan s t h
+
+-- a slot is in use
+abbrev pub IsInUse : Slots → WholeState → ℕ → Type 0
+IsInUse s t slot = (slot ≤ s.last) × (slice_index t.words (slot_word s slot) % 8 ≢ 7)
+
+-- a pass is busy: it has a card in hand, or has lost a flag and not set the slot of that card free yet
+abbrev pub IsBusy : Known → Type 0
+IsBusy k = (k.tree.worker.card ≢ None) ⊎ (k.period.lost ≢ None)
+
+-- Different slots that are in use are at most as many as the start keys, two for each key of the tree and three more, and
+-- three for each pass that is busy.
+abbrev pub SlotsInUseAreFew : Type 0
+SlotsInUseAreFew = (plan : TablePlan) (s : Slots) (t : WholeState) → plan.slots ≡ Some s → plan.flat ≡ true → (h : IsWhole plan t)
+    → (pairs : List (ℕ × ℕ)) → ListsTreePairs (own_words h.tree) pairs
+    → (busy : List ℕ) → ((seat : ℕ) (k : Known) → get_elem? t.views seat ≡ some k → IsBusy k → Contains busy seat)
+    → (slots : List ℕ) → IsDistinct (λ a b. a == b) slots → AllByRecursion (IsInUse s t) slots
+    → length slots ≤ length plan.start + (2 * length pairs + 3) + 3 * length busy

@@ -290,8 +290,8 @@ abbrev pub PlaceHas : Slots → List ℕ → ℕ → Option ℕ → Type 0
 PlaceHas s words q announced = (q < s.places) × (slice_index words (place_word s q) ≡ place_says announced)
 
 -- What a pass knows of periods is so: its places are among those of the table, two if it has another one, and their
--- words say what it knows to be announced there; the clock has been as it was read; and a pass that announces nothing
--- is at rest.
+-- words say what it knows to be announced there; the clock has been as it was read; a pass that announces nothing is at
+-- rest; and one that has lost a flag has no card in hand until it has set the slot free.
 pub record PeriodHolds (s : Slots) (words : List ℕ) (k : Known) : Type 0 where
   pub place : (q : ℕ) → k.period.place ≡ Some q → PlaceHas s words q k.period.announced
   pub other : (q : ℕ) → k.period.other ≡ Some q → PlaceHas s words q k.period.other_says
@@ -299,6 +299,7 @@ pub record PeriodHolds (s : Slots) (words : List ℕ) (k : Known) : Type 0 where
   pub none : k.period.place ≡ None → k.period.announced ≡ None
   pub reading : (n : ℕ) → k.period.reading ≡ Some n → n ≤ slice_index words (clock_word s)
   pub rests : k.period.announced ≡ None → IsAtRest k.tree
+  pub idle : (c : ℕ) → k.period.lost ≡ Some c → k.tree.worker.card ≡ None
 
 -- what the pass in a seat knows of periods: nothing, if there is none
 abbrev pub period_of : Maybe Known → Period

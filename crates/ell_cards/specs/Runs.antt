@@ -24,13 +24,20 @@ GoesBy s (Makes seat c) m m' = Becomes seat (act_of c (found_by s c)) (said_of c
 GoesBy s (Splits seat left) m m' = Split m seat m'
 GoesBy s (Joins seat other) m m' = Join m seat other m'
 
+-- the event that a turn is, if it is one
+abbrev pub act_of_turn : TableState → Turn → Option Act
+act_of_turn s (Makes seat c) = act_of c (found_by s c)
+act_of_turn s _ = None
+
 -- a turn between states that have machines: the machine goes on by it, the wins of each card grow by what it wins for
--- that card, the pairs of the tree go on by it too, and the table's own words after it are a sound state
+-- that card, and all cards are at their stages if it is no event; the pairs of the tree go on by it too, and the table's
+-- own words after it are a sound state
 pub record TurnIsLawful (plan : TablePlan) (s : TableState) (r : HasMachine plan s) (t : Turn)
     (s' : TableState) (r' : HasMachine plan s') : Type 0 where
   pub machine : GoesBy s t (machine_of_table plan s r) (machine_of_table plan s' r')
   pub later : StagesLater r.stages r'.stages
   pub wins : (d : ℕ) → wins_of (r'.stages d) ≡ wins_of (r.stages d) ++ turn_wins s t d
+  pub still : act_of_turn s t ≡ None → r'.stages ≡ r.stages
   pub tree : PairsGoBy s t s'
   pub sound : IsSound (own_machine plan.last_card s')
 

@@ -1,4 +1,4 @@
-use Rattle.std.specs.Prelude.{◌≡◌, ◌≢◌, ℕ, ◌⊎◌, Bool, true}
+use Rattle.std.specs.Prelude.{◌≡◌, ◌≢◌, ℕ, ◌⊎◌, Bool, true, false}
 use Rattle.ell_word.specs.Node.{IsInternal, internal, card}
 use Rattle.ell_core.specs.declared.event.Event.{Event}
 use Rattle.ell_core.specs.declared.event.Stepped.{Stepped}
@@ -29,13 +29,30 @@ NeverComes w stage x = (has_ended (stage (card x)) ≡ true) × ((¬ Born stage 
 abbrev pub IsDead : Words → Stages → ℕ → Type 0
 IsDead w stage x = IsGone w stage x ⊎ NeverComes w stage x
 
+-- a node is a child of an internal node that came into the tree, and that no card has taken out
+pub record IsChildStill (w : Words) (stage : Stages) (x : ℕ) : Type 0 where
+  pub parent : ℕ
+  pub inner : IsInternal parent
+  pub born : Born stage parent
+  pub still : (c : ℕ) → ¬ TakesOut w stage c parent
+  pub right : Bool
+  pub child : w.child parent right ≡ x
+
+-- such is each leaf that a card brought which is not of the opening tree, if it is used, or a card has taken it out
+abbrev pub LeavesAreKept : Words → Stages → Type 0
+LeavesAreKept w stage =
+    (x : ℕ) → is_start (stage (card x)) ≡ false → IsLeaf x → Born stage x → ¬ IsUnused w stage x
+    → IsChildStill w stage x ⊎ ((c : ℕ) × TakesOut w stage c x)
+
 -- no child of an internal node that came into the tree is a leaf that nobody uses, nor is anything that was taken out;
--- and while an insert that has made its child exchange has its flag, the node that it brought stands under the parent
+-- while an insert that has made its child exchange has its flag, the node that it brought stands under the parent; and
+-- leaves are kept that are used
 pub record UsesAreSound (w : Words) (stage : Stages) : Type 0 where
   pub used : (x : ℕ) → IsInternal x → Born stage x → (right : Bool) → ¬ IsUnused w stage (w.child x right)
   pub taken : (c x : ℕ) → TakesOut w stage c x → ¬ IsUnused w stage x
   pub stands : (c : ℕ) → is_changed (stage c) ≡ true → insert_open (stage c) ≡ true
       → w.child (w.p c) (insert_side w c) ≡ brought w c
+  pub kept : LeavesAreKept w stage
 
 -- a state of a run, with what was taken out, and with what is used
 pub record HasUses (m : Machine) : Type 0 where
@@ -88,3 +105,12 @@ ChildrenWereNotDead = (m : Machine) (stage : Stages) → Invariant m stage
     → (now : Machine) (from : ComesFrom m stage now) → UsesAreSound now.words from.stages
     → (x : ℕ) → IsInternal x → Born from.stages x → ¬ IsDead m.words stage x
     → (right : Bool) → ¬ IsDead m.words stage (now.words.child x right)
+
+-- a node is in the tree, or a card has taken it out, or nobody uses it
+abbrev pub IsInOrOut : Words → Stages → ℕ → Type 0
+IsInOrOut w stage x = Reached w x ⊎ (((c : ℕ) × TakesOut w stage c x) ⊎ IsUnused w stage x)
+
+-- so is each node that came into the tree with a card that is not of the opening tree
+abbrev pub WhatCameIsInOrOut : Type 0
+WhatCameIsInOrOut = (m : Machine) (has : HasUses m) (x : ℕ) → is_start (has.outs.stages (card x)) ≡ false → Born has.outs.stages x
+    → IsInOrOut m.words has.outs.stages x

@@ -3,7 +3,7 @@ ghost use Rattle.ell_grace.specs.Gone.{EveryStateHasOuts};
 ghost use Rattle.ell_grace.specs.Operations.{OperationsMeetNothingGone};
 ghost use Rattle.ell_grace.specs.Looks.{LooksMeetNothingGone};
 ghost use Rattle.ell_grace.specs.Since.{StatesComeFromThemselves, EventsLeadOn, ChildrenWereNotGone};
-ghost use Rattle.ell_grace.specs.Dead.{EveryStateHasUses, UsesBegin, EventsKeepUses, DeadStaysDead, DeadCardsHaveEnded, NeverComesStaysOut, TakenOutHadCome, ChildrenWereNotDead};
+ghost use Rattle.ell_grace.specs.Dead.{EveryStateHasUses, UsesBegin, EventsKeepUses, DeadStaysDead, DeadCardsHaveEnded, NeverComesStaysOut, TakenOutHadCome, ChildrenWereNotDead, WhatCameIsInOrOut};
 ghost use Rattle.ell_grace.specs.Tags.{EveryStateHasTags, TagsBegin, TagsLeadOn, TagsRiseByCards, TagsLagLittle};
 ghost use Rattle.ell_grace.specs.Edges.{EdgeNodeIsGone};
 ghost use Rattle.ell_grace.specs.Periods.{GraceStarts, GraceGoesOn, TakenCardsWereGone};
@@ -54,6 +54,9 @@ pub fn dead_nodes_stay_dead()
     ensures once { TakenOutHadCome }
     // A child of an internal node that was not dead in the earlier state was not dead there.
     ensures children { ChildrenWereNotDead }
+    // A node that came into the tree with a card that is not of the opening tree is in the tree, or a card has taken it out,
+    // or nobody uses it.
+    ensures came { WhatCameIsInOrOut }
 {}
 
 /// Why the law leaves out the internal node above which an insert has put its own: that node is in the tree still, and a delete

@@ -120,6 +120,8 @@ pub mod Placing
 pub mod Touching
 -- And it was not dead.
 pub mod Alive
+-- what was taken out and what is used, by the stages of a table's machine
+pub mod Used
 -- how far the tags of child words have come since an earlier state
 pub mod TagsOfRuns
 -- cards that were laid aside

@@ -53,3 +53,5 @@ pub mod TakingSlots
 pub mod Skipping
 -- the row of numbers whose slots a search reads
 pub mod Seeking
+-- how many slots are in use
+pub mod InUse

@@ -4,6 +4,8 @@ pub mod Blocks
 pub mod Courses
 -- A tree has at most one real key more than internal nodes, so that a list with the places of the walk's stack holds its keys.
 pub mod FewKeys
+-- A tree has at most two nodes a key, and three more.
+pub mod FewNodes
 -- An ordered tree with the two greatest keys in their places is lawful.
 pub mod Lawful
 -- The nodes below a node in one list: the node, then those below its left child, then those below its right one.

@@ -17,9 +17,9 @@ use Rattle.ell_core.specs.state.Facts.{card_of_fact}
 use Rattle.ell_core.specs.state.Machine.{Machine, Worker, worker_of}
 use Rattle.ell_core.specs.history.Stages.{Stage, Stages, is_start, is_insert, is_delete, is_born, is_node_born, is_changed, insert_over, allows}
 use Rattle.ell_core.specs.history.Invariant.{insert_key, Flagged, Invariant}
-use Rattle.ell_core.specs.history.Later.{WordsLater, wins_of}
+use Rattle.ell_core.specs.history.Later.{wins_of}
 use Rattle.ell_core.specs.statements.Since.{has_ended}
-use Rattle.ell_core.proofs.lemmas.stages.Order.{born_is_node, over-delete, backed-delete, insert_over-changed, changed-insert, one_kind, delete_won-delete}
+use Rattle.ell_core.proofs.lemmas.stages.Order.{born-claimed, born_is_node, over-delete, backed-delete, insert_over-changed, changed-insert, one_kind, delete_won-delete}
 use Rattle.ell_core.proofs.lemmas.stages.Sums.{sum_by}
 use Rattle.ell_core.proofs.lemmas.stages.Ended.{insert_over-ended, delete_over-ended, backed-ended}
 use Rattle.ell_grace.specs.Gone.{TakesOut, HasOuts}
@@ -40,14 +40,13 @@ use Rattle.ell_cards.specs.Laws.{machine_of_table}
 use Rattle.ell_cards.specs.Calls.{May, word_of}
 use Rattle.ell_cards.specs.Turns.{Turn, CallIsMade, TableRun}
 use Rattle.ell_cards.specs.RunLaws.{StartIsKept}
-use Rattle.ell_cards.specs.Runs.{GoesBy}
 use Rattle.ell_cards.specs.Starts.{IsReached}
 use Rattle.ell_cards.specs.Touching.{forgets, Touched, AtNode, OfCard, AtRoot, touched_by, IsWordOf, KnowsTakenOut}
 use Rattle.ell_cards.specs.Dead.{WasAlive, TablesHaveUses, TurnsKeepDead, CallsTouchNothingDead, IsDeadCard, CallsTouchNoDeadCard, KnowsDead, OneCardTells, KnowsReplaced, KnowsUnused, KnowsNeverComes, KnownNeverComes, KnownDeadIsDead}
 use Rattle.ell_cards.proofs.lemmas.seats.Seats.{mine_is}
 use Rattle.ell_cards.proofs.lemmas.stepping.Exchanges.{told_is}
 use Rattle.ell_cards.proofs.lemmas.runs.Starting.{starts_are_kept}
-use Rattle.ell_cards.proofs.lemmas.runs.Touching.{calls_touch_their_words, NodesWere, Touches, touches_on, leads_on, run_comes, handed_over, none_out, known_takes_out, known_taken_out_is_gone, nothing_out}
+use Rattle.ell_cards.proofs.lemmas.runs.Touching.{calls_touch_their_words, NodesWere, Touches, touches_on, run_comes, handed_over, none_out, known_takes_out, known_taken_out_is_gone, nothing_out}
 
 -- what is used is sound, and what was not dead
 abbrev pub used : (m : Machine) (stage : Stages) (now : Machine) → ComesFrom m stage now → Type 0
@@ -165,6 +164,7 @@ start_uses plan s start =
         used = λ x inner born right unused. none_changed (r.stages (card (r.words.child x right))) (start.unwon (card (r.words.child x right))) unused.0;
         taken = λ c x takes unused. none c x takes;
         stands = λ c changed still. absurd (none_changed (r.stages c) (start.unwon c) changed);
+        kept = λ x unstarted outer born used. absurd (false≢true (sym unstarted ∙ start.started (card x) (born-claimed (r.stages (card x)) (x % 4) born)));
       };
     }
 
@@ -189,21 +189,6 @@ turns_keep_dead plan s r has turns s' run =
       ran.0,
       record { outs = record { stages = ran.1.stages; invariant = ran.1.invariant; outs = ran.1.outs }; uses = ran.2 },
       λ x dead. dead_stays_dead m stage first (machine_of_table plan s' ran.0) ran.1 x dead,
-    )
-
--- so does one turn, to a machine to which it goes on, whose words are later ones
-pub turn_keeps_dead : (plan : TablePlan) (s : TableState) (r : HasMachine plan s) (has : HasUses (machine_of_table plan s r)) (t : Turn) (s' : TableState) (k : HasMachine plan s')
-    → GoesBy s t (machine_of_table plan s r) (machine_of_table plan s' k)
-    → (has' : HasUses (machine_of_table plan s' k)) × ((x : ℕ) → IsDead r.words has.outs.stages x → IsDead k.words has'.outs.stages x) × WordsLater r.words k.words
-turn_keeps_dead plan s r has t s' k goes =
-    let m = machine_of_table plan s r in
-    let stage = has.outs.stages in
-    let first = has.outs.invariant in
-    let begins = uses_begin m has in
-    let to = leads_on plan m stage first (used m stage) (was m stage) (not_dead m stage first) s r t s' k goes begins.0 begins.1 in (
-      record { outs = record { stages = to.0.stages; invariant = to.0.invariant; outs = to.0.outs }; uses = to.2 },
-      λ x dead. dead_stays_dead m stage first (machine_of_table plan s' k) to.0 x dead,
-      to.0.words,
     )
 
 -- the node that a card brings which replaces a leaf is its right leaf

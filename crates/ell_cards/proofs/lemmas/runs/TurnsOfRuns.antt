@@ -89,6 +89,7 @@ module _ (plan : TablePlan) where
           machine = step.event;
           later = step.later;
           wins = λ d. step.wins d ∙ ap (λ ks. wins_of (r.stages d) ++ ks) (won_alike plan c (found_by s c) h.view h.may d);
+          still = step.still;
           tree = table_pairs_change_at_wins plan s r seat h.view c h.there h.may;
           sound = own_words_are_sound plan (state_after s seat h.view c) step.kept;
         },
@@ -101,6 +102,7 @@ module _ (plan : TablePlan) where
           machine = step.split;
           later = step.later;
           wins = none_won r.stages step.kept.stages step.stages;
+          still = λ none. step.stages;
           tree = λ k value. (λ x. x, λ x. x);
           sound = own_words_are_sound plan (state_split s seat h.view left) step.kept;
         },
@@ -113,6 +115,7 @@ module _ (plan : TablePlan) where
           machine = step.join;
           later = step.later;
           wins = none_won r.stages step.kept.stages step.stages;
+          still = λ none. step.stages;
           tree = λ k value. (λ x. x, λ x. x);
           sound = own_words_are_sound plan (state_joined s seat other h.view h.view') step.kept;
         },

@@ -36,7 +36,7 @@ use Rattle.ell_cards.specs.Models.{IsTold, Knows, KnewBefore, stored_at}
 use Rattle.ell_cards.specs.States.{TableState, seat_worker, seated}
 use Rattle.ell_cards.specs.Machines.{EntryHolds, over_before, ViewHolds, HasMachine}
 use Rattle.ell_cards.specs.Calls.{word_of, atomic_of, left_by, act_of, said_of, Becomes, Tells}
-use Rattle.ell_cards.specs.Turns.{found_by, view_after, state_after}
+use Rattle.ell_cards.specs.Turns.{found_by, view_after}
 use Rattle.ell_core.specs.history.Later.{wins_of}
 use Rattle.ell_cards.specs.Laws.{act_wins, IsEvent}
 use Rattle.ell_core.proofs.lemmas.stages.Waiting.{waits-kind, waits-wins, kind-waits}
@@ -44,6 +44,7 @@ use Rattle.ell_core.proofs.lemmas.following.waiting.Cards.{hand_waits}
 use Rattle.ell_cards.proofs.lemmas.words.Fields.{listed_else, listed_next, listed_flat}
 use Rattle.ell_cards.proofs.lemmas.seats.Seats.{IsKept, Leads, Moves, leads, kept_event, entries_on, walk_on, machine, mine, becomes, mine_sound, set_there}
 use Rattle.ell_core.proofs.lemmas.stages.Ended.{over-cut}
+use Rattle.ell_core.proofs.lemmas.outcomes.Decide.{some_not_none}
 
 -- what is so of a view beside its entries after an event, whatever the words: its key is told, a card that it has in hand
 -- unflagged it had so before, with the same to say and stored, and it owns no key more, and knows the same keys that may have an owner
@@ -166,49 +167,56 @@ module _ (plan : TablePlan) (s : TableState) (r : HasMachine plan s) (id : ℕ) 
         | inr n ↦ ap seat_worker (sym (set_else s.views id j after n))
       ]
 
+  -- a state that a call leads to which is no event has the machine that was, with all cards at their stages
+  pub record IsNoted (list : List ℕ) (after : View) : Type 0 where
+    pub kept : IsKept plan (record { words = list; homes = s.homes; views = set s.views id after }) r.words r.stages (λ c. [])
+    pub still : kept.kept.stages ≡ r.stages
+
   -- the machine where a pass alone learns something, and the list changes at a card that waits or not at all
   pub kept_note : (after : View) (list : List ℕ) → after.worker ≡ v.worker → length list ≡ length s.words
       → get_or list 0 0 ≡ get_or s.words 0 0 → get_or list 1 0 ≡ get_or s.words 1 0
       → ((c : ℕ) (f : Field) → waits (r.stages c) ≡ false → listed list c f ≡ listed s.words c f)
       → ViewHolds list r.words r.stages after
       → ((j : ℕ) (u : View) → j ≢ id → get_elem? s.views j ≡ some u → ViewHolds list r.words r.stages u)
-      → IsKept plan (record { words = list; homes = s.homes; views = set s.views id after }) r.words r.stages (λ c. [])
-  kept_note after list same size next flat calm own others = record {
-    kept = record {
-      words = r.words;
-      stages = r.stages;
-      invariant = subst (λ (m : Machine). Invariant m r.stages) (same_machine after same) r.invariant;
-      limit = r.limit;
-      size = size ∙ r.size;
-      next = next ∙ r.next;
-      flat = flat ∙ r.flat;
-      shape = r.shape;
-      settled = λ c f still. calm c f still ∙ r.settled c f still;
-      views = λ j u e. ⊎_elim
-          (λ (t : (j ≡ id) × (after ≡ u)). subst (ViewHolds list r.words r.stages) t.1 own)
-          (λ (t : (j ≢ id) × (get_elem? s.views j ≡ some u)). others j u t.0 t.1)
-          (at_set s.views id j after u e);
-      owned = λ j k u e has. ⊎_elim
-          (λ (t : (j ≡ id) × (after ≡ u)). r.owned id k v here
-          (subst (λ z. WorkerOwns (worker_of z) k) same (subst (λ (z : View). WorkerOwns (worker_of z.worker) k) (sym t.1) has)))
-          (λ (t : (j ≢ id) × (get_elem? s.views j ≡ some u)). r.owned j k u t.1 has)
-          (at_set s.views id j after u e);
-      listed = λ j u l e is. ⊎_elim
-          (λ (t : (j ≡ id) × (after ≡ u)). r.listed id v l here (ap (λ z. z.shared) (sym same) ∙ (ap (λ (z : View). z.worker.shared) t.1 ∙ is)))
-          (λ (t : (j ≢ id) × (get_elem? s.views j ≡ some u)). r.listed j u l t.1 is)
-          (at_set s.views id j after u e);
-    };
-    words = refl;
-    later = stages_same r.stages;
-    wins = λ c. sym (append-nil (wins_of (r.stages c)));
-  }
+      → IsNoted list after
+  kept_note after list same size next flat calm own others = record { kept = noted; still = refl }
+    where
+      noted : IsKept plan (record { words = list; homes = s.homes; views = set s.views id after }) r.words r.stages (λ c. [])
+      noted = record {
+        kept = record {
+          words = r.words;
+          stages = r.stages;
+          invariant = subst (λ (m : Machine). Invariant m r.stages) (same_machine after same) r.invariant;
+          limit = r.limit;
+          size = size ∙ r.size;
+          next = next ∙ r.next;
+          flat = flat ∙ r.flat;
+          shape = r.shape;
+          settled = λ c f still. calm c f still ∙ r.settled c f still;
+          views = λ j u e. ⊎_elim
+              (λ (t : (j ≡ id) × (after ≡ u)). subst (ViewHolds list r.words r.stages) t.1 own)
+              (λ (t : (j ≢ id) × (get_elem? s.views j ≡ some u)). others j u t.0 t.1)
+              (at_set s.views id j after u e);
+          owned = λ j k u e has. ⊎_elim
+              (λ (t : (j ≡ id) × (after ≡ u)). r.owned id k v here
+              (subst (λ z. WorkerOwns (worker_of z) k) same (subst (λ (z : View). WorkerOwns (worker_of z.worker) k) (sym t.1) has)))
+              (λ (t : (j ≢ id) × (get_elem? s.views j ≡ some u)). r.owned j k u t.1 has)
+              (at_set s.views id j after u e);
+          listed = λ j u l e is. ⊎_elim
+              (λ (t : (j ≡ id) × (after ≡ u)). r.listed id v l here (ap (λ z. z.shared) (sym same) ∙ (ap (λ (z : View). z.worker.shared) t.1 ∙ is)))
+              (λ (t : (j ≢ id) × (get_elem? s.views j ≡ some u)). r.listed j u l t.1 is)
+              (at_set s.views id j after u e);
+        };
+        words = refl;
+        later = stages_same r.stages;
+        wins = λ c. sym (append-nil (wins_of (r.stages c)));
+      }
 
   -- the same where the list does not change
   pub kept_told : (after : View) → after.worker ≡ v.worker → ViewHolds s.words r.words r.stages after
-      → (i : ℕ) → IsKept plan (record { words = set s.words i (get_or s.words i 0); homes = s.homes; views = set s.views id after }) r.words r.stages (λ c. [])
+      → (i : ℕ) → IsNoted (set s.words i (get_or s.words i 0)) after
   kept_told after same own i =
-      subst (λ ws. IsKept plan (record { words = ws; homes = s.homes; views = set s.views id after }) r.words r.stages (λ c. []))
-      (sym (set-get_or s.words i 0))
+      subst (λ ws. IsNoted ws after) (sym (set-get_or s.words i 0))
       (kept_note after s.words same refl refl refl (λ c f still. refl) own (λ j u n e. r.views j u e))
 
   -- a step call that is an event
@@ -223,19 +231,21 @@ module _ (plan : TablePlan) (s : TableState) (r : HasMachine plan s) (id : ℕ) 
         (subst (λ b. Becomes id (act_of c (found_by s c)) b (machine plan s r id v here) (seated new (set s.views id (view_after s v c)) plan.last_card)) (sym says)
         (subst (λ o. Becomes id o said (machine plan s r id v here) (seated new (set s.views id (view_after s v c)) plan.last_card)) (sym acts) at.steps));
     wins = λ d. at.kept.wins d ∙ λ t. wins_of (r.stages d) ++ act_wins (sym acts t) v.worker.card (sym says t) d;
+    still = λ none. absurd (some_not_none acts none);
     tells = tells;
   }
 
   -- a step call that leaves the machine
   pub is_no_event : (c : Call)
-      → IsKept plan (state_after s id v c) r.words r.stages (λ d. []) → (view_after s v c).worker ≡ v.worker
+      → IsNoted (set s.words (word_of c) (left_by (atomic_of c) (found_by s c))) (view_after s v c) → (view_after s v c).worker ≡ v.worker
       → act_of c (found_by s c) ≡ None → Tells plan c v (found_by s c) → IsEvent plan s r id v c
   is_no_event c at same none tells = record {
-    kept = at.kept;
-    later = at.later;
+    kept = at.kept.kept;
+    later = at.kept.later;
     event = subst (λ o. Becomes id o (said_of c (found_by s c)) (machine plan s r id v here)
-        (seated at.kept.words (set s.views id (view_after s v c)) plan.last_card)) (sym none)
-        (sym (same_machine (view_after s v c) same ∙ ap (λ w. seated w (set s.views id (view_after s v c)) plan.last_card) (sym at.words)));
-    wins = λ d. at.wins d ∙ λ t. wins_of (r.stages d) ++ act_wins (sym none t) v.worker.card (said_of c (found_by s c)) d;
+        (seated at.kept.kept.words (set s.views id (view_after s v c)) plan.last_card)) (sym none)
+        (sym (same_machine (view_after s v c) same ∙ ap (λ w. seated w (set s.views id (view_after s v c)) plan.last_card) (sym at.kept.words)));
+    still = λ nothing. at.still;
+    wins = λ d. at.kept.wins d ∙ λ t. wins_of (r.stages d) ++ act_wins (sym none t) v.worker.card (said_of c (found_by s c)) d;
     tells = tells;
   }

@@ -34,6 +34,7 @@ use Rattle.ell_core.specs.history.Stages.{Stages, is_claimed, waits}
 use Rattle.ell_core.proofs.lemmas.stages.Waiting.{kind-waits, unclaimed-no_start, unclaimed-wins, unclaimed-settled, waits-claimed}
 use Rattle.ell_core.proofs.lemmas.following.waiting.Cards.{claimed_cards_say}
 use Rattle.ell_core.proofs.lemmas.following.facts.Claimed.{not_claimed}
+use Rattle.ell_core.proofs.lemmas.outcomes.Decide.{some_not_none}
 use Rattle.ell_layout.proofs.lemmas.Stored.{claimed_stored}
 use Rattle.ell_layout.proofs.lemmas.Writes.{put_same}
 use Rattle.ell_core.proofs.lemmas.keeping.claim.Filling.{claimed_claims, others_say}
@@ -368,6 +369,7 @@ module _ (plan : TablePlan) (s : TableState) (r : HasMachine plan s) (id : ℕ) 
     event : Becomes id (if b then Some act.Claim else None) Moved (machine plan s r id v here)
         (seated kept.words (set s.views id (after_claim b c node_key v)) plan.last_card)
     wins : (d : ℕ) → wins_of (kept.stages d) ≡ wins_of (r.stages d) ++ act_wins (if b then Some act.Claim else None) v.worker.card Moved d
+    still : (if b then Some act.Claim else None) ≡ None → kept.stages ≡ r.stages
 
   claim_at : (c node_key : ℕ) → MayClaim (flat_from plan) v c node_key → c ≤ plan.last_card → (b : Bool) → (get_or s.words 0 0 == c) ≡ b → ClaimAt c node_key b
   claim_at c node_key may room true e =
@@ -377,18 +379,20 @@ module _ (plan : TablePlan) (s : TableState) (r : HasMachine plan s) (id : ℕ) 
         event = subst (λ w. Becomes id (Some act.Claim) Moved (machine plan s r id v here) (seated w (set s.views id (after_claim true c node_key v)) plan.last_card))
             (sym reached.kept.words) reached.steps;
         wins = reached.kept.wins;
+        still = λ none. absurd (some_not_none refl none);
       }
   claim_at c node_key may room false e =
       let h = r.views id v here in
       let kept = kept_told plan s r id v here (after_claim false c node_key v) refl (record { entries = h.entries; here = h.here; hand = h.hand; read = h.read; least = (let low = h.read c may.read in let is = r.next in let other : get_or s.words 0 0 ≢ c = (λ q. true≢false (sym (eq-eqb (get_or s.words 0 0) c q) ∙ e)) in omega arith); knew = h.knew; walk = h.walk }) 0 in record {
-        kept = kept.kept;
-        later = kept.later;
+        kept = kept.kept.kept;
+        later = kept.kept.later;
         event = sym (same_machine plan s r id v here (after_claim false c node_key v) refl
-            ∙ ap (λ w. seated w (set s.views id (after_claim false c node_key v)) plan.last_card) (sym kept.words));
-        wins = kept.wins;
+            ∙ ap (λ w. seated w (set s.views id (after_claim false c node_key v)) plan.last_card) (sym kept.kept.words));
+        wins = kept.kept.wins;
+        still = λ none. kept.still;
       }
 
   -- claim
   pub keeps_claim : (c node_key : ℕ) → MayClaim (flat_from plan) v c node_key → c ≤ plan.last_card → IsEvent plan s r id v (call.Claim c node_key)
   keeps_claim c node_key may room =
-      let h = claim_at c node_key may room (get_or s.words 0 0 == c) refl in record { kept = h.kept; later = h.later; event = h.event; wins = h.wins; tells = tt }
+      let h = claim_at c node_key may room (get_or s.words 0 0 == c) refl in record { kept = h.kept; later = h.later; event = h.event; wins = h.wins; still = h.still; tells = tt }

@@ -26,7 +26,7 @@ use Rattle.ell_cards.specs.Stepping.{IsQuiet}
 use Rattle.ell_cards.specs.Touching.{forgets}
 use Rattle.ell_cards.specs.TurnEffects.{turn_wins}
 use Rattle.ell_cards.specs.Turns.{Turn, Makes, TableTurns, found_by, view_after, state_after}
-use Rattle.ell_cards.proofs.lemmas.runs.Alive.{turn_keeps_dead}
+use Rattle.ell_cards.proofs.lemmas.runs.Used.{turn_keeps_uses}
 use Rattle.ell_cards.proofs.lemmas.runs.Aside.{aside_on}
 use Rattle.ell_cards.proofs.lemmas.runs.TurnsOfRuns.{one_more_turn, turn_lawful}
 use Rattle.ell_cards.proofs.lemmas.whole.Rests.{stays_at_rest}
@@ -42,22 +42,24 @@ module _ (plan : TablePlan) where
   pub record Onward (s : TableState) (machine : HasMachine plan s) (uses : HasUses (machine_of_table plan s machine)) (t : Turn) (s' : TableState) : Type 0 where
     pub next : HasMachine plan s'
     pub used : HasUses (machine_of_table plan s' next)
+    pub same : used.outs.stages ≡ next.stages
     pub stays : (x : ℕ) → IsDead machine.words uses.outs.stages x → IsDead next.words used.outs.stages x
     pub words : WordsLater machine.words next.words
     pub aside : (c : ℕ) → IsAside machine.stages s.views c → IsAside next.stages s'.views c
     pub later : StagesLater machine.stages next.stages
     pub wins : (d : ℕ) → wins_of (next.stages d) ≡ wins_of (machine.stages d) ++ turn_wins s t d
 
-  pub onward : (s : TableState) (machine : HasMachine plan s) (uses : HasUses (machine_of_table plan s machine)) (t : Turn) (s' : TableState) → TableTurns plan s t s'
-      → Onward s machine uses t s'
-  onward s machine uses t s' turn =
+  pub onward : (s : TableState) (machine : HasMachine plan s) (uses : HasUses (machine_of_table plan s machine)) → uses.outs.stages ≡ machine.stages → (t : Turn) (s' : TableState)
+      → TableTurns plan s t s' → Onward s machine uses t s'
+  onward s machine uses same t s' turn =
       let lawful = turn_lawful plan s machine t s' turn in
-      let on = turn_keeps_dead plan s machine uses t s' lawful.0 lawful.1.machine in
+      let on = turn_keeps_uses plan s machine t s' turn lawful.0 lawful.1 uses same in
       record {
         next = lawful.0;
-        used = on.0;
-        stays = on.1;
-        words = on.2;
+        used = record { outs = record { stages = lawful.0.stages; invariant = lawful.0.invariant; outs = on.outs }; uses = on.uses };
+        same = refl;
+        stays = on.stays;
+        words = on.words;
         aside = λ c h. aside_on plan s machine c h t s' turn lawful.0 lawful.1.later (lawful.1.wins c);
         later = lawful.1.later;
         wins = lawful.1.wins;
@@ -72,7 +74,7 @@ module _ (plan : TablePlan) where
 
   -- so are the cards that were
   abbrev pub dead_on : (s : TableState) (dead : ℕ → Bool) (h : AreDead plan s dead) (t : Turn) (s' : TableState) → Onward s h.machine h.uses t s' → AreDead plan s' dead
-  dead_on s dead h t s' on = record { machine = on.next; uses = on.used; each = λ c k low is. out_on s h.machine h.uses t s' on (4 * c + k) (h.each c k low is) }
+  dead_on s dead h t s' on = record { machine = on.next; uses = on.used; same = on.same; each = λ c k low is. out_on s h.machine h.uses t s' on (4 * c + k) (h.each c k low is) }
 
   -- and a pass that forgot when something was dead did so before the turn
   pub forgot_on : (s : TableState) (seat : ℕ) (dead : ℕ → Bool) → ForgotWhen plan s seat dead → (t : Turn) (s' : TableState) → TableTurns plan s t s'
@@ -102,7 +104,7 @@ module _ (plan : TablePlan) where
   forgot_now s reached seat v here dead was now still c may anew = record {
     from = s;
     reached = reached;
-    were = record { machine = now.machine; uses = now.uses; each = λ d k low is. now.each d k low (still d is) };
+    were = record { machine = now.machine; uses = now.uses; same = now.same; each = λ d k low is. now.each d k low (still d is) };
     call = c;
     begun = state_after s seat v c;
     made = record { view = v; there = here; may = may; gives = refl };
@@ -200,7 +202,7 @@ module _ (plan : TablePlan) where
     }
       where
         on : Onward tree h.now.machine h.now.uses (Makes id c) after
-        on = onward tree h.now.machine h.now.uses (Makes id c) after turn
+        on = onward tree h.now.machine h.now.uses h.now.same (Makes id c) after turn
 
         by : (b : Bool) → forgets c ≡ b → (q a : ℕ) → k.period.place ≡ Some q → k.period.announced ≡ Some a → IsAtRest knows.tree ⊎ ForgotWhen plan after id (was_dead q)
         by true anew q a placed an = inr (forgot_now tree reached id k.tree there dead (was_dead q) h.now (h.still q) c may anew)
@@ -231,7 +233,7 @@ module _ (plan : TablePlan) where
         → ((c : ℕ) → now.period.lost ≡ Some c → IsAside h.now.machine.stages tree.views c)
         → AgesAreSound plan s tree (record { words = words; homes = t.homes; views = set t.views id now }) lie' dead' was_dead'
     ages_of_period each still mine others noted keeps read lost = record {
-      now = record { machine = h.now.machine; uses = h.now.uses; each = each };
+      now = record { machine = h.now.machine; uses = h.now.uses; same = h.now.same; each = each };
       still = still;
       since = λ seat q a u at placed an. ⊎_elim
           (λ (e : (seat ≡ id) × (now ≡ u)). own seat q a u e.0 e.1 placed an)

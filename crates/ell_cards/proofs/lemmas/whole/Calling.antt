@@ -60,7 +60,7 @@ use Rattle.ell_cards.proofs.lemmas.ties.Touched.{spots, touched_won, claim_is_wo
 use Rattle.ell_cards.proofs.lemmas.whole.Ages.{AgesOn}
 use Rattle.ell_cards.proofs.lemmas.whole.Going.{set_twice}
 use Rattle.ell_cards.proofs.lemmas.whole.Fields.{FillsWhole, fields_after, field_can}
-use Rattle.ell_cards.proofs.lemmas.whole.LeaksOfCalls.{leaks_after_call}
+use Rattle.ell_cards.proofs.lemmas.whole.LeaksOfCalls.{flag_lost, leaks_after_call}
 use Rattle.ell_cards.proofs.lemmas.whole.Losing.{aside_in_ages, lost_now}
 use Rattle.ell_cards.proofs.lemmas.ties.Apart.{tells_apart, tells_apart_plain}
 use Rattle.ell_cards.proofs.lemmas.whole.Apart.{passes_tell_apart, ready_there}
@@ -290,7 +290,7 @@ module _ (plan : TablePlan) (s : WholeState) (h : IsWhole plan s) (id : ℕ) (k 
         dead = has.dead;
         began = has.began;
         was_dead = has.was_dead;
-        periods = tree_periods s id k here (view_after h.tree k.tree c) sl (place_of c) cut homes has.lie has.dead has.began has.was_dead tied_touch.inside rests has.periods;
+        periods = tree_periods s id k here (view_after h.tree k.tree c) sl (place_of c) cut homes has.lie has.dead has.began has.was_dead tied_touch.inside rests (λ d is. absurd (some_not_none is unlost)) has.periods;
         ages = tied_ages.ages;
         tied = still_tied;
         retired = retired_on plan sl h.tree has.ages.now.machine has.ages.now.uses after tied_ages.ages.now.machine tied_ages.ages.now.uses tied_ages.words tied_ages.out
@@ -319,7 +319,8 @@ module _ (plan : TablePlan) (s : WholeState) (h : IsWhole plan s) (id : ℕ) (k 
       lost_periods_too : (d : ℕ) → FlagsCard c d → is_won (atomic_of c) (found_by h.tree c) ≡ false → Periods (set (set s.views id knows) id (noting (record k.period { lost = Some d })))
       lost_periods_too d flags unwon = (
         lost_now plan sl after (memory_after h.tree s homes id k c) id knows (set_there s.views id knows k here) tied_periods (Some d)
-            (λ e is. subst (IsAside tied_ages.ages.now.machine.stages after.views) (same_Some d e is) (aside_in_ages plan sl h.tree s has.lie has.dead has.was_dead has.ages id k.tree tree_here c may (memory_after h.tree s homes id k c) tied_ages d flags unwon)),
+            (λ e is. subst (IsAside tied_ages.ages.now.machine.stages after.views) (same_Some d e is) (aside_in_ages plan sl h.tree s has.lie has.dead has.was_dead has.ages id k.tree tree_here c may (memory_after h.tree s homes id k c) tied_ages d flags unwon))
+            (λ e is. flag_lost c (found_by h.tree c) k.tree d flags unwon),
         subst (λ l. NothingLeaks sl (record { words = set s.words (place_of c) cut; homes = homes; views = l }) after.views tied_ages.ages.now.machine.words tied_ages.ages.now.machine.stages has.lie)
             (sym (set_twice s.views id knows (noting (record k.period { lost = Some d })))) (noted_leaks (record k.period { lost = Some d }) (loses d refl flags unwon)),
       )

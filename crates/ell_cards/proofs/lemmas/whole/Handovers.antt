@@ -66,6 +66,7 @@ module _ (sl : Slots) (t : WholeState) (id : ℕ) (k : Known) (here : get_elem? 
     none = holds.none;
     reading = holds.reading;
     rests = λ is. left_rests;
+    idle = λ c is. left_rests.empty;
   }
 
   right_holds : PeriodHolds sl t.words right_known
@@ -76,6 +77,7 @@ module _ (sl : Slots) (t : WholeState) (id : ℕ) (k : Known) (here : get_elem? 
     none = λ is. refl;
     reading = λ n is. absurd (some_not_none is refl);
     rests = λ is. right_rests;
+    idle = λ c is. right_rests.empty;
   }
 
   -- whose a pass's place was before the split: the left part has the pass's own, the right part its other one
@@ -192,7 +194,7 @@ module _ (plan : TablePlan) (s : Slots) (tree tree' : TableState) (t : WholeStat
   }
     where
       on : Onward plan tree h.now.machine h.now.uses (SplitsInto id keys) tree'
-      on = onward plan tree h.now.machine h.now.uses (SplitsInto id keys) tree' turn
+      on = onward plan tree h.now.machine h.now.uses h.now.same (SplitsInto id keys) tree' turn
 
 -- whoever has seen nothing of the others' periods, and is about to free no card, knows nothing wrong of them
 reset : (places : ℕ) (w : Grace) (i : ℕ) → GraceIsSound places w
@@ -237,6 +239,7 @@ module _ (sl : Slots) (t : WholeState) (id other : ℕ) (k l : Known) (here : ge
         none = mine.none;
         reading = mine.reading;
         rests = λ is. is_at_rest (joined_view k.tree l.tree) refl refl refl refl refl;
+        idle = λ c is. refl;
       }
 
   spent_holds : PeriodHolds sl t.words spent_known
@@ -247,6 +250,7 @@ module _ (sl : Slots) (t : WholeState) (id other : ℕ) (k l : Known) (here : ge
     none = λ is. refl;
     reading = λ n is. absurd (some_not_none is refl);
     rests = λ is. is_at_rest spent_view refl refl refl refl refl;
+    idle = λ c is. refl;
   }
 
   pub data Before (j : ℕ) (u : Known) : Type 0 where
@@ -370,4 +374,4 @@ module _ (plan : TablePlan) (s : Slots) (tree tree' : TableState) (t : WholeStat
   }
     where
       on : Onward plan tree h.now.machine h.now.uses (JoinsWith id other) tree'
-      on = onward plan tree h.now.machine h.now.uses (JoinsWith id other) tree' turn
+      on = onward plan tree h.now.machine h.now.uses h.now.same (JoinsWith id other) tree' turn

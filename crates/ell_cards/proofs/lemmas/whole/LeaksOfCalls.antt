@@ -233,6 +233,16 @@ flag_won (call.IFlag e p from) n v d flags hand won = flag_there (n == packed fr
 flag_won (call.DFlag e gp from) n v d flags hand won = flag_there (n == packed from) won (fact.DFlagged e) gp (unpacked n) v (after (call.DFlag e gp from) n v) refl d hand
 flag_won _ n v d flags hand won = absurd flags
 
+-- and after one that was lost the pass has no card in hand
+hand_lost : (b : Bool) → b ≡ false → (new : Fact) (x : ℕ) (u : Update) (v w : View) → w.worker ≡ (after_flag b new x u v).worker → w.worker.card ≡ None
+hand_lost true unwon new x u v w same = absurd (false≢true (sym unwon))
+hand_lost false unwon new x u v w same = ap (λ k. k.card) same
+
+pub flag_lost : (c : Call) (n : ℕ) (v : View) (d : ℕ) → FlagsCard c d → is_won (atomic_of c) n ≡ false → (after c n v).worker.card ≡ None
+flag_lost (call.IFlag e p from) n v d flags unwon = hand_lost (n == packed from) unwon (fact.IFlagged e) p (unpacked n) v (after (call.IFlag e p from) n v) refl
+flag_lost (call.DFlag e gp from) n v d flags unwon = hand_lost (n == packed from) unwon (fact.DFlagged e) gp (unpacked n) v (after (call.DFlag e gp from) n v) refl
+flag_lost _ n v d flags unwon = absurd flags
+
 -- what a call wins for a card is one exchange at most
 one_at_most : (b : Bool) (k : Exchange) → length (if b then k ∷ [] else []) ≤ 1
 one_at_most true k = omega arith

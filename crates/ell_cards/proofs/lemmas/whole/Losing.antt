@@ -56,7 +56,8 @@ aside_in_ages plan s tree t lie dead was_dead h id v there c may t' on d flags u
     lost_is_aside plan tree h.now.machine id v there c may d flags unwon on.ages.now.machine on.later (on.wins d)
 
 module _ (plan : TablePlan) (s : Slots) (tree : TableState) (t : WholeState) (id : ℕ) (k : Known) (here : get_elem? t.views id ≡ some k)
-    (h : HasPeriods plan s tree t) (o : Option ℕ) (aside : (c : ℕ) → o ≡ Some c → IsAside h.ages.now.machine.stages tree.views c) where
+    (h : HasPeriods plan s tree t) (o : Option ℕ) (aside : (c : ℕ) → o ≡ Some c → IsAside h.ages.now.machine.stages tree.views c)
+    (idle : (c : ℕ) → o ≡ Some c → k.tree.worker.card ≡ None) where
   abbrev noting : Period
   noting = record k.period { lost = o }
 
@@ -78,6 +79,7 @@ module _ (plan : TablePlan) (s : Slots) (tree : TableState) (t : WholeState) (id
     none = was.none;
     reading = was.reading;
     rests = was.rests;
+    idle = idle;
   }
 
   pub lost_periods : PeriodsAreSound s after h.lie h.dead h.began h.was_dead
@@ -127,7 +129,7 @@ module _ (plan : TablePlan) (s : Slots) (tree : TableState) (t : WholeState) (id
       → (NothingLeaks s t tree.views h.ages.now.machine.words h.ages.now.machine.stages h.lie → (slot : ℕ) → slot ≤ s.last → get_or t.words (slot_word s slot) 0 % 8 ≢ 7 → h.lie slot ≡ c → ⊥)
       → GoesTo plan s tree t h (record { words = t.words; homes = t.homes; views = set t.views id freed })
   unlost_now c lost_it gone = record {
-    periods = lost_now plan s tree t id k here h None (λ d none. absurd (some_not_none none refl));
+    periods = lost_now plan s tree t id k here h None (λ d none. absurd (some_not_none none refl)) (λ d none. absurd (some_not_none none refl));
     leaks = λ was. leaks_same s t tree.views h.ages.now.machine.words h.ages.now.machine.stages h.lie was id k here (after_freeing k.period) t.words
         (λ slot low used holds. by was slot low used holds) (λ slot. refl);
   }

@@ -235,6 +235,7 @@ module _ (s : Slots) (given : ℕ) (cards all : List ℕ) (size : length cards �
       none = λ is. refl;
       reading = λ n is. absurd (some_not_none is refl);
       rests = λ is. rest;
+      idle = λ c is. absurd (some_not_none is refl);
     }
 
     pub alone : (P : ℕ → Known → Type 0) → P 0 first → (j : ℕ) (u : Known) → get_elem? (first ∷ []) j ≡ some u → P j u
@@ -273,7 +274,7 @@ abbrev pub first_ages : (plan : TablePlan) (s : Slots) (tree : TableState) → S
     → IsAtRest (first_of plan) → 1 ≤ s.places → plan.last_card ≤ greatest_number
     → AgesAreSound plan s tree (opening all [] (record { tree = first_of plan; period = period_by (Some s) })) (lies_opened given) out_opened (λ q x. false)
 first_ages plan s tree start given cards all size h rest one most = record {
-  now = record { machine = start.kept; uses = start_uses plan tree start; each = λ c k low is. is_beyond (let past = ltb-true greatest_number c is in omega arith) };
+  now = record { machine = start.kept; uses = start_uses plan tree start; same = refl; each = λ c k low is. is_beyond (let past = ltb-true greatest_number c is in omega arith) };
   still = λ q x is. absurd (false≢true is);
   since = λ i q a k at. alone s given cards all size h (first_of plan) rest one (λ j u. u.period.place ≡ Some q → u.period.announced ≡ Some a → IsAtRest u.tree ⊎ ForgotWhen plan tree j (λ x. false))
       (λ is an. inl rest) i k at;

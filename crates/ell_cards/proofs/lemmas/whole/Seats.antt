@@ -1,4 +1,4 @@
-use Rattle.std.proofs.Common.{◌≡◌, ◌≢◌, ℕ, ◌%◌, ◌<◌, ◌≤◌, ◌==◌, ◌&&◌, nat_le, if◌then◌else◌, Bool, true, false, Option, None, List, get_or, set, inl, inr, refl, sym, ap, ◌∙◌, arith}
+use Rattle.std.proofs.Common.{Some, ◌≡◌, ◌≢◌, ℕ, ◌%◌, ◌<◌, ◌≤◌, ◌==◌, ◌&&◌, nat_le, if◌then◌else◌, Bool, true, false, Option, None, List, get_or, set, inl, inr, refl, sym, ap, ◌∙◌, arith}
 use Rattle.std.proofs.lemmas.Bool.{cases_eq}
 use Rattle.std.proofs.lemmas.Bool.Decides.{nat_tests}
 use mathlib.Core.Option.{some}
@@ -92,12 +92,13 @@ holds_on s words words' u same later h = record {
   none = h.none;
   reading = λ n is. (let low = h.reading n is in omega arith);
   rests = h.rests;
+  idle = h.idle;
 }
 
 -- a pass that knows the same of periods, and is at rest if it announces nothing, knows what is so
 pub holds_of : (s : Slots) (words : List ℕ) (k l : Known) → l.period ≡ k.period
-    → (k.period.announced ≡ None → IsAtRest l.tree) → PeriodHolds s words k → PeriodHolds s words l
-holds_of s words k l same rests h = record {
+    → (k.period.announced ≡ None → IsAtRest l.tree) → ((c : ℕ) → k.period.lost ≡ Some c → l.tree.worker.card ≡ None) → PeriodHolds s words k → PeriodHolds s words l
+holds_of s words k l same rests idle h = record {
   place = λ q is. (let at = h.place q (sym (ap (λ (p : Period). p.place) same) ∙ is) in
       (at.0, at.1 ∙ ap (λ (p : Period). place_says p.announced) (sym same)));
   other = λ q is. (let at = h.other q (sym (ap (λ (p : Period). p.other) same) ∙ is) in
@@ -106,4 +107,5 @@ holds_of s words k l same rests h = record {
   none = λ is. ap (λ (p : Period). p.announced) same ∙ h.none (sym (ap (λ (p : Period). p.place) same) ∙ is);
   reading = λ n is. h.reading n (sym (ap (λ (p : Period). p.reading) same) ∙ is);
   rests = λ is. rests (sym (ap (λ (p : Period). p.announced) same) ∙ is);
+  idle = λ c is. idle c (sym (ap (λ (p : Period). p.lost) same) ∙ is);
 }

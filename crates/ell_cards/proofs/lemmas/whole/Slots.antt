@@ -77,7 +77,7 @@ stamp_there s lie words c slot n inside lies has =
 -- places say the same.
 module _ (s : Slots) (t : WholeState) (id : ℕ) (k : Known) (here : get_elem? t.views id ≡ some k) (lie : ℕ → ℕ) (dead : ℕ → Bool) (began : ℕ → ℕ) (was_dead : ℕ → ℕ → Bool)
     (h : PeriodsAreSound s t lie dead began was_dead) (words : List ℕ) (p : Period) (stands : StandsAs k.period p) (began_so : p.began ≡ k.period.began) (reading : p.reading ≡ k.period.reading)
-    (least : p.least ≡ k.period.least) (looked : p.looked ≡ k.period.looked) (safe : p.safe ≡ k.period.safe)
+    (least : p.least ≡ k.period.least) (looked : p.looked ≡ k.period.looked) (safe : p.safe ≡ k.period.safe) (lost : p.lost ≡ k.period.lost)
     (clock : get_or words (clock_word s) 0 ≡ get_or t.words (clock_word s) 0) (places : (q : ℕ) → get_or words (place_word s q) 0 ≡ get_or t.words (place_word s q) 0) where
   abbrev now : Known
   now = record { tree = k.tree; period = p }
@@ -98,6 +98,7 @@ module _ (s : Slots) (t : WholeState) (id : ℕ) (k : Known) (here : get_elem? t
         none = λ is. stands.announced ∙ was.none (sym stands.place ∙ is);
         reading = λ n is. was.reading n (sym reading ∙ is);
         rests = λ is. was.rests (sym stands.announced ∙ is);
+        idle = λ c is. was.idle c (sym lost ∙ is);
       }
 
   same_word : (q : ℕ) → word_at_place s words q ≡ word_at_place s t.words q
@@ -146,7 +147,7 @@ module _ (s : Slots) (t : WholeState) (id : ℕ) (k : Known) (here : get_elem? t
         lie (put dead c true) began was_dead
     card_stamped =
         slots_after s t id k here lie dead began was_dead h (set t.words (clock_word s) (get_or t.words (clock_word s) 0)) (after_stamp c reading_now k.period)
-        (record { place = refl; other = refl; other_says = refl; announced = refl }) refl refl refl refl refl (again (clock_word s)) (λ q. again (place_word s q))
+        (record { place = refl; other = refl; other_says = refl; announced = refl }) refl refl refl refl refl refl (again (clock_word s)) (λ q. again (place_word s q))
         lie (put dead c true) (put was.pending id (Some (c, was.clock))) was.free
         (grace_goes_on s.places died pends (grace_goes_on s.places was died h.sound (dies c refl)) (stamps id c (put_same was.gone c true) refl))
         (part_put t.views id k here stamped (λ p. pending_by p.stamp))
@@ -166,7 +167,7 @@ module _ (s : Slots) (t : WholeState) (id : ℕ) (k : Known) (here : get_elem? t
         lie dead began was_dead
     slot_read sought =
         slots_after s t id k here lie dead began was_dead h (set t.words (slot_word s slot) (get_or t.words (slot_word s slot) 0)) (record (after_read slot found k.period) { sought = sought })
-        (record { place = refl; other = refl; other_says = refl; announced = refl }) refl refl refl refl refl (again (clock_word s)) (λ q. again (place_word s q))
+        (record { place = refl; other = refl; other_says = refl; announced = refl }) refl refl refl refl refl refl (again (clock_word s)) (λ q. again (place_word s q))
         lie dead was.pending was.free h.sound
         (part_same t.views id k here (record { tree = k.tree; period = record (after_read slot found k.period) { sought = sought } }) (λ p. pending_by p.stamp) refl)
         (stamps_same s lie t.words (set t.words (slot_word s slot) (get_or t.words (slot_word s slot) 0)) (λ x low. again (slot_word s x)))
@@ -206,7 +207,7 @@ module _ (s : Slots) (t : WholeState) (id : ℕ) (k : Known) (here : get_elem? t
         → PeriodsAreSound s (record { words = set t.words (slot_word s slot) n'; homes = t.homes; views = set t.views id (record { tree = k.tree; period = record (k.period) { sought = sought } }) }) lie dead began was_dead
     slot_noted sought n' some_bit some_bit' =
         slots_after s t id k here lie dead began was_dead h (turned n') (record (k.period) { sought = sought })
-        (record { place = refl; other = refl; other_says = refl; announced = refl }) refl refl refl refl refl (turned_clock n') (turned_place n')
+        (record { place = refl; other = refl; other_says = refl; announced = refl }) refl refl refl refl refl refl (turned_clock n') (turned_place n')
         lie dead was.pending was.free h.sound
         (part_same t.views id k here (record { tree = k.tree; period = record (k.period) { sought = sought } }) (λ p. pending_by p.stamp) refl)
         stays
@@ -222,7 +223,7 @@ module _ (s : Slots) (t : WholeState) (id : ℕ) (k : Known) (here : get_elem? t
         → PeriodsAreSound s (record { words = set t.words (slot_word s slot) (free_word reading); homes = t.homes; views = set t.views id (record { tree = k.tree; period = record (k.period) { sought = sought } }) }) lie dead began was_dead
     slot_freed sought reading home has =
         slots_after s t id k here lie dead began was_dead h (turned n') (record (k.period) { sought = sought })
-        (record { place = refl; other = refl; other_says = refl; announced = refl }) refl refl refl refl refl (turned_clock n') (turned_place n')
+        (record { place = refl; other = refl; other_says = refl; announced = refl }) refl refl refl refl refl refl (turned_clock n') (turned_place n')
         lie dead was.pending (put was.free card (Some reading))
         (grace_goes_on s.places was (record was { free = put was.free card (Some reading) }) h.sound (frees id card reading pending refl))
         (part_same t.views id k here (record { tree = k.tree; period = record (k.period) { sought = sought } }) (λ p. pending_by p.stamp) refl)
@@ -288,7 +289,7 @@ module _ (s : Slots) (t : WholeState) (id : ℕ) (k : Known) (here : get_elem? t
           → PeriodsAreSound s (record { words = set t.words (slot_word s slot) (8 * turn); homes = t.homes; views = set t.views id (record { tree = k.tree; period = after_taking next k.period }) }) (put lie slot next) dead began was_dead
       slot_taken turn next at =
           slots_after s t id k here lie dead began was_dead h (turned n') (after_taking next k.period)
-          (record { place = refl; other = refl; other_says = refl; announced = refl }) refl refl refl refl refl (turned_clock n') (turned_place n')
+          (record { place = refl; other = refl; other_says = refl; announced = refl }) refl refl refl refl refl refl (turned_clock n') (turned_place n')
           lie' dead was.pending (put was.free card None)
           (grace_goes_on s.places was (record was { free = put was.free card None }) h.sound (takes id card (stamp_in found) card_free card_past refl))
           (part_same t.views id k here (record { tree = k.tree; period = after_taking next k.period }) (λ p. pending_by p.stamp) refl)

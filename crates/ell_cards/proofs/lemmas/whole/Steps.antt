@@ -142,6 +142,7 @@ module _ (s : Slots) (t : WholeState) (id : ℕ) (k : Known) (here : get_elem? t
         none = same_holds.none;
         reading = same_holds.reading;
         rests = same_holds.rests;
+        idle = same_holds.idle;
       }
 
       pub periods_sought : PeriodsAreSound s (record { words = again; homes = t.homes; views = set t.views id seeks }) lie dead began was_dead
@@ -184,6 +185,7 @@ module _ (s : Slots) (t : WholeState) (id : ℕ) (k : Known) (here : get_elem? t
     none = now.none;
     reading = λ n is. (let same = same_Some reading_now n is in let clock = same_at (clock_word s) (omega arith) (clock_word s) in omega arith);
     rests = now.rests;
+    idle = now.idle;
   }
 
   pub periods_read : PeriodsAreSound s (record { words = set t.words (clock_word s) (get_or t.words (clock_word s) 0); homes = t.homes; views = set t.views id reads }) lie dead began was_dead
@@ -329,6 +331,7 @@ module _ (s : Slots) (t : WholeState) (id : ℕ) (k : Known) (here : get_elem? t
       none = now.none;
       reading = now.reading;
       rests = now.rests;
+      idle = now.idle;
     }
 
     pub periods_seen : PeriodsAreSound s (record { words = set t.words (place_word s q) (get_or t.words (place_word s q) 0); homes = t.homes; views = set t.views id sees }) lie dead began was_dead
@@ -447,6 +450,7 @@ module _ (s : Slots) (t : WholeState) (id : ℕ) (k : Known) (here : get_elem? t
         none = λ is. absurd (some_not_none placed is);
         reading = λ n is. (let same = turned_clock q (reading + 2) below in let low = mine.reading n is in omega arith);
         rests = λ is. absurd (some_not_none refl is);
+        idle = mine.idle;
       }
     where
       below : q < s.places
@@ -472,6 +476,7 @@ module _ (s : Slots) (t : WholeState) (id : ℕ) (k : Known) (here : get_elem? t
         none = λ is. refl;
         reading = λ n is. (let same = turned_clock q 1 below in let low = mine.reading n is in omega arith);
         rests = λ is. rest;
+        idle = mine.idle;
       }
     where
       below : q < s.places
@@ -497,6 +502,7 @@ module _ (s : Slots) (t : WholeState) (id : ℕ) (k : Known) (here : get_elem? t
         none = mine.none;
         reading = λ n is. (let same = turned_clock q 1 below in let low = mine.reading n is in omega arith);
         rests = mine.rests;
+        idle = mine.idle;
       }
     where
       nobody : IsNobodys t q
@@ -522,6 +528,7 @@ module _ (s : Slots) (t : WholeState) (id : ℕ) (k : Known) (here : get_elem? t
         none = mine.none;
         reading = λ n is. (let same = turned_clock q 0 below in let low = mine.reading n is in omega arith);
         rests = mine.rests;
+        idle = mine.idle;
       }
     where
       below : q < s.places
@@ -547,6 +554,7 @@ module _ (s : Slots) (t : WholeState) (id : ℕ) (k : Known) (here : get_elem? t
         none = λ is. quiet;
         reading = λ n is. (let same = turned_clock q 0 below in let low = mine.reading n is in omega arith);
         rests = mine.rests;
+        idle = mine.idle;
       }
     where
       below : q < s.places

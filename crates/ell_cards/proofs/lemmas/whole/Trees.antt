@@ -57,9 +57,9 @@ module _ (s : WholeState) (id : ℕ) (k : Known) (here : get_elem? s.views id �
       get_or-set_other s.words i (slot_word sl slot) n 0 (let before = before_clock sl i low in let behind = clock_before_slots sl slot in omega arith)
 
   pub tree_periods : (sl : Slots) (i n : ℕ) (homes : List (Maybe (Unit {0}))) (lie : ℕ → ℕ) (dead : ℕ → Bool) (began : ℕ → ℕ) (was_dead : ℕ → ℕ → Bool)
-      → i < table_size sl.last → (k.period.announced ≡ None → IsAtRest v) → PeriodsAreSound sl s lie dead began was_dead
+      → i < table_size sl.last → (k.period.announced ≡ None → IsAtRest v) → ((c : ℕ) → k.period.lost ≡ Some c → v.worker.card ≡ None) → PeriodsAreSound sl s lie dead began was_dead
       → PeriodsAreSound sl (record { words = set s.words i n; homes = homes; views = set s.views id now }) lie dead began was_dead
-  tree_periods sl i n homes lie dead began was_dead low rests h = record {
+  tree_periods sl i n homes lie dead began was_dead low rests idle h = record {
     sound = grace_same sl.places (grace_of sl s lie dead began was_dead)
         (grace_of sl (record { words = set s.words i n; homes = homes; views = set s.views id now }) lie dead began was_dead)
         (clock_stays sl i n low) (λ c. refl)
@@ -72,7 +72,7 @@ module _ (s : WholeState) (id : ℕ) (k : Known) (here : get_elem? s.views id �
         (stamps_same sl lie s.words (set s.words i n) (slots_stay sl i n low)) h.sound;
     low = let same = clock_stays sl i n low in let was = h.low in omega arith;
     each = λ j u at. ⊎_elim
-        (λ (t : (j ≡ id) × (now ≡ u)). subst (PeriodHolds sl (set s.words i n)) t.1 (on now (holds_of sl s.words k now refl rests (h.each id k here))))
+        (λ (t : (j ≡ id) × (now ≡ u)). subst (PeriodHolds sl (set s.words i n)) t.1 (on now (holds_of sl s.words k now refl rests idle (h.each id k here))))
         (λ (t : (j ≢ id) × (get_elem? s.views j ≡ some u)). on u (h.each j u t.1))
         (at_set s.views id j now u at);
     since = λ j q a u at is an. ⊎_elim

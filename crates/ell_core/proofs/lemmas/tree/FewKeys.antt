@@ -17,22 +17,22 @@ use Rattle.ell_core.proofs.lemmas.tree.Nodes.{nodes_below, nodes_below-none, nod
 use Rattle.ell_core.proofs.lemmas.tree.RealPairs.{inner, real, infinite, kind_of, real_pairs, real_pairs-none, real_pairs-inner, real_pairs-real, real_pairs-infinite, real_pairs-append, ListsTreePairs-all, ListsKeys-of_pairs}
 
 -- the cards of the internal nodes among nodes
-unfoldable inner_cards : List ℕ → List ℕ
+unfoldable pub inner_cards : List ℕ → List ℕ
 inner_cards [] = []
 inner_cards (x ∷ xs) = if x % 4 == 0 then card x ∷ inner_cards xs else inner_cards xs
 
 -- no node has no card
-inner_cards-none : inner_cards [] ≡ []
+pub inner_cards-none : inner_cards [] ≡ []
 unfolding inner_cards
 inner_cards-none = refl
 
 -- an internal node adds its card
-inner_cards-inner : (x : ℕ) (xs : List ℕ) → IsInternal x → inner_cards (x ∷ xs) ≡ card x ∷ inner_cards xs
+pub inner_cards-inner : (x : ℕ) (xs : List ℕ) → IsInternal x → inner_cards (x ∷ xs) ≡ card x ∷ inner_cards xs
 unfolding inner_cards
 inner_cards-inner x xs h = cond-true (x % 4 == 0) (card x ∷ inner_cards xs) (inner_cards xs) (eq-eqb (x % 4) 0 h)
 
 -- a leaf adds none
-inner_cards-leaf : (x : ℕ) (xs : List ℕ) → IsLeaf x → inner_cards (x ∷ xs) ≡ inner_cards xs
+pub inner_cards-leaf : (x : ℕ) (xs : List ℕ) → IsLeaf x → inner_cards (x ∷ xs) ≡ inner_cards xs
 unfolding inner_cards
 inner_cards-leaf x xs h = cond-false (x % 4 == 0) (card x ∷ inner_cards xs) (inner_cards xs) (ne_eqb (x % 4) 0 h)
 
@@ -48,7 +48,7 @@ inner_cards-only (x ∷ xs) c h = ⊎_elim
     (internal_or_leaf x)
 
 -- there are as many cards of joined nodes as of both together
-inner_cards-length : (xs ys : List ℕ) → length (inner_cards (xs ++ ys)) ≡ length (inner_cards xs) + length (inner_cards ys)
+pub inner_cards-length : (xs ys : List ℕ) → length (inner_cards (xs ++ ys)) ≡ length (inner_cards xs) + length (inner_cards ys)
 inner_cards-length [] ys = let none = ap length inner_cards-none in omega arith
 inner_cards-length (x ∷ xs) ys =
     let rest = inner_cards-length xs ys in
@@ -58,7 +58,7 @@ inner_cards-length (x ∷ xs) ys =
     (internal_or_leaf x)
 
 -- the first of numbers of which no two are equal is not among the others
-first_apart : (x : ℕ) (xs : List ℕ) (y : ℕ) → AllPairs (λ a b. a ≢ b) (x ∷ xs) → Contains xs y → x ≢ y
+pub first_apart : (x : ℕ) (xs : List ℕ) (y : ℕ) → AllPairs (λ a b. a ≢ b) (x ∷ xs) → Contains xs y → x ≢ y
 first_apart x xs y apart h e = apart 0 (suc h.0) y (omega arith) (omega (arith, h.1)) (e ∙ sym h.2)
 
 -- nodes of which no two are equal have cards of which no two are
@@ -105,7 +105,7 @@ few_keys w (suc fuel) x = elim (kind_of w x) [
 ]
 
 -- a list of the keys of a tree is no longer than another one
-no_longer : (w : Words) (keys others : List ℕ) → ListsKeys w keys → ListsKeys w others → length keys ≤ length others
+pub no_longer : (w : Words) (keys others : List ℕ) → ListsKeys w keys → ListsKeys w others → length keys ≤ length others
 no_longer w keys others first second =
     length-le_from_is_member nat_eq_equiv keys others
     (IsDistinct-from_AllPairs Decides-eqb keys

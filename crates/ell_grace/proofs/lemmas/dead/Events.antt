@@ -31,6 +31,7 @@ use Rattle.ell_grace.proofs.lemmas.outs.Newly.{only}
 use Rattle.ell_grace.proofs.lemmas.outs.Inserts.{i_leaf}
 use Rattle.ell_grace.proofs.lemmas.outs.Deletes.{d_nodes}
 use Rattle.ell_grace.proofs.lemmas.dead.Frames.{brought_same, side_same}
+use Rattle.ell_grace.proofs.lemmas.dead.Kept.{quiet_kept, ichild_kept, dchild_kept}
 use Rattle.ell_grace.proofs.lemmas.dead.Used.{as_it_was, uses_from}
 
 module _ (m : Machine) (stage : Stages) (i : ℕ) (a : Act) (said : Stepped) (becomes : Scene) (invariant : Invariant m stage)
@@ -50,7 +51,7 @@ module _ (m : Machine) (stage : Stages) (i : ℕ) (a : Act) (said : Stepped) (be
         let same = sum_same child_changes (stage c) (follows.stages c) _ (follows.wins c) (none c) in
         absurd (omega arith);
     still = λ c had flag right. kids (m.words.p c) ((invariant.words.cards c).insert (changed-insert (stage c) had)).parent.born right;
-  })
+  }) (quiet_kept m stage i a said becomes invariant row follows outs none uses.kept)
     where
       kids : (x : ℕ) → Born stage x → (right : Bool) → becomes.words.child x right ≡ m.words.child x right
       kids x born right = row_children a (scene m i) said becomes row none x right (born_low m.words stage invariant.words x born)
@@ -111,7 +112,7 @@ module _ (m : Machine) (stage : Stages) (i : ℕ) (c : ℕ) (said : Stepped) (be
               absurd (false≢true (sym (ap is_changed flagged) ∙ (ap (λ n. is_changed (stage n)) (sym same) ∙ had)))
           | inr e ↦ e
         ];
-  })
+  }) (ichild_kept m stage i c said becomes invariant row follows outs flagged uses.kept)
     where
       made : becomes.words.child (becomes.words.p c) (insert_side becomes.words c) ≡ brought becomes.words c
       made =
@@ -166,7 +167,7 @@ module _ (m : Machine) (stage : Stages) (i : ℕ) (c : ℕ) (said : Stepped) (be
           | inl e ↦ (let mine = d_at.flag in let place = ap m.words.update e.0 in absurd (omega arith))
           | inr e ↦ e
         ];
-  })
+  }) (dchild_kept m stage i c said becomes invariant row follows outs now uses.kept)
 
 -- what is used after any act
 uses_by : (m : Machine) (stage : Stages) (i : ℕ) (a : Act) (said : Stepped) (becomes : Scene) → Invariant m stage → Row a (scene m i) said becomes

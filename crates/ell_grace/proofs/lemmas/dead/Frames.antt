@@ -49,7 +49,7 @@ module _ (old : Words) (stage : Stages) (sound : WordsAreSound old stage) (new :
       (sound'.inserts c).brings (later.told (fact.IChanged c) c changed)
       ∙ (ap not (replace_same c (changed_low c changed)) ∙ sym ((sound.inserts c).brings changed))
 
-  node_born_same : (c place : ℕ) → is_changed (stage c) ≡ true → is_node_born (after c) place ≡ is_node_born (stage c) place
+  pub node_born_same : (c place : ℕ) → is_changed (stage c) ≡ true → is_node_born (after c) place ≡ is_node_born (stage c) place
   node_born_same c place changed =
       changed_nodes (after c) place (later.told (fact.IChanged c) c changed)
       ∙ (ap (λ b. (b && nat_le place 2) || (place == 2)) (born_same c changed) ∙ sym (changed_nodes (stage c) place changed))

@@ -1,5 +1,6 @@
-use Rattle.std.proofs.Common.{◌≡◌, ℕ, ◌+◌, true, false, inl, inr, List, [], ◌∷◌, length, refl, sym, ◌∙◌, subst}
+use Rattle.std.proofs.Common.{◌≡◌, ℕ, ◌+◌, ◌%◌, true, false, inl, inr, List, [], ◌∷◌, length, refl, sym, ◌∙◌, subst}
 use Rattle.std.proofs.lemmas.Bool.{false≢true}
+use Rattle.ell_word.specs.Node.{card}
 use Rattle.ell_core.specs.declared.event.Event.{Event}
 use Rattle.ell_core.specs.declared.event.Shown.{Shown}
 use Rattle.ell_core.specs.declared.event.Shown.TheVariants as shown
@@ -21,6 +22,7 @@ use Rattle.ell_grace.proofs.lemmas.since.Later.{gone_later}
 use Rattle.ell_grace.proofs.lemmas.since.Cards.{cards_begin, cards_go_on}
 use Rattle.ell_grace.proofs.lemmas.since.Coming.{children_were_not_gone}
 use Rattle.ell_grace.proofs.lemmas.dead.Frames.{never_later}
+use Rattle.ell_grace.proofs.lemmas.dead.Kept.{brought-changed}
 use Rattle.ell_grace.proofs.lemmas.dead.Events.{uses_go_on}
 use Rattle.ell_grace.proofs.lemmas.dead.Out.{child_comes, stays_out, taken_comes, dead_ended}
 use Rattle.ell_grace.proofs.lemmas.Runs.{opening_outs}
@@ -34,6 +36,7 @@ opening_uses setup = record {
   used = λ x inner born right unused. none_changed setup _ unused.0;
   taken = λ c x takes unused. none_changed setup _ unused.0;
   stands = λ c changed still. absurd (none_changed setup c changed);
+  kept = λ x unstarted outer born used. absurd (none_changed setup (card x) (brought-changed (start_stages (length setup.start + 1) (card x)) (x % 4) unstarted born));
 }
 
 -- a run keeps what is used sound

@@ -13,7 +13,7 @@ use Rattle.ell_core.specs.history.Stages.{Stage, Stages, IFlagged, Born, is_star
 use Rattle.ell_core.specs.history.Invariant.{insert_side, Invariant}
 use Rattle.ell_core.specs.history.Later.{SaysTheSame, Follows}
 use Rattle.ell_grace.specs.Gone.{TakesOut, OutsAreSound}
-use Rattle.ell_grace.specs.Dead.{IsUnused, UsesAreSound}
+use Rattle.ell_grace.specs.Dead.{IsUnused, LeavesAreKept, UsesAreSound}
 use Rattle.ell_core.proofs.lemmas.stages.Order.{insert-claimed, insert_won-insert, changed-won, changed-insert, cut-delete, inner-born, all-born, one_kind, waits_or_changed}
 use Rattle.ell_core.proofs.lemmas.stages.Sums.{sum-changed}
 use Rattle.ell_core.proofs.lemmas.keeping.insert_child.Nodes.{leaf_on, its_keys, key_differs, child_is, below_child}
@@ -136,8 +136,8 @@ module _ (m : Machine) (stage : Stages) (i : ℕ) (a : Act) (said : Stepped) (be
       of_card true = omega arith
 
   -- so what is used is sound
-  pub uses_from : NewlyUsed old stage new stages → UsesAreSound new stages
-  uses_from newly = record {
+  pub uses_from : NewlyUsed old stage new stages → LeavesAreKept new stages → UsesAreSound new stages
+  uses_from newly leaves = record {
     used = λ x inner born right. elim (cases_Bool (is_born (stage (card x)))) [
       | inl had ↦ newly.was x inner (born_by x inner had) right
       | inr none ↦
@@ -158,6 +158,7 @@ module _ (m : Machine) (stage : Stages) (i : ℕ) (a : Act) (said : Stepped) (be
         | inl had ↦ stood c had still
       ]
     ];
+    kept = leaves;
   }
     where
       born_by : (x : ℕ) → IsInternal x → is_born (stage (card x)) ≡ true → Born stage x

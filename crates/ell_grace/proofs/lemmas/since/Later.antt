@@ -12,7 +12,7 @@ use Rattle.ell_core.proofs.lemmas.stages.Ended.{ends_last}
 -- what was gone is gone later
 module _ (m : Machine) (stage : Stages) (first : Invariant m stage) (now : Words) (after : Stages) (words : WordsLater m.words now)
     (later : StagesLater stage after) where
-  takes_later : (c x : ℕ) → TakesOut m.words stage c x → TakesOut now after c x
+  pub takes_later : (c x : ℕ) → TakesOut m.words stage c x → TakesOut now after c x
   takes_later c x (inl h) =
       let low = (first.words.cards c).claimed.0 (insert-claimed (stage c) (changed-insert (stage c) h.0)) in
       inl (later.told (fact.IChanged c) c h.0, subst IsLeaf (sym (words.info c low).l) h.1, (words.info c low).l ∙ h.2)
