@@ -33,7 +33,7 @@
 
    - ELLTREE_BUSY: something was in the way of each try, or another thread changed the key first. You may make the same call again.
    - ELLTREE_SPENT: all cards of the tree are given out. Calls that read still work. To go on, make a new tree of the pairs that a range lists.
-     In a tree whose cards come back: each was in use when the call asked for it. You may make the same call again.
+     In a tree whose cards come back: no card could be taken (see elltree_open_reusing). You may make the same call again.
    - ELLTREE_NO_TRIES: the number of tries is 0.
    - ELLTREE_BAD_KEY: a call that changes keys was given one above ELLTREE_KEY_MAX. To a call that only reads, such a key is absent.
    - ELLTREE_BAD_START: the keys to start with do not ascend strictly, or are more than ELLTREE_START_MAX.
@@ -124,7 +124,8 @@ ELLTREE_MUST_USE static inline int32_t elltree_open(struct elltree_handle *handl
 }
 
 /* Opens a tree as elltree_open does, whose cards come back: once what a change took out of the tree is read by no call any more, its card serves
-   another change. So the tree goes on as long as its keys fit: twice as many cards as keys, and some more, are enough. Two of the cards are for
+   another change. For n keys at a time and h handles, ask for 2 n + 3 h + 5 cards, and some more for those that come free while the oldest call
+   goes on, and shortly before it. A change that can take no card is refused with ELLTREE_SPENT, and may be made again. Two of the cards are for
    deletes alone, so that a tree that inserts have filled can be emptied. A thread that stands still in a call holds cards back until it goes on,
    and a handle in no call holds none. The tree has this number of handles at a time, its first one among them, at least one and at most
    1,000,000, and one that is freed makes room for another. A card and a pair to start with take 104 bytes each, and a handle 64.

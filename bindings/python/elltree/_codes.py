@@ -86,7 +86,8 @@ class Busy(Refused):
 
 
 class Spent(Refused):
-    """A change needs a card, and all cards of the tree are given out. Calls that read go on, and so does the program with a new Tree of the pairs."""
+    """A change needs a card, and all cards of the tree are given out. Calls that read go on, and so does the program with a new Tree of the pairs.
+    Where cards come back, no card could be taken, and the same call may be made again."""
 
     def __init__(self, code: int = SPENT) -> None:
         super().__init__(code)

@@ -29,8 +29,9 @@ class Tree:
     on: Tree(handle.range(), cards).
 
     In a tree with a number of handles, cards come back while it is open: once what a change took out of the tree is read by no call any more, its
-    card serves another change. Twice as many cards as keys, and some more, are enough. A thread that stands still in a call holds cards back until it
-    goes on; a change that finds each card in use raises Spent, and may be made again.
+    card serves another change. For n keys at a time and h handles, ask for 2 * n + 3 * h + 8 cards, and some more for those that come free while the
+    oldest call goes on, and shortly before it. A thread that stands still in a call holds cards back until it goes on; a change that can take no card
+    raises Spent, and may be made again.
 
     The tree ends once it and all its handles are dropped or closed. It can't be copied or pickled. A forked child of a program with threads may not
     use it or its handles, which nothing checks: only a Map refuses such calls.
@@ -62,7 +63,7 @@ class Handle(Ordered):
     """A thread's access to a tree, which the tree's method handle makes. At the end of a with block it is closed. It can't be copied or pickled.
 
     A handle is in one call at a time: a second call is refused meanwhile (IN_CALL). A call that changes a key makes at most this number of tries, and
-    raises Busy if other threads were in the way of each. It raises Spent if it needs a card and none is left.
+    raises Busy if other threads were in the way of each. It raises Spent if it needs a card and gets none.
     """
 
     __slots__ = ()

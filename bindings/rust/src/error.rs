@@ -86,7 +86,7 @@ pub enum Refused {
     /// Something was in the way of each try, or changed the value first. The same call may be made again.
     Busy,
     /// All cards of the tree are given out. Calls that only read still work, and [`Handle::cards_left`](crate::Handle::cards_left) tells beforehand
-    /// how many are left.
+    /// how many are left. Where cards come back, no card could be taken, and the same call [may be made again](crate::Tree::open_reusing).
     Spent,
     /// The call allows no try.
     NoTries,

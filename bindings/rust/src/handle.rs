@@ -225,7 +225,7 @@ impl Handle {
     /// # Errors
     ///
     /// Returns [`Refused::NoTries`] if `tries` is 0, else [`Refused::BadKey`] if the key is above [`KEY_MAX`](crate::KEY_MAX), [`Refused::Busy`] if
-    /// something was in the way of each try, and [`Refused::Spent`] if the change needs a card and all are given out.
+    /// something was in the way of each try, and [`Refused::Spent`] if the change needs a card and gets none.
     ///
     /// [`Refused::NoTries`]: crate::Refused::NoTries
     /// [`Refused::BadKey`]: crate::Refused::BadKey

@@ -79,10 +79,10 @@ impl Tree {
     }
 
     /// Opens a tree whose cards come back while it is open, for so many handles at a time, up to 999,999. Once what a change took out of the tree is
-    /// read by no call any more, its card serves another change: so the tree goes on as long as its keys fit. Twice as many cards as keys, and some
-    /// more, are enough.
+    /// read by no call any more, its card serves another change. For n keys at a time and h handles, ask for 2 n + 3 h + 8 cards, and some more for
+    /// those that come free while the oldest call goes on, and shortly before it.
     ///
-    /// A thread that stands still in a call holds cards back until it goes on. A change that finds each card in use returns
+    /// A thread that stands still in a call holds cards back until it goes on. A change that can take no card returns
     /// [`Refused::Spent`](crate::Refused::Spent), and may be made again. A handle that is dropped makes room for another.
     ///
     /// # Errors

@@ -200,7 +200,7 @@ after_read slot n p = record p { read = Some (record { slot = slot; word = n }) 
 -- the word of a card's slot was read by a search for a slot to take, which begins with it or goes on
 abbrev pub after_seek : Slots → Bool → Bool → ℕ → ℕ → ℕ → Period → Period
 after_seek s begins for_delete c made n p = record (after_read (slot_of c) n p) {
-  sought = sought_on s begins for_delete c made (could_have s for_delete c n p.safe) p.sought;
+  sought = sought_on s begins for_delete c made (could_have s for_delete c n p.safe) p.safe p.sought;
 }
 
 -- the word of a card's slot was read by a pass that is to note nodes of the card there, and none of them may be left
@@ -291,7 +291,7 @@ PlaceHas s words q announced = (q < s.places) × (slice_index words (place_word 
 
 -- What a pass knows of periods is so: its places are among those of the table, two if it has another one, and their
 -- words say what it knows to be announced there; the clock has been as it was read; a pass that announces nothing is at
--- rest; and one that has lost a flag has no card in hand until it has set the slot free.
+-- rest; and one that has lost a flag has no card in hand, and is in a period, until it has set the slot free.
 pub record PeriodHolds (s : Slots) (words : List ℕ) (k : Known) : Type 0 where
   pub place : (q : ℕ) → k.period.place ≡ Some q → PlaceHas s words q k.period.announced
   pub other : (q : ℕ) → k.period.other ≡ Some q → PlaceHas s words q k.period.other_says
@@ -300,6 +300,7 @@ pub record PeriodHolds (s : Slots) (words : List ℕ) (k : Known) : Type 0 where
   pub reading : (n : ℕ) → k.period.reading ≡ Some n → n ≤ slice_index words (clock_word s)
   pub rests : k.period.announced ≡ None → IsAtRest k.tree
   pub idle : (c : ℕ) → k.period.lost ≡ Some c → k.tree.worker.card ≡ None
+  pub stays : (c : ℕ) → k.period.lost ≡ Some c → k.period.announced ≢ None
 
 -- what the pass in a seat knows of periods: nothing, if there is none
 abbrev pub period_of : Maybe Known → Period

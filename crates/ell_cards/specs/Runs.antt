@@ -30,8 +30,8 @@ act_of_turn s (Makes seat c) = act_of c (found_by s c)
 act_of_turn s _ = None
 
 -- a turn between states that have machines: the machine goes on by it, the wins of each card grow by what it wins for
--- that card, and all cards are at their stages if it is no event; the pairs of the tree go on by it too, and the table's
--- own words after it are a sound state
+-- that card, and all cards are at their stages if it is no event; the pairs of the tree go on by it too, and the
+-- table's own words after it are a sound state
 pub record TurnIsLawful (plan : TablePlan) (s : TableState) (r : HasMachine plan s) (t : Turn)
     (s' : TableState) (r' : HasMachine plan s') : Type 0 where
   pub machine : GoesBy s t (machine_of_table plan s r) (machine_of_table plan s' r')

@@ -1,5 +1,5 @@
 -- What a search for a slot has read.
-use Rattle.std.specs.Prelude.{◌≡◌, ℕ, ◌⊎◌, ◌+◌, ◌-◌, ◌*◌, ◌/◌, ◌<◌, ◌≤◌, ◌%◌, ◌==◌, ◌&&◌, ◌||◌, nat_lt, nat_le, not, if◌then◌else◌, Bool, true, false, Option, IfSome}
+use Rattle.std.specs.Prelude.{◌≡◌, ℕ, ◌⊎◌, ◌+◌, ◌-◌, ◌*◌, ◌/◌, ◌<◌, ◌≤◌, ◌%◌, ◌==◌, ◌&&◌, ◌||◌, min, nat_lt, nat_le, not, if◌then◌else◌, Bool, true, false, Option, IfSome}
 use Rattle.ell_cards.specs.declared.card_nodes.CardNodes.{CardNodes}
 use Rattle.ell_cards.specs.declared.view.Retired.{Retired}
 use Rattle.ell_cards.specs.declared.view.Seek.{Seek}
@@ -17,9 +17,12 @@ slots_before s c = (s.last + 1) * (turn_of c - turn_of c / 1048576) + slot_of c
 abbrev pub could_take : ℕ → ℕ → Bool
 could_take n safe = n % 8 == 7 && nat_lt (stamp_in n) safe
 
--- the last two slots are for deletes alone: whether a change may have the slot of a card
+-- the last two slots are for deletes alone: whether a change may have a slot, or that of a card
+abbrev pub is_slot_for : Slots → Bool → ℕ → Bool
+is_slot_for s for_delete slot = if for_delete then true else nat_le (slot + 2) s.last
+
 abbrev pub may_have : Slots → Bool → ℕ → Bool
-may_have s for_delete c = if for_delete then true else nat_le (slot_of c + 2) s.last
+may_have s for_delete c = is_slot_for s for_delete (slot_of c)
 
 -- whether a pass with a safe number could take the slot of a card for a change, by the slot's word
 abbrev pub could_have : Slots → Bool → ℕ → ℕ → ℕ → Bool
@@ -36,6 +39,7 @@ no_seek = record {
   from = 0;
   read = 0;
   takeable = 0;
+  safe = 0;
   made = 0;
   missed = 0;
   retired = none_retired;
@@ -48,13 +52,26 @@ is_next s c k = slots_before s c == slots_before s k.from + k.read
 abbrev pub one_if : Bool → ℕ
 one_if takes = if takes then 1 else 0
 
--- The word of a card's slot was read, and the pass could take the slot for its change, or not. The row goes on by it if
--- the number is the next one of the row; if it is not, or if a search begins, another row begins with it, for a delete
--- or another change, where the pass has made so many step calls.
-abbrev pub sought_on : Slots → Bool → Bool → ℕ → ℕ → Bool → Seek → Seek
-sought_on s begins for_delete c made takes k =
-    if not begins && is_next s c k then record k { read = k.read + 1; takeable = k.takeable + one_if takes }
-    else record k { for_delete = for_delete; from = c; read = 1; takeable = one_if takes; made = made }
+-- the next number of a row was read too, for such a change, by such a safe number
+abbrev pub row_on : Bool → Bool → ℕ → Seek → Seek
+row_on for_delete takes safe k = record k {
+  for_delete = k.for_delete && for_delete;
+  read = k.read + 1;
+  takeable = k.takeable + one_if takes;
+  safe = min k.safe safe;
+}
+
+-- or another row begins with a number
+abbrev pub row_from : Bool → ℕ → ℕ → Bool → ℕ → Seek → Seek
+row_from for_delete c made takes safe k =
+    record k { for_delete = for_delete; from = c; read = 1; takeable = one_if takes; safe = safe; made = made }
+
+-- The word of a card's slot was read, and the pass could take the slot for its change, or not, by its safe number. The
+-- row goes on by it if the number is the next one of the row; if it is not, or if a search begins, another row begins
+-- with it, for a delete or another change, where the pass has made so many step calls.
+abbrev pub sought_on : Slots → Bool → Bool → ℕ → ℕ → Bool → ℕ → Seek → Seek
+sought_on s begins for_delete c made takes safe k =
+    if not begins && is_next s c k then row_on for_delete takes safe k else row_from for_delete c made takes safe k
 
 -- the slot of a card in hand could not be taken, which is counted
 abbrev pub missed_one : Seek → Seek
@@ -93,8 +110,8 @@ NumbersEnd s last card = (c : ℕ) → card ≤ c → has_slot_in s.last c ≡ t
 
 -- A row begins with the first number from this one on that has a slot, and has each slot once, or all such numbers up
 -- to the last one of the table; it was read for a delete, or another change, and began where the pass had made so many
--- step calls; and the pass could have taken none of its slots for that change.
-pub record HasNone (s : Slots) (last card : ℕ) (for_delete : Bool) (made : ℕ) (k : Seek) : Type 0 where
+-- step calls; and the pass could have taken none of its slots for that change, by safe numbers no less than this.
+pub record HasNone (s : Slots) (last card : ℕ) (for_delete : Bool) (made safe : ℕ) (k : Seek) : Type 0 where
   pub from : card ≤ k.from
   pub first : (c : ℕ) → card ≤ c → has_slot_in s.last c ≡ true → k.from ≤ c
   pub far : (k.read ≡ s.last + 1)
@@ -102,13 +119,15 @@ pub record HasNone (s : Slots) (last card : ℕ) (for_delete : Bool) (made : ℕ
   pub change : k.for_delete ≡ for_delete
   pub began : k.made ≡ made
   pub none : k.takeable ≡ 0
+  pub by : safe ≤ k.safe
 
 -- why a search from a number on found no slot to take: the numbers are at an end, or it has read a row that has none
-abbrev pub FindsNone : Slots → ℕ → ℕ → Bool → ℕ → Seek → Type 0
-FindsNone s last card for_delete made k = NumbersEnd s last card ⊎ HasNone s last card for_delete made k
+abbrev pub FindsNone : Slots → ℕ → ℕ → Bool → ℕ → ℕ → Seek → Type 0
+FindsNone s last card for_delete made safe k = NumbersEnd s last card ⊎ HasNone s last card for_delete made safe k
 
-abbrev pub FindsNoneIn : Option Slots → ℕ → ℕ → Bool → ℕ → Seek → Type 0
-FindsNoneIn slots last card for_delete made k = IfSome slots (λ s. FindsNone s last card for_delete made k)
+abbrev pub FindsNoneIn : Option Slots → ℕ → ℕ → Bool → ℕ → ℕ → Seek → Type 0
+FindsNoneIn slots last card for_delete made safe k =
+    IfSome slots (λ s. FindsNone s last card for_delete made safe k)
 
 -- a slot that was found is one that the change may have
 abbrev pub FindsOneFor : Option Slots → Bool → ℕ → Type 0

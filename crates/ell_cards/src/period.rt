@@ -194,6 +194,7 @@ impl<A: Allocator + Copy> CardTable<A> {
         requires slots { self.now.plan.slots ≡ Some slots }
         requires place { seat.old.me.0.period.place ≡ Some place }
         requires rest { IsAtRest (shown seat.old.me.0.tree) }
+        requires unlost { seat.old.me.0.period.lost ≡ None }
         ensures announced { seat.new.me.0.period ≡ after_retract seat.old.me.0.period }
         ensures tree { seat.new.me.0.tree ≡ seat.old.me.0.tree }
         ensures seat { (seat.new.table_id ≡ seat.old.table_id) × (seat.new.me.1 ≡ []) }

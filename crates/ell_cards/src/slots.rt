@@ -212,7 +212,8 @@ impl<A: Allocator + Copy> CardTable<A> {
     }
 
     // Reads the clock for the card that lies in a slot by this word: whose nodes the pass knows to be dead, or which it
-    // has laid aside. A card whose slot the pass has taken has a slot of the table.
+    // has laid aside. A card whose slot the pass has taken has a slot of the table. A pass that is in a period reads no
+    // less than the clock was when it began that.
     fn stamp(&self, seat: &mut Seat<(), Known>, slots: Slots, slot: u64, word: u64) -> u64
         requires own { seat.old.table_id ≡ self.now.id }
         requires empty { seat.old.me.1 ≡ [] }
@@ -221,6 +222,7 @@ impl<A: Allocator + Copy> CardTable<A> {
         ensures stamp { seat.new.me.0.period ≡ after_stamp (card_by slot word) result seat.old.me.0.period }
         ensures low { result ≤ last_reading }
         ensures inside { (c : ℕ) → seat.old.me.0.period.slot ≡ Some c → slot_of c ≤ slots.last }
+        ensures late { seat.old.me.0.period.announced ≢ None → seat.old.me.0.period.began ≤ result }
         ensures tree { seat.new.me.0.tree ≡ seat.old.me.0.tree }
         ensures seat { (seat.new.table_id ≡ seat.old.table_id) × (seat.new.me.1 ≡ []) }
     {
@@ -672,7 +674,7 @@ impl<A: Allocator + Copy> CardTable<A> {
         requires slots { self.now.plan.slots ≡ Some slots }
         requires slot { has_slot_in slots.last card ≡ true }
         ensures same { pass.new ≡ record (pass.old) {
-          sought = sought_on slots begins for_delete card pass.old.view.made result pass.old.sought;
+          sought = sought_on slots begins for_delete card pass.old.view.made result pass.old.safe pass.old.sought;
         } }
         ensures has { result ≡ true → may_have slots for_delete card ≡ true }
     {
@@ -696,7 +698,7 @@ impl<A: Allocator + Copy> CardTable<A> {
         ensures found { IfSome result (λ c. (card ≤ c) × (c ≤ self.now.plan.last_card) × (has_slot_in slots.last c ≡ true)) }
         ensures has { IfSome result (λ c. may_have slots for_delete c ≡ true) }
         ensures none { result ≡ None → FindsNone slots self.now.plan.last_card card for_delete pass.old.view.made
-            pass.new.sought }
+            pass.old.safe pass.new.sought }
         ensures missed { pass.new.sought.missed ≡ pass.old.sought.missed }
     {
         let _ = &self.table;
@@ -726,9 +728,10 @@ impl<A: Allocator + Copy> CardTable<A> {
         ensures same { pass.new ≡ record (pass.old) { safe = pass.new.safe; sought = pass.new.sought } }
         // If there is none, then no number of the table from this card on has a slot; or the pass has read the words
         // of all slots in a row, or of all that are left to numbers of the table, and could have taken none of them
-        // for its change. It has made no step call since it began that row.
+        // for its change, by a safe number no less than that which it has now. It has made no step call since it began
+        // that row.
         ensures none { result ≡ None → FindsNoneIn self.now.plan.slots self.now.plan.last_card card for_delete
-            pass.old.view.made pass.new.sought }
+            pass.old.view.made pass.new.safe pass.new.sought }
         // No slot of a card in hand was missed by that.
         ensures missed { pass.new.sought.missed ≡ pass.old.sought.missed }
         // Only a delete gets one of the last two slots.

@@ -155,6 +155,8 @@ pub struct Seek {
     pub read: u64,
     /// So many of these slots it could have taken for its change, by its safe number then.
     pub takeable: u64,
+    /// The least of its safe numbers when it read them.
+    pub safe: u64,
     /// How many step calls it had made when it began the row.
     pub made: u64,
     /// So many cards that it had in hand since it took a slot last had slots that it could not take.

@@ -112,5 +112,5 @@ IsInOrOut w stage x = Reached w x ⊎ (((c : ℕ) × TakesOut w stage c x) ⊎ I
 
 -- so is each node that came into the tree with a card that is not of the opening tree
 abbrev pub WhatCameIsInOrOut : Type 0
-WhatCameIsInOrOut = (m : Machine) (has : HasUses m) (x : ℕ) → is_start (has.outs.stages (card x)) ≡ false → Born has.outs.stages x
-    → IsInOrOut m.words has.outs.stages x
+WhatCameIsInOrOut = (m : Machine) (has : HasUses m) (x : ℕ) → is_start (has.outs.stages (card x)) ≡ false
+    → Born has.outs.stages x → IsInOrOut m.words has.outs.stages x

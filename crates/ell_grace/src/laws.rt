@@ -54,8 +54,8 @@ pub fn dead_nodes_stay_dead()
     ensures once { TakenOutHadCome }
     // A child of an internal node that was not dead in the earlier state was not dead there.
     ensures children { ChildrenWereNotDead }
-    // A node that came into the tree with a card that is not of the opening tree is in the tree, or a card has taken it out,
-    // or nobody uses it.
+    // A node that came into the tree with a card that is not of the opening tree is in the tree, or a card has taken it
+    // out, or nobody uses it.
     ensures came { WhatCameIsInOrOut }
 {}
 

@@ -10,6 +10,7 @@ use Rattle.ell_cards.specs.Taking.{IsTakenInRuns}
 use Rattle.ell_cards.specs.declared.view.Slots.{Slots}
 use Rattle.ell_cards.specs.Depths.{deepest}
 use Rattle.ell_cards.specs.Models.{PassModel, TablePlan}
+use Rattle.ell_cards.specs.PeriodLaws.{IsFullFor}
 use Rattle.ell_cards.specs.Seeking.{FindsNone}
 use Rattle.ell_cards.specs.Stepping.{SameShare}
 use Rattle.ell_tree.specs.declared.operations.NotDone.{NotDone}
@@ -56,14 +57,14 @@ is_delete (Delete key) = true
 is_delete _ = false
 
 -- A pass has sought a slot for an operation from the claim word on, as it read that last, and found none. The numbers
--- of the table are at an end there; or it has read the words of all slots in a row, and by its safe number then it
--- could have taken none of them for the operation: the last two are for deletes alone. It has made so many step calls at
--- most since it began that row.
+-- of the table are at an end there; or it has read the words of all slots in a row, and by its safe number then, which
+-- is no less than that which it has now, it could have taken none of them for the operation: the last two are for
+-- deletes alone. It has made so many step calls at most since it began that row.
 pub record HasSoughtInVain (s : Slots) (last : ℕ) (op : Op) (steps : ℕ) (p : PassModel) : Type 0 where
   pub from : ℕ
   pub made : ℕ
   pub next : p.view.next ≡ Some from
-  pub none : FindsNone s last from (is_delete op) made p.sought
+  pub none : FindsNone s last from (is_delete op) made p.safe p.sought
   pub since : p.view.made ≤ made + steps
 
 -- since it took a slot last, it has claimed so many cards whose slots it could not take, one more than there are slots
@@ -74,10 +75,13 @@ abbrev pub HasNoSlot : Slots → ℕ → Op → ℕ → PassModel → Type 0
 HasNoSlot s last op steps p = HasSoughtInVain s last op steps p ⊎ HasClaimedInVain s p
 
 -- No card is left to an operation: the claim word, as the pass read it last, says that all cards are given out. Where
--- cards lie in slots, the pass found no slot to take, and has made so many step calls at most since.
+-- cards lie in slots, the pass found no slot to take, and has made so many step calls at most since; and if it read the
+-- words of all slots in vain, they are full, in each state of the tree in which it knows this.
 pub record NoneIsLeft (plan : TablePlan) (op : Op) (steps : ℕ) (p : PassModel) : Type 0 where
   pub given_out : plan.slots ≡ None → p.view.next ≡ Some (plan.last_card + 1)
   pub no_slot : (s : Slots) → plan.slots ≡ Some s → HasNoSlot s plan.last_card op steps p
+  pub full : (s : Slots) → plan.slots ≡ Some s → plan.flat ≡ true → p.sought.read ≡ s.last + 1 → p.sought.takeable ≡ 0
+      → IsFullFor plan s p.sought
 
 -- why: something was in its way at each try; or its last try got no card, and was laid down by the next step call
 abbrev pub NotDoneFor : TablePlan → ℕ → Op → PassModel → PassModel → NotDone → Type 0

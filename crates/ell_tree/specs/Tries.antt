@@ -81,6 +81,7 @@ pub record Lays (op : Op) (old new : PassModel) : Type 0 where
   pub knows : StillKnows old.view new.view
   pub next : new.view.next ≡ old.view.next
   pub sought : new.sought ≡ old.sought
+  pub safe : new.safe ≡ old.safe
   pub facts : new.view.worker.knows ≡ old.view.worker.knows
   pub least : new.view.next_at_least ≡ old.view.next_at_least
   pub idle : IsIdle new

@@ -177,17 +177,21 @@ impl<A: Allocator + Copy> Tree<A> {
     /// Returns a flat tree, as `reserve_flat` does, whose cards come back, for at most this many passes at a time. A
     /// card lies in a slot, of which there are as many as cards are asked for and start keys given, and one more.
     /// Once the nodes of a card are out of the tree, and no call that might know of them is under way, its slot is
-    /// free for another card: so the tree goes on for as long as its keys fit into the slots, for which twice as many
-    /// slots as keys, and some more, are enough. A slot is held back while a call that began before it became free
-    /// goes on, and behind a look or a scan until `end_looks`. A change returns `Spent` if it finds no slot that it
-    /// may take, and may be made again. Only deletes take the last two, so in a tree that keys fill they can be taken
-    /// away. A slot serves 2^40 cards at most, one after the other, or is passed over instead. Each try of a
-    /// change makes at most `2 * s + 2` steps more than in another flat tree, if `s` is the number of the last slot,
-    /// and beside these some that are not counted, by which slots are looked for, set free and taken again. A split
-    /// also returns `TooManyPasses` if it finds no place for one more pass; a pass that is released, or joined to
-    /// another, makes room for one more, and one that is only dropped does not. The tree has no end yet: `close` is
-    /// for trees whose cards do not come back. Errors and conditions are otherwise those of `reserve_flat`, and there
-    /// are 1 to 1,000,000 passes.
+    /// free for another card. A slot is held back while a call that began before it became free goes on, and behind a
+    /// look or a scan until `end_looks`.
+    ///
+    /// A change returns `Spent` if it can take no slot, and may be made again. If more than `2 * n + 3 * p + 4 + y`
+    /// cards were asked for, where the tree has `n` keys, there may be `p` passes, and `y` slots were set free too
+    /// lately for the pass, then it returns `Spent` only if other passes take each slot first that it finds, or if
+    /// numbers are at an end: a slot serves 2^40 cards at most, one after the other, or is passed over instead. Only
+    /// deletes take the last two slots, so in a tree that keys fill they can be taken away.
+    ///
+    /// Each try of a change makes at most `2 * s + 2` steps more than in another flat tree, if `s` is the number of
+    /// the last slot, and beside these some that are not counted, by which slots are looked for, set free and taken
+    /// again. A split also returns `TooManyPasses` if it finds no place for one more pass; a pass that is released, or
+    /// joined to another, makes room for one more, and one that is only dropped does not. The tree has no end yet:
+    /// `close` is for trees whose cards do not come back. Errors and conditions are otherwise those of `reserve_flat`,
+    /// and there are 1 to 1,000,000 passes.
     pub fn reserve_reusing(
         alloc: A,
         start: &[(u64, u64)],

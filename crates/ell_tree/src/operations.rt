@@ -36,7 +36,7 @@ pub enum NotDone {
     /// All tries ended without an answer: something was in the way of each.
     #[error("something was in the way of each try")]
     Busy,
-    /// All cards of the tree are given out; or, where cards come back, no slot was found that could be taken.
+    /// All cards of the tree are given out; or, where cards come back, no slot could be taken, as `Tree::insert` says.
     #[error("all cards are given out")]
     Spent,
 }

@@ -248,8 +248,7 @@ impl<A: Allocator + Copy> Tree<A> {
     ) -> Option<(u64, u64)>
         requires may { IsIdlePassOf self.now pass.old }
         requires real { key ≤ greatest_key }
-        // The answer is the least present key above this one, with its value: it was present in one state since the
-        // call began, and each key before it was absent in one.
+        // The answer is as that of `next_at_least`, for the keys above this one.
         ensures so { IsNextIn self.now pass.new.view (key + 1) result }
         ensures one { pass.new.view.looks ≡ pass.old.view.looks + 1 }
         // It only loads, and makes at most `(cards + 1) * (2 * depth + 2) + 1` steps. Otherwise the pass is unchanged.
@@ -263,8 +262,7 @@ impl<A: Allocator + Copy> Tree<A> {
     /// Returns the least present key, with its value, as `next_at_least` does.
     pub fn first<G: StepGate>(&self, pass: &mut Pass<A>, gate: &G) -> Option<(u64, u64)>
         requires may { IsIdlePassOf self.now pass.old }
-        // The answer is the least present key, with its value: it was present in one state since the call began, and
-        // each key before it was absent in one.
+        // The answer is as that of `next_at_least`, for all keys.
         ensures so { IsNextIn self.now pass.new.view 0 result }
         ensures one { pass.new.view.looks ≡ pass.old.view.looks + 1 }
         // It only loads, and makes at most `(cards + 1) * (2 * depth + 2) + 1` steps. Otherwise the pass is unchanged.
@@ -306,8 +304,7 @@ impl<A: Allocator + Copy> Tree<A> {
     ) -> Option<(u64, u64)>
         requires may { IsIdlePassOf self.now pass.old }
         requires real { key ≤ greatest_key }
-        // The answer is the greatest present key below this one, with its value: it was present in one state since the
-        // call began, and each key after it was absent in one.
+        // The answer is as that of `last_at_most`, for the keys below this one.
         ensures so { IsLastIn self.now pass.new.view key result }
         ensures one { pass.new.view.looks ≡ pass.old.view.looks + 1 }
         // It only loads, and makes at most `(cards + 1) * (2 * depth + 2) + 1` steps. Otherwise the pass is unchanged.
@@ -321,8 +318,7 @@ impl<A: Allocator + Copy> Tree<A> {
     /// Returns the greatest present key, with its value, as `last_at_most` does.
     pub fn last<G: StepGate>(&self, pass: &mut Pass<A>, gate: &G) -> Option<(u64, u64)>
         requires may { IsIdlePassOf self.now pass.old }
-        // The answer is the greatest present key, with its value: it was present in one state since the call began, and
-        // each key after it was absent in one.
+        // The answer is as that of `last_at_most`, for all keys.
         ensures so { IsLastIn self.now pass.new.view (greatest_key + 1) result }
         ensures one { pass.new.view.looks ≡ pass.old.view.looks + 1 }
         // It only loads, and makes at most `(cards + 1) * (2 * depth + 2) + 1` steps. Otherwise the pass is unchanged.
@@ -372,10 +368,16 @@ impl<A: Allocator + Copy> Tree<A> {
 
     /// Adds a key of the pass, or a shared one, with its value. Returns whether the key was absent. A key that is
     /// present keeps its value. The call makes at least one try and at most `tries`. It returns `Busy` if something was
-    /// in the way of every try, and `Spent` if a try that would add the key finds all cards given out: after either,
-    /// the call has changed nothing, and nothing of it is under way. However it ends, whatever was in the way of a try
-    /// is over by then: a card that another pass took first, or a change of a neighbor, which was helped to its end if
-    /// no other call had ended it.
+    /// in the way of every try, and `Spent` if a try that would add the key finds no card: after either, the call has
+    /// changed nothing, and nothing of it is under way. However it ends, whatever was in the way of a try is over by
+    /// then: a card that another pass took first, or a change of a neighbor, which was helped to its end if no other
+    /// call had ended it.
+    ///
+    /// A call finds no card if all are given out. Where cards come back, it finds none if it can take no slot. If it
+    /// has read the words of all slots, then all but the two that are left to deletes are at most as many as the start
+    /// keys, two for each key of the tree, three, three for each place, and those that were set free too lately: with
+    /// a stamp no less than the safe number by which the pass read the words. Otherwise it has claimed one card more
+    /// than there are slots, and could take the slot of none, or no number with a slot is left.
     ///
     /// A call takes at most `tries * (7 * depth + 27) + 1` steps. Each try that ends without an answer shows the pass
     /// a card given out, or come to its end, that it did not know of, and no card does either twice: so with more
@@ -399,8 +401,11 @@ impl<A: Allocator + Copy> Tree<A> {
         // any key, the answer is that of one thread at one point of the call, in every run. A call without an answer
         // changes nothing in any run: `Busy` is returned only after as many hindrances as tries, and `Spent` only if no
         // card is left: the claim word says so; or, where cards come back, no number with a slot is left, or the pass
-        // has read the words of all slots that are left to numbers, in a row, and could have taken two at most, and
-        // none for a delete; or it has claimed in vain one card more than there are slots. What was in its way is over.
+        // has read the words of all slots that are left to numbers, in a row, and could have taken none for the change;
+        // or it has claimed in vain one card more than there are slots. If it has read the words of all slots, those
+        // for the change (all for a delete, and all but two for another one) are at most as many as the start keys, two
+        // for each key of the tree, three, three for each place, and those set free too lately. What was in its way is
+        // over.
         ensures ends { Ends self.now tries (Insert key value) pass.old pass.new (replied result) }
         // The pass was answered this call and no other, or nothing if the call has no answer.
         ensures called { IsCalled (Insert key value) pass.old pass.new (replied result) }
@@ -435,8 +440,7 @@ impl<A: Allocator + Copy> Tree<A> {
         requires tries { 1 ≤ tries }
         // The answer is the value that the key has, which becomes the new one exactly if it is `was`: on a key of the
         // pass in the pass's map, and on any key as of one thread at one point of the call, in every run. A call
-        // without an answer changes nothing in any run: `Busy` is returned only after as many hindrances as tries, and
-        // `Spent` only if no card is left, as by an insert. What was in its way is over.
+        // without an answer ends as an insert does, and what was in its way is over.
         ensures ends { Ends self.now tries (Swap key was value) pass.old pass.new (found_or_not_done result) }
         // The pass was answered this call and no other, or nothing if the call has no answer.
         ensures called { IsCalled (Swap key was value) pass.old pass.new (found_or_not_done result) }
@@ -460,8 +464,8 @@ impl<A: Allocator + Copy> Tree<A> {
     /// the value that it had, if it was present. The call reads the key, and then makes at least one try and at most
     /// `tries`. A try ends without success if something was in its way, as for `insert`, or if another pass has changed
     /// the key since it was read; the key is then read again. The call returns `Busy` if all tries end this way, and
-    /// `Spent` if a try finds all cards given out: after either, the call has changed nothing, and nothing of it is
-    /// under way.
+    /// `Spent` if a try finds no card, as for `insert`: after either, the call has changed nothing, and nothing of it
+    /// is under way.
     ///
     /// A call takes at most `3 * depth + 7` steps, and `10 * depth + 35` more for each try. No other pass changes
     /// anything about a key of the pass, so with more than `2 * cards` tries it is never `Busy`; on a shared key,
@@ -519,8 +523,7 @@ impl<A: Allocator + Copy> Tree<A> {
         requires tries { 1 ≤ tries }
         requires f { F.IsAlwaysCallable f }
         // The key had the value that is returned, and has what the closure made of it instead, by one step; an absent
-        // key stays absent. On a key of the pass, this holds in the pass's map, and on any key as of one thread at the
-        // point of the last operation, in every run.
+        // key stays absent. As for `put`, this holds in the pass's map, and as of one thread.
         ensures updates { IfOk result (UpdatesValue self.now key (F.post f) pass.old pass.new) }
         // Of all that the pass was answered by the call, only the last has changed anything: the swap of the value.
         ensures called { IsUpdateCalled key (F.post f) pass.old pass.new result }
@@ -561,8 +564,7 @@ impl<A: Allocator + Copy> Tree<A> {
         requires may { MayDo self.now key pass.old }
         requires tries { 1 ≤ tries }
         // The key had the value that is returned, and has the sum modulo 2^64 instead, by one step; an absent key stays
-        // absent. On a key of the pass, this holds in the pass's map, and on any key as of one thread at the point of
-        // the last operation, in every run.
+        // absent. As for `put`, this holds in the pass's map, and as of one thread.
         ensures adds { IfOk result (UpdatesValue self.now key (IsSum addend) pass.old pass.new) }
         // Of all that the pass was answered by the call, only the last has changed anything: the swap of the value.
         ensures called { IsUpdateCalled key (IsSum addend) pass.old pass.new result }
@@ -605,8 +607,11 @@ impl<A: Allocator + Copy> Tree<A> {
         // any key, the answer is that of one thread at one point of the call, in every run. A call without an answer
         // changes nothing in any run: `Busy` is returned only after as many hindrances as tries, and `Spent` only if no
         // card is left: the claim word says so; or, where cards come back, no number with a slot is left, or the pass
-        // has read the words of all slots that are left to numbers, in a row, and could have taken two at most, and
-        // none for a delete; or it has claimed in vain one card more than there are slots. What was in its way is over.
+        // has read the words of all slots that are left to numbers, in a row, and could have taken none for the change;
+        // or it has claimed in vain one card more than there are slots. If it has read the words of all slots, those
+        // for the change (all for a delete, and all but two for another one) are at most as many as the start keys, two
+        // for each key of the tree, three, three for each place, and those set free too lately. What was in its way is
+        // over.
         ensures ends { Ends self.now tries (Delete key) pass.old pass.new (replied result) }
         // The pass was answered this call and no other, or nothing if the call has no answer. The call took a value
         // exactly if it says so.
@@ -642,8 +647,11 @@ impl<A: Allocator + Copy> Tree<A> {
         // any key, the answer is that of one thread at one point of the call, in every run. A call without an answer
         // changes nothing in any run: `Busy` is returned only after as many hindrances as tries, and `Spent` only if no
         // card is left: the claim word says so; or, where cards come back, no number with a slot is left, or the pass
-        // has read the words of all slots that are left to numbers, in a row, and could have taken two at most, and
-        // none for a delete; or it has claimed in vain one card more than there are slots. What was in its way is over.
+        // has read the words of all slots that are left to numbers, in a row, and could have taken none for the change;
+        // or it has claimed in vain one card more than there are slots. If it has read the words of all slots, those
+        // for the change (all for a delete, and all but two for another one) are at most as many as the start keys, two
+        // for each key of the tree, three, three for each place, and those set free too lately. What was in its way is
+        // over.
         ensures ends { Ends self.now tries (Delete key) pass.old pass.new (replied (whether result)) }
         // The pass was answered this call and no other, which took the value that it returns; or nothing, if the call
         // has no answer.
@@ -681,9 +689,8 @@ impl<A: Allocator + Copy> Tree<A> {
         requires may { MayDo self.now key pass.old }
         requires tries { 1 ≤ tries }
         // If the answer is `was`, the key was deleted, and the value that it had at that point is `was`. Otherwise the
-        // answer is what the key had at the point of a find, and the call has changed nothing. On a key of the pass,
-        // this holds in the pass's map, and on any key as of one thread at the point of the last operation, in every
-        // run.
+        // answer is what the key had at the point of a find, and the call has changed nothing. As for `put`, this holds
+        // in the pass's map, and as of one thread.
         ensures removes { IfOk result (RemovesIf self.now key was pass.old pass.new) }
         // Of all that the pass was answered by the call, only the last has changed anything: the delete, which took
         // `was`.

@@ -79,8 +79,8 @@ pub extern "C" fn elltree_slot_insert(
 pub extern "C" fn elltree_slot_delete(alloc: Global, slot: &mut Slot, key: u64, tries: u32) -> i32
     // `CLOSED` is returned exactly if the slot has no handle.
     ensures closed { (result ≡ said_closed) ↔ (handle_of slot.old.raw.inside ≡ None) }
-    // `NO_TRIES` is returned exactly if no try is allowed, then `BAD_KEY` exactly for a key above the greatest one, and
-    // both leave the handle as it was. Otherwise the answer is that of the tree's `delete`.
+    // `NO_TRIES` and `BAD_KEY` are returned as by `elltree_slot_insert`. Otherwise the answer is that of the tree's
+    // `delete`.
     ensures tells { OfHandlesIfAny (Says (Outcome key tries (Deletes key tries)) code_of_whether result)
         (handle_of slot.old.raw.inside) (handle_of slot.new.raw.inside) }
 {
@@ -102,8 +102,8 @@ pub extern "C" fn elltree_slot_take(
     // `CLOSED` is returned exactly if the slot has no handle, and then nothing is written.
     ensures closed { (result ≡ said_closed) ↔ (handle_of slot.old.raw.inside ≡ None) }
     ensures kept { result ≡ said_closed → taken.new ≡ taken.old }
-    // `NO_TRIES` is returned exactly if no try is allowed, then `BAD_KEY` exactly for a key above the greatest one, and
-    // both leave the handle as it was. Otherwise the answer is that of the tree's `take`: the value is written with yes.
+    // `NO_TRIES` and `BAD_KEY` are returned as by `elltree_slot_insert`. Otherwise the answer is that of the tree's
+    // `take`: the value is written with yes.
     ensures tells { OfHandlesIfAny
         (SaysWith (Outcome key tries (Takes key tries)) code_of_value value_of result taken.old taken.new)
         (handle_of slot.old.raw.inside) (handle_of slot.new.raw.inside) }

@@ -39,9 +39,9 @@ pub extern "C" fn elltree_slot_open(
 
 /// Opens a tree, as `elltree_slot_open` does, whose cards come back, for this many handles: at least one and at most
 /// 1,000,000, and what is outside is taken as the nearest of these. The tree has a slot for each card asked for and
-/// each start key, and one more. A change returns `SPENT` if it finds no slot that it may take, and may be made
-/// again. A call for another handle returns `TOO_MANY_HANDLES` if the tree has as many handles as asked for; one that is
-/// closed makes room for another.
+/// each start key, and one more. A change returns `SPENT` if it can take no slot, as `Handle::open_reusing` says, and
+/// may be made again. A call for another handle returns `TOO_MANY_HANDLES` if the tree has as many handles as asked
+/// for; one that is closed makes room for another.
 #[unsafe(no_mangle)]
 pub extern "C" fn elltree_slot_open_reusing(
     alloc: Global,

@@ -16,7 +16,7 @@ pub enum Refusal {
     /// Something was in the way of each try, or another handle changed the key first.
     Busy,
     /// All cards of the tree are given out; `cards_left` returns how many are left. Or, in a tree whose cards come
-    /// back, each slot was in use when the call asked for it; the call may be made again.
+    /// back, no slot could be taken (`open_reusing`); the call may be made again.
     Spent,
     /// The number of cards is not 1 to 1,000,000.
     BadCards,

@@ -24,9 +24,9 @@ pub extern "C" fn elltree_slot_compare_exchange(
     // `CLOSED` is returned exactly if the slot has no handle, and then nothing is written.
     ensures closed { (result ≡ said_closed) ↔ (handle_of slot.old.raw.inside ≡ None) }
     ensures kept { result ≡ said_closed → found.new ≡ found.old }
-    // `NO_TRIES` is returned exactly if no try is allowed, then `BAD_KEY` exactly for a key above the greatest one, and
-    // both leave the handle as it was. Otherwise the answer is that of the tree's `swap`: yes if the key had the
-    // expected value, no if it is absent, and `OTHER_VALUE` if it has another one, which is written.
+    // `NO_TRIES` and `BAD_KEY` are returned as by `elltree_slot_insert`. Otherwise the answer is that of the tree's
+    // `swap` or `remove_if`: yes if the key had the expected value, no if it is absent, and `OTHER_VALUE` if it has
+    // another one, which is written.
     ensures tells { OfHandlesIfAny
         (SaysWith (Outcome key tries (Swaps key current new tries)) (code_of_expected current) value_of result found.old found.new)
         (handle_of slot.old.raw.inside) (handle_of slot.new.raw.inside) }
@@ -54,9 +54,9 @@ pub extern "C" fn elltree_slot_remove_if(
     // `CLOSED` is returned exactly if the slot has no handle, and then nothing is written.
     ensures closed { (result ≡ said_closed) ↔ (handle_of slot.old.raw.inside ≡ None) }
     ensures kept { result ≡ said_closed → found.new ≡ found.old }
-    // `NO_TRIES` is returned exactly if no try is allowed, then `BAD_KEY` exactly for a key above the greatest one, and
-    // both leave the handle as it was. Otherwise the answer is that of the tree's `remove_if`: yes if the key had the
-    // expected value, no if it is absent, and `OTHER_VALUE` if it has another one, which is written.
+    // `NO_TRIES` and `BAD_KEY` are returned as by `elltree_slot_insert`. Otherwise the answer is that of the tree's
+    // `swap` or `remove_if`: yes if the key had the expected value, no if it is absent, and `OTHER_VALUE` if it has
+    // another one, which is written.
     ensures tells { OfHandlesIfAny
         (SaysWith (Outcome key tries (Removes key current tries)) (code_of_expected current) value_of result found.old found.new)
         (handle_of slot.old.raw.inside) (handle_of slot.new.raw.inside) }
@@ -81,9 +81,8 @@ pub extern "C" fn elltree_slot_put(
     // `CLOSED` is returned exactly if the slot has no handle, and then nothing is written.
     ensures closed { (result ≡ said_closed) ↔ (handle_of slot.old.raw.inside ≡ None) }
     ensures kept { result ≡ said_closed → was.new ≡ was.old }
-    // `NO_TRIES` is returned exactly if no try is allowed, then `BAD_KEY` exactly for a key above the greatest one, and
-    // both leave the handle as it was. Otherwise the answer is that of the tree's `put`: yes, and the old value is
-    // written, if the key was present, and otherwise no.
+    // `NO_TRIES` and `BAD_KEY` are returned as by `elltree_slot_insert`. Otherwise the answer is that of the tree's
+    // call: yes, and the old value is written, if the key was present, and otherwise no.
     ensures tells { OfHandlesIfAny
         (SaysWith (Outcome key tries (Puts key value tries)) code_of_value value_of result was.old was.new)
         (handle_of slot.old.raw.inside) (handle_of slot.new.raw.inside) }
@@ -108,9 +107,8 @@ pub extern "C" fn elltree_slot_fetch_add(
     // `CLOSED` is returned exactly if the slot has no handle, and then nothing is written.
     ensures closed { (result ≡ said_closed) ↔ (handle_of slot.old.raw.inside ≡ None) }
     ensures kept { result ≡ said_closed → was.new ≡ was.old }
-    // `NO_TRIES` is returned exactly if no try is allowed, then `BAD_KEY` exactly for a key above the greatest one, and
-    // both leave the handle as it was. Otherwise the answer is that of the tree's `fetch_add`: yes, and the old value is
-    // written, if the key is present, and otherwise no.
+    // `NO_TRIES` and `BAD_KEY` are returned as by `elltree_slot_insert`. Otherwise the answer is that of the tree's
+    // call: yes, and the old value is written, if the key was present, and otherwise no.
     ensures tells { OfHandlesIfAny
         (SaysWith (Outcome key tries (Adds key addend tries)) code_of_value value_of result was.old was.new)
         (handle_of slot.old.raw.inside) (handle_of slot.new.raw.inside) }

@@ -33,6 +33,8 @@ pub mod Leaks
 pub mod Duties
 pub mod LeaksOfCalls
 pub mod LeaksOfHandovers
+-- what passes have read in their searches for slots
+pub mod Searches
 -- these steps as those of a whole table
 pub mod Going
 -- and those on the words of slots
@@ -55,3 +57,5 @@ pub mod Skipping
 pub mod Seeking
 -- how many slots are in use
 pub mod InUse
+-- and where no slot was found
+pub mod InVain

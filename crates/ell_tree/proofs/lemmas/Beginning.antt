@@ -88,6 +88,7 @@ lays old new op s busy = subst (λ (m : PassModel). Lays op old m) (sym s) (reco
   knows = λ f h. h;
   next = refl;
   sought = refl;
+  safe = refl;
   facts = refl;
   least = refl;
   idle = refl;

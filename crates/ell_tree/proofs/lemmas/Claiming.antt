@@ -16,7 +16,7 @@ use Rattle.ell_cards.specs.Models.{TablePlan, PassModel, Steps, flat_from, lates
 use Rattle.ell_cards.specs.Changes.{expected_tag, filling_for, filling_of, tag_of_claim, value_told}
 use Rattle.ell_cards.specs.Guards.{MayClaim, MayFill, Wants}
 use Rattle.ell_cards.specs.Periods.{most_claims}
-use Rattle.ell_cards.specs.Seeking.{FindsNone, missed_one}
+use Rattle.ell_cards.specs.Seeking.{FindsNone, FindsNoneIn, missed_one}
 use Rattle.ell_cards.specs.Shown.{cut_planned}
 use Rattle.ell_cards.specs.Skipping.{after_claimed_row, after_row, IsAfterRow, IsFresh}
 use Rattle.ell_cards.specs.Stepping.{LetsGo, MayInTable}
@@ -25,6 +25,7 @@ use Rattle.ell_cards.proofs.lemmas.views.Afters.{after_next}
 use Rattle.ell_cards.proofs.lemmas.views.Rows.{rows_keep, wants_same}
 use Rattle.ell_cards.proofs.lemmas.views.Searches.{may_claim}
 use Rattle.ell_cards.proofs.lemmas.views.Steps.{view_after}
+use Rattle.ell_cards.proofs.lemmas.whole.InVain.{sought_in_vain_means_full}
 use Rattle.ell_cards.proofs.lemmas.whole.Skipping.{from_some}
 use Rattle.ell_cards.proofs.lemmas.words.Updates.{clean_word}
 use Rattle.ell_tree.specs.declared.searching.Place.{Place}
@@ -367,6 +368,7 @@ asked_in_vain plan n old mid op place node_key h all = (
   record {
     given_out = λ empty. absurd (asked_slots plan n old mid h all empty);
     no_slot = λ s is. (let many = all ∙ ap most_claims is in inr (omega (arith, many, h.missed)));
+    full = λ s is flat whole none_takes. sought_in_vain_means_full plan s is flat mid.sought whole none_takes;
   },
   h.hindrances,
   lets_aside_go plan mid mid refl refl refl h.hand,
@@ -384,20 +386,38 @@ numbers_at_end plan op p from next past most = record {
     none = inl (λ c up inside. omega (arith, up, past));
     since = omega arith;
   };
+  full = λ s is flat whole none_takes. sought_in_vain_means_full plan s is flat p.sought whole none_takes;
+}
+
+-- no slot was found that could be taken
+pub none_found : (plan : TablePlan) (op : Op) (p : PassModel) (from made : ℕ) (for_delete : Bool) → plan.slots ≢ None → p.view.next ≡ Some from → p.view.made ≡ made → for_delete ≡ is_delete op
+    → FindsNoneIn plan.slots plan.last_card from for_delete made p.safe p.sought → NoneIsLeft plan op 0 p
+none_found plan op p from made for_delete there next same kind finds = record {
+  given_out = λ empty. absurd (there empty);
+  no_slot = λ s is. inl record {
+    from = from;
+    made = made;
+    next = next;
+    none = subst (λ b. FindsNone s plan.last_card from b made p.safe p.sought) kind (subst (λ o. FindsNoneIn o plan.last_card from for_delete made p.safe p.sought) is finds);
+    since = omega (arith, same);
+  };
+  full = λ s is flat whole none_takes. sought_in_vain_means_full plan s is flat p.sought whole none_takes;
 }
 
 -- a pass that has found no card left has found it still once the operation is laid down
-pub still_none : (plan : TablePlan) (op : Op) (old new : PassModel) → new.view.next ≡ old.view.next → new.sought ≡ old.sought → Took old new 1 → NoneIsLeft plan op 0 old → NoneIsLeft plan op 1 new
-still_none plan op old new next sought took none = record {
+pub still_none : (plan : TablePlan) (op : Op) (old new : PassModel) → new.view.next ≡ old.view.next → new.sought ≡ old.sought → new.safe ≡ old.safe → Took old new 1 → NoneIsLeft plan op 0 old → NoneIsLeft plan op 1 new
+still_none plan op old new next sought safe took none = record {
   given_out = λ empty. next ∙ none.given_out empty;
   no_slot = λ s is. elim (none.no_slot s is) [
     | inl vain ↦ inl record {
       from = vain.from;
       made = vain.made;
       next = next ∙ vain.next;
-      none = subst (FindsNone s plan.last_card vain.from (is_delete op) vain.made) (sym sought) vain.none;
+      none = subst (λ n. FindsNone s plan.last_card vain.from (is_delete op) vain.made n new.sought) (sym safe)
+          (subst (FindsNone s plan.last_card vain.from (is_delete op) vain.made old.safe) (sym sought) vain.none);
       since = omega (arith, took.made, vain.since);
     }
     | inr many ↦ inr (subst (λ (k : Seek). s.last + 2 ≤ k.missed) (sym sought) many)
   ];
+  full = λ s is flat whole none_takes. sought_in_vain_means_full plan s is flat new.sought whole none_takes;
 }

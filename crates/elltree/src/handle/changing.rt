@@ -9,8 +9,8 @@ use ell_tree::{KEY_MAX, NoGate};
 impl Handle {
     /// Adds a key with its value. Returns whether the key was absent. A key that is present keeps its value. Returns
     /// `NoTries` if no try is allowed, then `BadKey` if the key is above `KEY_MAX`; `Busy` if something was in the way
-    /// of each try, and `Spent` if all cards are given out or, in a tree whose cards come back, if each slot was in use
-    /// when the call asked for it. An insert that adds its key takes a card, and at most one more for each try that
+    /// of each try, and `Spent` if all cards are given out or, in a tree whose cards come back, if no slot could be
+    /// taken (`open_reusing`). An insert that adds its key takes a card, and at most one more for each try that
     /// something hindered; any other takes at most one for each of those.
     pub fn insert(&mut self, key: u64, value: u64, tries: u32) -> Result<bool, Refusal>
         // The outcome is that of the tree's `insert`.

@@ -42,12 +42,15 @@ impl Handle {
     /// The number of handles is at least one and at most `HANDLES_MAX`; what is outside is taken as the nearest of
     /// these. A card lies in a slot, of which there is one for each card asked for and each start key, and one more.
     /// Once the nodes of a card are out of the tree, and no call that might know of them is under way, its slot is free
-    /// for another card: so the tree goes on for as long as its keys fit into the slots, for which twice as many slots
-    /// as keys, and some more, are enough. A slot is held back while a call that began before it became free goes on. A
-    /// change returns `Spent` if it finds no slot that it may take, and may be made again. Only deletes take the last
-    /// two, so in a tree that keys fill they can be taken away. A change returns `Spent` for good once each slot was
-    /// taken, or passed over as it was in use, 2^40 times (`cards_left`). `another` returns `TooManyHandles` if the tree has as many handles as asked for; one that is released makes room for
-    /// another. Errors are as for `open`.
+    /// for another card. A slot is held back while a call that began before it became free goes on.
+    ///
+    /// A change returns `Spent` if it can take no slot, and may be made again. If more than `2 * n + 3 * h + 4 + y`
+    /// cards were asked for, where the tree has `n` keys, there may be `h` handles, and `y` slots were set free too
+    /// lately for the call, then it returns `Spent` only if other handles take each slot first that it finds, or, for
+    /// good, once each slot was taken, or passed over as it was in use, 2^40 times (`cards_left`). Only deletes take
+    /// the last two slots, so in a tree that keys fill they can be taken away. `another` returns `TooManyHandles` if
+    /// the tree has as many handles as asked for; one that is released makes room for another. Errors are as for
+    /// `open`.
     pub fn open_reusing(
         alloc: Global,
         start: &[Pair],

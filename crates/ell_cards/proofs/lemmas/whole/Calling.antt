@@ -60,7 +60,7 @@ use Rattle.ell_cards.proofs.lemmas.ties.Touched.{spots, touched_won, claim_is_wo
 use Rattle.ell_cards.proofs.lemmas.whole.Ages.{AgesOn}
 use Rattle.ell_cards.proofs.lemmas.whole.Going.{set_twice}
 use Rattle.ell_cards.proofs.lemmas.whole.Fields.{FillsWhole, fields_after, field_can}
-use Rattle.ell_cards.proofs.lemmas.whole.LeaksOfCalls.{flag_lost, leaks_after_call}
+use Rattle.ell_cards.proofs.lemmas.whole.LeaksOfCalls.{flag_lost, leaks_after_call, flags_by_hand}
 use Rattle.ell_cards.proofs.lemmas.whole.Losing.{aside_in_ages, lost_now}
 use Rattle.ell_cards.proofs.lemmas.ties.Apart.{tells_apart, tells_apart_plain}
 use Rattle.ell_cards.proofs.lemmas.whole.Apart.{passes_tell_apart, ready_there}
@@ -68,8 +68,10 @@ use Rattle.ell_cards.proofs.lemmas.whole.Lifts.{IsFill, is_its_own, can_be_shown
 use Rattle.ell_cards.proofs.lemmas.whole.Rests.{stays_at_rest}
 use Rattle.ell_cards.proofs.lemmas.whole.Retired.{HadInHand, held_before, retired_on}
 use Rattle.ell_cards.proofs.lemmas.whole.Seats.{lie_same}
-use Rattle.ell_cards.proofs.lemmas.whole.Trees.{tree_at, slots_stay, tree_periods}
+use Rattle.ell_cards.proofs.lemmas.whole.Trees.{tree_at, slots_stay, tree_periods, clock_stays}
 use Rattle.ell_cards.proofs.lemmas.words.Slotted.{slot_inside}
+use Rattle.ell_cards.proofs.lemmas.whole.Searches.{row_of, searches_same}
+use Rattle.ell_cards.specs.Searches.{SearchesAreSound}
 
 -- a card that is no later than the last one that may have a slot of its own has that
 own_slot : (c : ℕ) → c ≤ greatest_card → slot_of c ≡ c
@@ -312,6 +314,14 @@ module _ (plan : TablePlan) (s : WholeState) (h : IsWhole plan s) (id : ℕ) (k 
           lost_by (nothing is won) d flags unwon = absurd (false≢true (sym unwon ∙ won (λ none. some_not_none placed none) d flags))
           lost_by (loses e is flags' unwon') d flags unwon = ap (λ (x : Period). x.lost) is ∙ ap Some (flags_one c e d flags' flags)
 
+      -- and what passes have read in their searches is so still
+      noted_searches : (p : Period) → p.sought ≡ k.period.sought → p.announced ≡ k.period.announced → p.began ≡ k.period.began
+          → SearchesAreSound sl (record { words = set s.words (place_of c) cut; homes = homes; views = set s.views id (noting p) })
+      noted_searches p sought announced began =
+          searches_same sl s its_periods.2 id k here (noting p) (set s.words (place_of c) cut) homes
+          (let same = clock_stays s id k here (view_after h.tree k.tree c) sl (place_of c) cut tied_touch.inside in omega arith) (ap row_of sought) (λ a an. (sym announced ∙ an, began))
+          (slots_stay s id k here (view_after h.tree k.tree c) sl (place_of c) cut tied_touch.inside)
+
       abbrev Periods : List Known → Type 0
       Periods views = PeriodsAre plan (Some sl) after (record { words = set s.words (place_of c) cut; homes = homes; views = views })
 
@@ -320,14 +330,20 @@ module _ (plan : TablePlan) (s : WholeState) (h : IsWhole plan s) (id : ℕ) (k 
       lost_periods_too d flags unwon = (
         lost_now plan sl after (memory_after h.tree s homes id k c) id knows (set_there s.views id knows k here) tied_periods (Some d)
             (λ e is. subst (IsAside tied_ages.ages.now.machine.stages after.views) (same_Some d e is) (aside_in_ages plan sl h.tree s has.lie has.dead has.was_dead has.ages id k.tree tree_here c may (memory_after h.tree s homes id k c) tied_ages d flags unwon))
-            (λ e is. flag_lost c (found_by h.tree c) k.tree d flags unwon),
+            (λ e is. flag_lost c (found_by h.tree c) k.tree d flags unwon) (λ e is. in_period),
         subst (λ l. NothingLeaks sl (record { words = set s.words (place_of c) cut; homes = homes; views = l }) after.views tied_ages.ages.now.machine.words tied_ages.ages.now.machine.stages has.lie)
             (sym (set_twice s.views id knows (noting (record k.period { lost = Some d })))) (noted_leaks (record k.period { lost = Some d }) (loses d refl flags unwon)),
+        subst (λ l. SearchesAreSound sl (record { words = set s.words (place_of c) cut; homes = homes; views = l }))
+            (sym (set_twice s.views id knows (noting (record k.period { lost = Some d })))) (noted_searches (record k.period { lost = Some d }) refl refl refl),
       )
+        where
+          -- a pass with a card in hand is in a period
+          in_period : k.period.announced ≢ None
+          in_period quiet = flags_by_hand plan c d k.tree may flags ((has.periods.each id k here).rests quiet).empty
 
       whole_periods : (p : Period) → Notes plan.slots c (found_by h.tree c) k.period p → Periods (set s.views id (noting p))
       whole_periods p (nothing is flags) =
-          subst (λ q. Periods (set s.views id (noting q))) (sym is) (tied_periods, noted_leaks k.period (nothing refl flags))
+          subst (λ q. Periods (set s.views id (noting q))) (sym is) (tied_periods, noted_leaks k.period (nothing refl flags), noted_searches k.period refl refl refl)
       whole_periods p (loses d is flags unwon) =
           subst (λ q. Periods (set s.views id (noting q))) (sym is)
           (subst Periods (set_twice s.views id knows (noting (record k.period { lost = Some d }))) (lost_periods_too d flags unwon))

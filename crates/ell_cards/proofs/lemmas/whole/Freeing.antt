@@ -1,4 +1,4 @@
-use Rattle.std.proofs.Common.{◌≡◌, ◌≢◌, ℕ, ◌+◌, ◌*◌, ◌%◌, ◌<◌, ◌≤◌, ◌&&◌, not, if◌then◌else◌, Bool, true, false, Some, List, length, get_or, set, inl, inr, ◌⊎◌, refl, sym, ap, ◌∙◌, subst, arith, get_or-set_same, get_or-set_other}
+use Rattle.std.proofs.Common.{◌≡◌, ◌≢◌, ℕ, ◌+◌, ◌*◌, ◌%◌, ◌<◌, ◌≤◌, ◌&&◌, not, if◌then◌else◌, Bool, true, false, Some, List, length, get_or, set, inl, inr, ◌⊎◌, refl, sym, ap, ◌∙◌, subst, arith, get_or-set_same, get_or-set_other, None}
 use Rattle.std.proofs.lemmas.Bool.{cases_eq, false≢true}
 use Rattle.std.proofs.lemmas.Option.{same_Some}
 use mathlib.Core.Option.{some}
@@ -18,9 +18,10 @@ use Rattle.ell_cards.specs.Apart.{cut_node}
 use Rattle.ell_cards.specs.Dead.{HasTakenOut}
 use Rattle.ell_cards.specs.Models.{TablePlan}
 use Rattle.ell_cards.specs.Periods.{WholeState, clock_word, slot_word, slots_size, last_reading, LieInSlots, pending_by, after_read, after_seek, after_stamp, PeriodsAreSound}
-use Rattle.ell_cards.specs.Seeking.{could_have, is_next, one_if, sought_on}
+use Rattle.ell_cards.specs.Searches.{SearchesAreSound}
+use Rattle.ell_cards.specs.Seeking.{could_have, is_next, row_from, row_on, sought_on}
 use Rattle.ell_cards.specs.Shown.{shown}
-use Rattle.ell_cards.specs.SlotWords.{card_by, slot_of, turn_of, turn_in, free_word, is_noted}
+use Rattle.ell_cards.specs.SlotWords.{card_by, slot_of, stamp_in, turn_of, turn_in, free_word, is_noted}
 use Rattle.ell_cards.specs.Starts.{IsReached}
 use Rattle.ell_cards.specs.States.{TableState}
 use Rattle.ell_cards.specs.Stepping.{MayGoOn}
@@ -34,11 +35,12 @@ use Rattle.ell_cards.specs.Tied.{HasWon}
 use Rattle.ell_cards.proofs.lemmas.ties.KnownWon.{known_dead_won}
 use Rattle.ell_cards.proofs.lemmas.ties.Periods.{tie_of_period}
 use Rattle.ell_cards.proofs.lemmas.whole.Leaks.{holds_so, leaks_same, leaks_turned}
-use Rattle.ell_cards.proofs.lemmas.whole.Going.{GoesTo, turned_to, behind, same_noted, same_again, goes_on_there}
+use Rattle.ell_cards.proofs.lemmas.whole.Going.{GoesTo, turned_to, behind, past_again, same_noted, same_again, goes_on_there}
 use Rattle.ell_cards.proofs.lemmas.whole.Retired.{retired_are, retired_of_period, retired_so}
 use Rattle.ell_cards.proofs.lemmas.whole.Steps.{word_again}
-use Rattle.ell_cards.proofs.lemmas.whole.Seats.{period_was, lie_same}
-use Rattle.ell_cards.proofs.lemmas.whole.Slots.{slot_read, card_stamped, slot_noted, slot_freed, lie_noted, lie_freed}
+use Rattle.ell_cards.proofs.lemmas.whole.Searches.{SameRow, SoughtIsSo, announces_some, began_past, freed_late, searches_same, searches_sought, searches_turned, sought_more, sought_still}
+use Rattle.ell_cards.proofs.lemmas.whole.Seats.{period_was, lie_same, clock_before_slots}
+use Rattle.ell_cards.proofs.lemmas.whole.Slots.{slot_read, card_stamped, free_stamp, slot_noted, slot_freed, lie_noted, lie_freed}
 use Rattle.ell_cards.proofs.lemmas.words.NotedBits.{few_noted}
 use Rattle.ell_cards.proofs.lemmas.words.Slotted.{slot_inside}
 
@@ -47,10 +49,10 @@ pub lies_by : (c slot n : ℕ) → slot ≡ slot_of c → turn_in n ≡ turn_of 
 lies_by c slot n at turn = omega arith
 
 -- a search notes nothing
-sought_retired : (s : Slots) (begins for_delete : Bool) (c made : ℕ) (takes : Bool) (k : Seek) → (sought_on s begins for_delete c made takes k).retired ≡ k.retired
-sought_retired s begins for_delete c made takes k = by (not begins && is_next s c k)
+sought_retired : (s : Slots) (begins for_delete : Bool) (c made : ℕ) (takes : Bool) (safe : ℕ) (k : Seek) → (sought_on s begins for_delete c made takes safe k).retired ≡ k.retired
+sought_retired s begins for_delete c made takes safe k = by (not begins && is_next s c k)
   where
-    by : (b : Bool) → (if b then record k { read = k.read + 1; takeable = k.takeable + one_if takes } else record k { for_delete = for_delete; from = c; read = 1; takeable = one_if takes; made = made }).retired ≡ k.retired
+    by : (b : Bool) → (if b then row_on for_delete takes safe k else row_from for_delete c made takes safe k).retired ≡ k.retired
     by true = refl
     by false = refl
 
@@ -100,9 +102,9 @@ module _ (plan : TablePlan) (s : Slots) (tree : TableState) (t : WholeState) (id
       retired_are h.ages.now.machine.words h.ages.now.machine.words c retired (OutThere t.words) (OutThere words) refl refl (λ x is. (is.0, keeps x is.0 is.1)) (mine c slot hand)
 
   -- it reads the word of a slot, whatever its search has read then, and it may have noted more
-  pub reads_now : (slot : ℕ) → slot ≤ s.last → (sought : Seek) → HasRetired t.words sought.retired
+  pub reads_now : (slot : ℕ) → slot ≤ s.last → (sought : Seek) → HasRetired t.words sought.retired → (SearchesAreSound s t → SoughtIsSo s t sought)
       → GoesTo plan s tree t h (turned_to t id k (record (after_read slot (get_or t.words (slot_word s slot) 0) k.period) { sought = sought }) (slot_word s slot) (get_or t.words (slot_word s slot) 0))
-  reads_now slot inside sought mine =
+  reads_now slot inside sought mine searched =
       let n = get_or t.words (slot_word s slot) 0 in record {
         periods = record {
           lie = h.lie;
@@ -126,6 +128,8 @@ module _ (plan : TablePlan) (s : Slots) (tree : TableState) (t : WholeState) (id
         };
         leaks = λ was. leaks_same s t tree.views h.ages.now.machine.words h.ages.now.machine.stages h.lie was id k here (record (after_read slot n k.period) { sought = sought }) (set t.words (slot_word s slot) n)
             (λ other low used. holds_so k (record (after_read slot n k.period) { sought = sought }) refl refl (h.lie other)) same;
+        searches = λ was. searches_sought s t was id k here (record { tree = k.tree; period = record (after_read slot n k.period) { sought = sought } }) (set t.words (slot_word s slot) n) t.homes
+            (word_again t.words (slot_word s slot) (omega arith) (clock_word s)) (λ other low. same other) refl refl (searched was);
       }
     where
       now : ℕ
@@ -170,6 +174,8 @@ module _ (plan : TablePlan) (s : Slots) (tree : TableState) (t : WholeState) (id
         };
         leaks = λ was. leaks_same s t tree.views h.ages.now.machine.words h.ages.now.machine.stages h.lie was id k here (after_stamp c n k.period) (set t.words (clock_word s) n)
             (λ other low used. holds_so k (after_stamp c n k.period) refl refl (h.lie other)) same;
+        searches = λ was. searches_same s t was id k here (record { tree = k.tree; period = after_stamp c n k.period }) (set t.words (clock_word s) n) t.homes
+            (past_again plan s tree t id k here h size (clock_word s) (omega arith)) refl (λ a an. (an, refl)) (λ other low. same other);
       }
     where
       same : (other : ℕ) → get_or (set t.words (clock_word s) (get_or t.words (clock_word s) 0)) (slot_word s other) 0 ≡ get_or t.words (slot_word s other) 0
@@ -228,8 +234,9 @@ module _ (plan : TablePlan) (s : Slots) (tree : TableState) (t : WholeState) (id
       → PeriodsAreSound s (turned_to t id k (record (k.period) { sought = sought }) (slot_word s slot) n) h.lie h.dead h.began h.was_dead
       → ((i : ℕ) → is_noted n i ≡ true → OutNow (4 * h.lie slot + i))
       → (n % 8 ≢ 7 → (i : ℕ) → is_noted n i ≡ true → (is_noted (get_or t.words (slot_word s slot) 0) i ≡ true) ⊎ HasWon h.ages.now.machine.stages (h.lie slot))
+      → SameRow k.period.sought sought → (SearchesAreSound s t → (n % 8 ≢ 7) ⊎ ((j : ℕ) (u : Known) → get_elem? t.views j ≡ some u → u.period.sought.safe ≤ stamp_in n))
       → GoesTo plan s tree t h (turned_to t id k (record (k.period) { sought = sought }) (slot_word s slot) n)
-  turns_now slot n sought inside was keeps mine lies sound notes won = record {
+  turns_now slot n sought inside was keeps mine lies sound notes won row turned = record {
     periods = record {
       lie = h.lie;
       lies = lies;
@@ -251,6 +258,8 @@ module _ (plan : TablePlan) (s : Slots) (tree : TableState) (t : WholeState) (id
     };
     leaks = λ leaks. leaks_turned s t tree.views h.ages.now.machine.words h.ages.now.machine.stages h.lie leaks id k here (record (k.period) { sought = sought }) slot n inside (omega arith)
         (λ other low used. holds_so k (record (k.period) { sought = sought }) refl refl (h.lie other)) (λ some. was) won keeps;
+    searches = λ was. searches_turned s t was id k here (record { tree = k.tree; period = record (k.period) { sought = sought } }) (set t.words (slot_word s slot) n) t.homes
+        (let same = get_or-set_other t.words (slot_word s slot) (clock_word s) n 0 (λ e. (let behind_clock = clock_before_slots s slot in omega arith)) in omega arith) row (λ a an. (an, refl)) slot n inside (omega arith) refl (turned was);
   }
     where
       noted : (other i : ℕ) → other ≤ s.last → is_noted (get_or (set t.words (slot_word s slot) n) (slot_word s other) 0) i ≡ true → OutNow (4 * h.lie other + i)
@@ -268,9 +277,9 @@ module _ (plan : TablePlan) (s : Slots) (tree : TableState) (t : WholeState) (id
   pub notes_now : (slot n m : ℕ) (sought : Seek) → slot ≤ s.last → get_or t.words (slot_word s slot) 0 ≡ n → turn_in m ≡ turn_in n → n % 8 ≢ 7 → m % 8 ≢ 7
       → ((i : ℕ) → is_noted n i ≡ true → is_noted m i ≡ true)
       → ((i : ℕ) → is_noted m i ≡ true → (is_noted n i ≡ true) ⊎ KnowsDeadNode k.tree (4 * card_by slot n + i))
-      → HasRetired (set t.words (slot_word s slot) m) sought.retired
+      → HasRetired (set t.words (slot_word s slot) m) sought.retired → SameRow k.period.sought sought
       → GoesTo plan s tree t h (turned_to t id k (record (k.period) { sought = sought }) (slot_word s slot) m)
-  notes_now slot n m sought inside is turn some_bit some_bit' more knows mine =
+  notes_now slot n m sought inside is turn some_bit some_bit' more knows mine row =
       turns_now slot m sought inside used (λ some i was. more i (subst (λ x. is_noted x i ≡ true) is was)) mine (lie_noted s h.lie t.words h.lies slot (omega arith) m used (turn ∙ ap turn_in (sym is)))
       (slot_noted s t id k here h.lie h.dead h.began h.was_dead h.periods size slot inside sought m used some_bit')
       (λ i noted. elim (knows i noted) [
@@ -281,6 +290,7 @@ module _ (plan : TablePlan) (s : Slots) (tree : TableState) (t : WholeState) (id
         | inl was ↦ inl (subst (λ x. is_noted x i ≡ true) (sym is) was)
         | inr dead ↦ inr (subst (HasWon h.ages.now.machine.stages) (sym lies_there) (known_won (card_by slot n) i (few_noted m i noted) dead))
       ])
+      row (λ searches. inl some_bit')
     where
       used : get_or t.words (slot_word s slot) 0 % 8 ≢ 7
       used e = some_bit (ap (λ x. x % 8) (sym is) ∙ e)
@@ -292,12 +302,14 @@ module _ (plan : TablePlan) (s : Slots) (tree : TableState) (t : WholeState) (id
   pub frees_now : (slot reading : ℕ) (sought : Seek) → slot ≤ s.last → (n : ℕ) → get_or t.words (slot_word s slot) 0 ≡ n → n % 8 ≢ 7
       → k.period.stamp ≡ Some (record { card = card_by slot n; reading = reading })
       → HasRetired (set t.words (slot_word s slot) (free_word reading)) sought.retired
+      → SameRow k.period.sought sought → k.period.announced ≢ None → k.period.began ≤ reading
       → GoesTo plan s tree t h (turned_to t id k (record (k.period) { sought = sought }) (slot_word s slot) (free_word reading))
-  frees_now slot reading sought inside n is some_bit has mine =
+  frees_now slot reading sought inside n is some_bit has mine row in_period late =
       turns_now slot (free_word reading) sought inside (λ e. some_bit (ap (λ x. x % 8) (sym is) ∙ e)) (λ some. absurd (some (omega arith))) mine (lie_freed s h.lie t.words h.lies slot (omega arith) reading)
       (slot_freed s t id k here h.lie h.dead h.began h.was_dead h.periods size slot inside sought reading (h.tied.own slot inside) stamp)
       (λ i noted. h.ages.now.each (h.lie slot) i (few_noted (free_word reading) i noted) dead)
       (λ some. absurd (some (omega arith)))
+      row (λ searches. inr (freed_late s t searches id k here in_period (free_word reading) (let stamp_is = free_stamp reading in omega arith)))
     where
       lies_there : h.lie slot ≡ card_by slot n
       lies_there = h.lies slot inside (λ e. some_bit (ap (λ x. x % 8) (sym is) ∙ e)) ∙ ap (card_by slot) is
@@ -314,7 +326,7 @@ module _ (plan : TablePlan) (s : Slots) (placed : plan.slots ≡ Some s) (slot :
   pub reads_slot : (k : Known) → MayGoOn plan k (slot_word s slot) (λ n. n) (λ n p. p ≡ after_read slot n k.period)
   reads_slot k =
       goes_on_there plan s placed k (slot_word s slot) (λ n. n) (λ n p. p ≡ after_read slot n k.period) (λ t. after_read slot (get_or t.words (slot_word s slot) 0) k.period)
-      (λ tree t id reached here there h size. (reads_now plan s tree t id k here there h size reached slot inside k.period.sought (λ c at hand. h.retired id c k here at hand), refl))
+      (λ tree t id reached here there h size. (reads_now plan s tree t id k here there h size reached slot inside k.period.sought (λ c at hand. h.retired id c k here at hand) (λ was. sought_still s t was id k here k.period.sought refl), refl))
 
   -- whatever slot a word is of
   pub reads_any : (k : Known) (word : ℕ) → word ≡ slot_word s slot
@@ -340,20 +352,27 @@ module _ (plan : TablePlan) (s : Slots) (placed : plan.slots ≡ Some s) (slot :
         subst (λ x. GoesTo plan s tree t h (turned_to t id k (record (after_read x (get_or t.words (slot_word s slot) 0) k.period) { sought = now t }) (slot_word s slot) (get_or t.words (slot_word s slot) 0))) (sym lies)
             (reads_now plan s tree t id k here there h size reached slot inside (now t)
             (λ d at hand. subst (λ r. AreRetired h.ages.now.machine.words d r (λ x. IsOut plan tree h.ages.now.machine h.ages.now.uses x × IsNotedThere s t.words h.lie x))
-            (sym (sought_retired s begins for_delete c made (could_have s for_delete c (get_or t.words (slot_word s slot) 0) k.period.safe) k.period.sought)) (h.retired id d k here at hand))),
+            (sym (sought_retired s begins for_delete c made (could_have s for_delete c (get_or t.words (slot_word s slot) 0) k.period.safe) k.period.safe k.period.sought)) (h.retired id d k here at hand))
+            (λ was. subst (λ x. SoughtIsSo s t (sought_on s begins for_delete c made (could_have s for_delete c (get_or t.words (slot_word s x) 0) k.period.safe) k.period.safe k.period.sought)) lies
+            (sought_more s t h.lie h.dead h.began h.was_dead h.periods was id k here begins for_delete c made (subst (λ x. x ≤ s.last) (sym lies) inside)))),
         refl,
       )))
     where
       now : WholeState → Seek
-      now t = sought_on s begins for_delete c made (could_have s for_delete c (get_or t.words (slot_word s slot) 0) k.period.safe) k.period.sought
+      now t = sought_on s begins for_delete c made (could_have s for_delete c (get_or t.words (slot_word s slot) 0) k.period.safe) k.period.safe k.period.sought
 
 -- a pass reads the clock for a card whose nodes it knows dead, or which it laid aside
 pub stamps_card : (plan : TablePlan) (s : Slots) → plan.slots ≡ Some s → (k : Known) (c : ℕ) → MayStamp k c
-    → MayGoOn plan k (clock_word s) (λ n. n) (λ n p. (p ≡ after_stamp c n k.period) × (n ≤ last_reading) × ((d : ℕ) → k.period.slot ≡ Some d → slot_of d ≤ s.last))
+    → MayGoOn plan k (clock_word s) (λ n. n) (λ n p. (p ≡ after_stamp c n k.period) × (n ≤ last_reading) × ((d : ℕ) → k.period.slot ≡ Some d → slot_of d ≤ s.last) × (k.period.announced ≢ None → k.period.began ≤ n))
 stamps_card plan s placed k c may =
-    goes_on_there plan s placed k (clock_word s) (λ n. n) (λ n p. (p ≡ after_stamp c n k.period) × (n ≤ last_reading) × ((d : ℕ) → k.period.slot ≡ Some d → slot_of d ≤ s.last))
+    goes_on_there plan s placed k (clock_word s) (λ n. n) (λ n p. (p ≡ after_stamp c n k.period) × (n ≤ last_reading) × ((d : ℕ) → k.period.slot ≡ Some d → slot_of d ≤ s.last) × (k.period.announced ≢ None → k.period.began ≤ n))
     (λ t. after_stamp c (get_or t.words (clock_word s) 0) k.period)
     (λ tree t id reached here there h size. (
       stamps_now plan s tree t id k here there h size reached c may,
-      (refl, h.periods.low, λ d at. slot_inside s.last d (h.tied.slotted id d k here at)),
+      (
+        refl,
+        h.periods.low,
+        λ d at. slot_inside s.last d (h.tied.slotted id d k here at),
+        λ busy. (let says = announces_some k.period.announced busy in began_past s t h.lie h.dead h.began h.was_dead h.periods id says.0 k here says.1),
+      ),
     ))

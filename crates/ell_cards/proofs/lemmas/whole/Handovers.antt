@@ -23,6 +23,7 @@ use Rattle.ell_cards.proofs.lemmas.whole.Ages.{AgesOn, Onward, onward, dead_on, 
 use Rattle.ell_cards.proofs.lemmas.whole.Rests.{is_at_rest}
 use Rattle.ell_cards.proofs.lemmas.whole.Seats.{part_same, part_put}
 use Rattle.ell_cards.proofs.lemmas.whole.Trees.{grace_same}
+use Rattle.ell_cards.proofs.lemmas.whole.Searches.{PassWas, knew, nobody}
 
 -- what is at a place of a list with one more at its end
 pub at_end : {A : Type 0} (l : List A) (a b : A) (j : ℕ) → get_elem? (l ++ a ∷ []) j ≡ some b → (get_elem? l j ≡ some b) ⊎ ((j ≡ length l) × (a ≡ b))
@@ -67,6 +68,7 @@ module _ (sl : Slots) (t : WholeState) (id : ℕ) (k : Known) (here : get_elem? 
     reading = holds.reading;
     rests = λ is. left_rests;
     idle = λ c is. left_rests.empty;
+    stays = holds.stays;
   }
 
   right_holds : PeriodHolds sl t.words right_known
@@ -78,6 +80,7 @@ module _ (sl : Slots) (t : WholeState) (id : ℕ) (k : Known) (here : get_elem? 
     reading = λ n is. absurd (some_not_none is refl);
     rests = λ is. right_rests;
     idle = λ c is. right_rests.empty;
+    stays = λ c is. absurd (some_not_none is refl);
   }
 
   -- whose a pass's place was before the split: the left part has the pass's own, the right part its other one
@@ -136,6 +139,15 @@ module _ (sl : Slots) (t : WholeState) (id : ℕ) (k : Known) (here : get_elem? 
   part_parted : {A : Type 0} (part : Period → A) → part (after_give k.period) ≡ part k.period → part (given_period k.period) ≡ part no_period → (i : ℕ)
       → part (period_in parted.views i) ≡ part (period_in t.views i)
   part_parted part same new i = part_more part (set t.views id left_known) right_known new i ∙ part_same t.views id k here left_known part same i
+
+  -- what each part knows of a search and of its period, the pass knew, or it knows nothing
+  pub split_was : (j : ℕ) (u : Known) → get_elem? parted.views j ≡ some u → PassWas t u
+  split_was j u at = by (origin j u at)
+    where
+      by : Origin j u → PassWas t u
+      by (of_left e is) = subst (PassWas t) is (knew id k here refl refl refl)
+      by (of_right e is) = subst (PassWas t) is (nobody refl refl)
+      by (of_other apart there) = knew j u there refl refl refl
 
   pub split_periods : PeriodsAreSound sl parted lie dead began was_dead
   split_periods = record {
@@ -240,6 +252,7 @@ module _ (sl : Slots) (t : WholeState) (id other : ℕ) (k l : Known) (here : ge
         reading = mine.reading;
         rests = λ is. is_at_rest (joined_view k.tree l.tree) refl refl refl refl refl;
         idle = λ c is. refl;
+        stays = mine.stays;
       }
 
   spent_holds : PeriodHolds sl t.words spent_known
@@ -251,6 +264,7 @@ module _ (sl : Slots) (t : WholeState) (id other : ℕ) (k l : Known) (here : ge
     reading = λ n is. absurd (some_not_none is refl);
     rests = λ is. is_at_rest spent_view refl refl refl refl refl;
     idle = λ c is. refl;
+    stays = λ c is. absurd (some_not_none is refl);
   }
 
   pub data Before (j : ℕ) (u : Known) : Type 0 where
@@ -306,6 +320,15 @@ module _ (sl : Slots) (t : WholeState) (id other : ℕ) (k l : Known) (here : ge
   part_joined {A} part same i =
       part_put (set t.views id both) other l still_there spent_known part i
       ∙ ap (λ (f : ℕ → A). put f other (part no_period) i) (λ p j. part_same t.views id k here both part same j p)
+
+  -- what the pass that has both knows of a search and of its period, it knew, and the other one knows nothing
+  pub join_was : (j : ℕ) (u : Known) → get_elem? joined.views j ≡ some u → PassWas t u
+  join_was j u at = by (before j u at)
+    where
+      by : Before j u → PassWas t u
+      by (of_both e is) = subst (PassWas t) is (knew id k here refl refl refl)
+      by (of_spent is) = subst (PassWas t) is (nobody refl refl)
+      by (of_another apart aside still) = knew j u still refl refl refl
 
   pub join_periods : PeriodsAreSound sl joined lie dead began was_dead
   join_periods = record {

@@ -135,7 +135,7 @@ won_open : (s : Stage) → IsWonStage s → is_start s ≡ false → has_ended s
 won_open s (claimed, settled) unstarted un = grind arith
 
 -- a word that sets no slot free leaves a node unnoted
-some_unnoted : (n : ℕ) → n % 8 ≢ 7 → (i : ℕ) × (i < 3) × (is_noted n i ≡ false)
+pub some_unnoted : (n : ℕ) → n % 8 ≢ 7 → (i : ℕ) × (i < 3) × (is_noted n i ≡ false)
 some_unnoted n used = elim (cases_Bool (is_noted n 0)) [
   | inr e ↦ (0, omega arith, e)
   | inl a ↦ elim (cases_Bool (is_noted n 1)) [
@@ -305,7 +305,7 @@ module _ (plan : TablePlan) (s : Slots) (tree : TableState) (t : WholeState) (fl
   slots_listed : (slot : ℕ) → IsInUse s t slot → Contains (map slot_of all_cards) slot
   slots_listed slot live = subst (Contains (map slot_of all_cards)) (h.tied.own slot live.0) (has_mapped slot_of all_cards (h.lie slot) (slot_listed slot live.0 live.1))
 
-  few_slots : (pairs : List (ℕ × ℕ)) → ListsTreePairs (own_words tree) pairs → (slots : List ℕ) → IsDistinct (λ a b. a == b) slots → AllByRecursion (IsInUse s t) slots
+  pub few_slots : (pairs : List (ℕ × ℕ)) → ListsTreePairs (own_words tree) pairs → (slots : List ℕ) → IsDistinct (λ a b. a == b) slots → AllByRecursion (IsInUse s t) slots
       → length slots ≤ length plan.start + (2 * length pairs + 3) + 3 * length busy
   few_slots pairs lists slots distinct live =
       let short = length-le_from_is_member nat_eq_equiv slots (map slot_of all_cards) distinct

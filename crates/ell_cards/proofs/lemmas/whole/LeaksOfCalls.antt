@@ -243,6 +243,12 @@ flag_lost (call.IFlag e p from) n v d flags unwon = hand_lost (n == packed from)
 flag_lost (call.DFlag e gp from) n v d flags unwon = hand_lost (n == packed from) unwon (fact.DFlagged e) gp (unpacked n) v (after (call.DFlag e gp from) n v) refl
 flag_lost _ n v d flags unwon = absurd flags
 
+-- a pass that is to flag a card has it in hand
+pub flags_by_hand : (plan : TablePlan) (c : Call) (d : ℕ) (v : View) → May plan c v → FlagsCard c d → v.worker.card ≢ None
+flags_by_hand plan (call.IFlag e p from) d v may flags empty = some_not_none may.may.holds empty
+flags_by_hand plan (call.DFlag e gp from) d v may flags empty = some_not_none may.may.holds empty
+flags_by_hand plan _ d v may flags empty = absurd flags
+
 -- what a call wins for a card is one exchange at most
 one_at_most : (b : Bool) (k : Exchange) → length (if b then k ∷ [] else []) ≤ 1
 one_at_most true k = omega arith

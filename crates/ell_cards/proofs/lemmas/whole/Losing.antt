@@ -40,6 +40,7 @@ use Rattle.ell_cards.proofs.lemmas.whole.Steps.{periods_after, word_again}
 use Rattle.ell_cards.proofs.lemmas.whole.Trees.{grace_same}
 use Rattle.ell_cards.proofs.lemmas.words.NotedBits.{unnoted}
 use Rattle.ell_cards.proofs.lemmas.words.Slotted.{slot_inside}
+use Rattle.ell_cards.proofs.lemmas.whole.Searches.{searches_same}
 
 -- in the state to which a call leads that loses a flag, its card was laid aside
 pub aside_onward : (plan : TablePlan) (s : TableState) (r : HasMachine plan s) (uses : HasUses (machine_of_table plan s r)) (seat : ℕ) (v : View)
@@ -57,7 +58,7 @@ aside_in_ages plan s tree t lie dead was_dead h id v there c may t' on d flags u
 
 module _ (plan : TablePlan) (s : Slots) (tree : TableState) (t : WholeState) (id : ℕ) (k : Known) (here : get_elem? t.views id ≡ some k)
     (h : HasPeriods plan s tree t) (o : Option ℕ) (aside : (c : ℕ) → o ≡ Some c → IsAside h.ages.now.machine.stages tree.views c)
-    (idle : (c : ℕ) → o ≡ Some c → k.tree.worker.card ≡ None) where
+    (idle : (c : ℕ) → o ≡ Some c → k.tree.worker.card ≡ None) (stays_in : (c : ℕ) → o ≡ Some c → k.period.announced ≢ None) where
   abbrev noting : Period
   noting = record k.period { lost = o }
 
@@ -80,6 +81,7 @@ module _ (plan : TablePlan) (s : Slots) (tree : TableState) (t : WholeState) (id
     reading = was.reading;
     rests = was.rests;
     idle = idle;
+    stays = stays_in;
   }
 
   pub lost_periods : PeriodsAreSound s after h.lie h.dead h.began h.was_dead
@@ -129,9 +131,10 @@ module _ (plan : TablePlan) (s : Slots) (tree : TableState) (t : WholeState) (id
       → (NothingLeaks s t tree.views h.ages.now.machine.words h.ages.now.machine.stages h.lie → (slot : ℕ) → slot ≤ s.last → get_or t.words (slot_word s slot) 0 % 8 ≢ 7 → h.lie slot ≡ c → ⊥)
       → GoesTo plan s tree t h (record { words = t.words; homes = t.homes; views = set t.views id freed })
   unlost_now c lost_it gone = record {
-    periods = lost_now plan s tree t id k here h None (λ d none. absurd (some_not_none none refl)) (λ d none. absurd (some_not_none none refl));
+    periods = lost_now plan s tree t id k here h None (λ d none. absurd (some_not_none none refl)) (λ d none. absurd (some_not_none none refl)) (λ d none. absurd (some_not_none none refl));
     leaks = λ was. leaks_same s t tree.views h.ages.now.machine.words h.ages.now.machine.stages h.lie was id k here (after_freeing k.period) t.words
         (λ slot low used holds. by was slot low used holds) (λ slot. refl);
+    searches = λ was. searches_same s t was id k here freed t.words t.homes (omega arith) refl (λ a an. (an, refl)) (λ slot low. refl);
   }
     where
       by : NothingLeaks s t tree.views h.ages.now.machine.words h.ages.now.machine.stages h.lie → (slot : ℕ) → slot ≤ s.last → get_or t.words (slot_word s slot) 0 % 8 ≢ 7
@@ -180,17 +183,20 @@ module _ (plan : TablePlan) (s : Slots) (tree : TableState) (t : WholeState) (id
     found = get_or t.words (slot_word s (slot_of c)) 0
 
     -- it sets the slot free
-    frees_it : (reading : ℕ) → k.period.stamp ≡ Some (record { card = c; reading = reading }) → found ≡ 8 * turn_of c
+    frees_it : (reading : ℕ) → (k.period.announced ≢ None → k.period.began ≤ reading) → k.period.stamp ≡ Some (record { card = c; reading = reading }) → found ≡ 8 * turn_of c
         → GoesTo plan s tree t h (turned_to t id k (after_freeing k.period) (slot_word s (slot_of c)) (free_word reading))
-    frees_it reading stamp is =
+    frees_it reading late stamp is =
         let card_is : card_by (slot_of c) (8 * turn_of c) ≡ c = omega arith in
         let first = frees_now plan s tree t id k here there h size reached (slot_of c) reading k.period.sought inside (8 * turn_of c) is (λ full. omega arith)
-        (stamp ∙ ap (λ d. Some (record { card = d; reading = reading })) (sym card_is)) (λ d at hand. kept d at hand) in
+        (stamp ∙ ap (λ d. Some (record { card = d; reading = reading })) (sym card_is)) (λ d at hand. kept d at hand) refl in_period (late in_period) in
         let t1 = turned_to t id k k.period (slot_word s (slot_of c)) (free_word reading) in
         let here1 = set_there t.views id k k here in
         let second = unlost_now plan s tree t1 id k here1 first.periods c lost_it (λ was slot low used lies. gone first.periods slot low used lies) in
-        subst (λ l. GoesTo plan s tree t h (record { words = t1.words; homes = t.homes; views = l })) (set_twice t.views id k freed_then) (record { periods = second.periods; leaks = λ was. second.leaks (first.leaks was) })
+        subst (λ l. GoesTo plan s tree t h (record { words = t1.words; homes = t.homes; views = l })) (set_twice t.views id k freed_then) (record { periods = second.periods; leaks = λ was. second.leaks (first.leaks was); searches = λ was. second.searches (first.searches was) })
       where
+        in_period : k.period.announced ≢ None
+        in_period = (h.periods.each id k here).stays c lost_it
+
         W : List ℕ
         W = set t.words (slot_word s (slot_of c)) (free_word reading)
 
@@ -223,16 +229,16 @@ module _ (plan : TablePlan) (s : Slots) (tree : TableState) (t : WholeState) (id
         let here1 = set_there t.views id k k here in
         let second = unlost_now plan s tree t1 id k here1 first.periods c lost_it
         (λ was slot low used lies. same_not (stands plan s tree t1 id k here1 first.periods c lost_it taken was slot low used lies)) in
-        subst (λ l. GoesTo plan s tree t h (record { words = t1.words; homes = t.homes; views = l })) (set_twice t.views id k freed_then) (record { periods = second.periods; leaks = λ was. second.leaks (first.leaks was) })
+        subst (λ l. GoesTo plan s tree t h (record { words = t1.words; homes = t.homes; views = l })) (set_twice t.views id k freed_then) (record { periods = second.periods; leaks = λ was. second.leaks (first.leaks was); searches = λ was. second.searches (first.searches was) })
       where
         same_not : get_or (set t.words (slot_word s (slot_of c)) found) (slot_word s (slot_of c)) 0 ≡ 8 * turn_of c → ⊥
         same_not is = other (sym (word_again t.words (slot_word s (slot_of c)) (let low = inside in omega arith) (slot_word s (slot_of c))) ∙ is)
 
 -- that is a step of the table
 pub frees_aside : (plan : TablePlan) (s : Slots) → plan.slots ≡ Some s → (k : Known) (c reading : ℕ) → k.period.lost ≡ Some c → k.period.slot ≡ Some c
-    → k.period.stamp ≡ Some (record { card = c; reading = reading })
+    → (k.period.announced ≢ None → k.period.began ≤ reading) → k.period.stamp ≡ Some (record { card = c; reading = reading })
     → MayGoOn plan k (slot_word s (slot_of c)) (λ x. either (x == 8 * turn_of c) (free_word reading) x) (λ x p. p ≡ after_freeing k.period)
-frees_aside plan s placed k c reading lost_it taken stamp =
+frees_aside plan s placed k c reading lost_it taken late stamp =
     goes_on_there plan s placed k (slot_word s (slot_of c)) (λ x. either (x == 8 * turn_of c) (free_word reading) x) (λ x p. p ≡ after_freeing k.period) (λ t. after_freeing k.period)
     (λ tree t id reached here there h size. (by tree t id reached here there h size (cases_eq (get_or t.words (slot_word s (slot_of c)) 0) (8 * turn_of c)), refl))
   where
@@ -243,6 +249,6 @@ frees_aside plan s placed k c reading lost_it taken stamp =
         → (get_or t.words (slot_word s (slot_of c)) 0 ≡ 8 * turn_of c) ⊎ (get_or t.words (slot_word s (slot_of c)) 0 ≢ 8 * turn_of c)
         → after tree t h id (get_or t.words (slot_word s (slot_of c)) 0 == 8 * turn_of c)
     by tree t id reached here there h size (inl is) =
-        subst (after tree t h id) (sym (eq-eqb (get_or t.words (slot_word s (slot_of c)) 0) (8 * turn_of c) is)) (frees_it plan s tree t id k here there h size reached c lost_it taken reading stamp is)
+        subst (after tree t h id) (sym (eq-eqb (get_or t.words (slot_word s (slot_of c)) 0) (8 * turn_of c) is)) (frees_it plan s tree t id k here there h size reached c lost_it taken reading late stamp is)
     by tree t id reached here there h size (inr other) =
         subst (after tree t h id) (sym (ne_eqb (get_or t.words (slot_word s (slot_of c)) 0) (8 * turn_of c) other)) (stays_so plan s tree t id k here there h size reached c lost_it taken other)

@@ -1,6 +1,6 @@
 -- A pass notes dead nodes of a card in the word of the card's slot: nodes that its card in hand has taken out, or nodes of that
 -- card that never come.
-use Rattle.std.proofs.Common.{◌≡◌, ◌≢◌, ℕ, ◌+◌, ◌*◌, ◌%◌, ◌<◌, ◌≤◌, ◌==◌, ◌||◌, Bool, true, false, Some, List, length, get_or, set, inl, inr, ◌⊎◌, refl, sym, ap, ◌∙◌, subst, arith, eq-eqb, ne_eqb, true≢false, get_or-set_same}
+use Rattle.std.proofs.Common.{◌≡◌, ◌≢◌, ℕ, ◌+◌, ◌*◌, ◌%◌, ◌<◌, ◌≤◌, ◌==◌, ◌||◌, Bool, true, false, Some, List, length, get_or, set, inl, inr, ◌⊎◌, refl, sym, ap, ◌∙◌, subst, arith, eq-eqb, ne_eqb, true≢false, get_or-set_same, None, ⊎_elim}
 use Rattle.std.proofs.lemmas.Bool.{cases_eq}
 use Rattle.std.proofs.lemmas.Option.{same_Some}
 use mathlib.Core.Option.{some}
@@ -43,6 +43,21 @@ use Rattle.ell_cards.proofs.lemmas.whole.Apart.{ready_there}
 use Rattle.ell_cards.proofs.lemmas.whole.Freeing.{HasRetired, dead_by, frees_now, lies_by, low_slot, noted_then, notes_now, reads_now, taken_lies}
 use Rattle.ell_cards.proofs.lemmas.whole.Going.{GoesTo, turned_to, goes_on_there}
 use Rattle.ell_cards.proofs.lemmas.words.NotedBits.{all_some, done_by, few_noted, few_nodes, left_some, left_turn, left_used, notes_more}
+use Rattle.ell_cards.specs.declared.view.Seek.{Seek}
+use Rattle.ell_cards.specs.declared.view.View.{View}
+use Rattle.ell_cards.proofs.lemmas.whole.Searches.{SameRow, sought_still}
+use Rattle.ell_core.proofs.lemmas.outcomes.Decide.{some_not_none}
+use Rattle.ell_cards.proofs.lemmas.whole.InUse.{some_unnoted}
+
+-- what a pass notes changes no row that it has read
+row_noted : (done taken_out : Bool) (nodes : CardNodes) (k : Seek) → SameRow k (retires_if done taken_out nodes k)
+row_noted true taken_out nodes k = refl
+row_noted false taken_out nodes k = refl
+
+-- a pass that may note a node has a card in hand
+retires_by_hand : (taken_out : Bool) (c : ℕ) (nodes : CardNodes) (v : View) → MayRetire (shown v) taken_out c nodes → (i : ℕ) → has_node nodes i ≡ true → v.worker.card ≢ None
+retires_by_hand true c nodes v may i has empty = some_not_none (may i has).1 empty
+retires_by_hand false c nodes v may i has empty = some_not_none may.1 empty
 
 -- a node that the card in hand has taken out is that one's parent, if it is an internal node, or else its leaf
 module _ (plan : TablePlan) (s : Slots) (tree : TableState) (t : WholeState) (id : ℕ) (k : Known) (here : get_elem? t.views id ≡ some k)
@@ -249,7 +264,7 @@ module _ (plan : TablePlan) (s : Slots) (tree : TableState) (t : WholeState) (id
       → GoesTo plan s tree t h (turned_to t id k (after_noting_read taken_out c nodes (word_now c) k.period) (slot_word s (slot_of c)) (word_now c))
   notes_read taken_out c nodes inside may =
       reads_now plan s tree t id k here there h size reached (slot_of c) inside (retires_if (is_done taken_out c nodes (word_now c)) taken_out nodes k.period.sought)
-      (by (is_done taken_out c nodes (word_now c)) refl)
+      (by (is_done taken_out c nodes (word_now c)) refl) (λ was. sought_still s t was id k here _ (row_noted (is_done taken_out c nodes (word_now c)) taken_out nodes k.period.sought))
     where
       by : (b : Bool) → is_done taken_out c nodes (word_now c) ≡ b → HasRetired plan s tree t id k here there h size reached t.words (retires_if b taken_out nodes k.period.sought).retired
       by true done = retired_now taken_out c nodes may t.words (λ x out is. is) (shows_done taken_out c nodes inside done)
@@ -264,6 +279,7 @@ module _ (plan : TablePlan) (s : Slots) (tree : TableState) (t : WholeState) (id
       (λ i was. (too.each i).1 (inl was)) (λ i noted. elim ((too.each i).0 noted) [ inl was ↦ inl was | inr new ↦ inr (note.dead i new) ])
       (retired_now taken_out c nodes may W keeps (λ d i has at own low lies used.
       subst (λ x. is_noted x i ≡ true) (sym (stands d at)) ((too.each i).1 (inr has))))
+      refl
     where
       W : List ℕ
       W = set t.words (slot_word s (slot_of c)) m
@@ -277,12 +293,20 @@ module _ (plan : TablePlan) (s : Slots) (tree : TableState) (t : WholeState) (id
 
   -- or it sets the slot free, as they are the last
   pub notes_last : (taken_out : Bool) (c : ℕ) (nodes : CardNodes) (n reading : ℕ) → slot_of c ≤ s.last → MayRetire (shown k.tree) taken_out c nodes → n % 8 ≢ 7
-      → k.period.stamp ≡ Some (record { card = card_by (slot_of c) n; reading = reading }) → word_now c ≡ n
+      → ((i : ℕ) → i < 3 → (is_noted n i ≡ true) ⊎ (has_node nodes i ≡ true)) → (k.period.announced ≢ None → k.period.began ≤ reading) → k.period.stamp ≡ Some (record { card = card_by (slot_of c) n; reading = reading }) → word_now c ≡ n
       → GoesTo plan s tree t h (turned_to t id k (record (k.period) { sought = retires taken_out nodes k.period.sought }) (slot_word s (slot_of c)) (free_word reading))
-  notes_last taken_out c nodes n reading inside may used stamp is =
+  notes_last taken_out c nodes n reading inside may used last late stamp is =
       frees_now plan s tree t id k here there h size reached (slot_of c) reading (retires taken_out nodes k.period.sought) inside n is used stamp
       (retired_now taken_out c nodes may W keeps (λ d i has at own low lies used. absurd (used (ap (λ n. n % 8) (stands d at) ∙ omega arith))))
+      refl in_period (late in_period)
     where
+      -- a pass that has some node left to note has the card in hand, so it is in a period
+      in_period : k.period.announced ≢ None
+      in_period quiet =
+          let left = some_unnoted n used in
+          let has = ⊎_elim (λ (was : is_noted n left.0 ≡ true). absurd (true≢false (sym was ∙ left.2))) (λ (h : has_node nodes left.0 ≡ true). h) (last left.0 left.1) in
+          retires_by_hand taken_out c nodes k.tree may left.0 has ((h.periods.each id k here).rests quiet).empty
+
       W : List ℕ
       W = set t.words (slot_word s (slot_of c)) (free_word reading)
 
@@ -342,10 +366,10 @@ module _ (plan : TablePlan) (s : Slots) (placed : plan.slots ≡ Some s) (taken_
 
   -- or that sets the slot free
   pub frees_slot : (n reading : ℕ) → k.period.read ≡ Some (record { slot = slot_of c; word = n }) → MayNote k.tree taken_out c nodes n
-      → k.period.stamp ≡ Some (record { card = card_by (slot_of c) n; reading = reading })
+      → ((i : ℕ) → i < 3 → (is_noted n i ≡ true) ⊎ (has_node nodes i ≡ true)) → (k.period.announced ≢ None → k.period.began ≤ reading) → k.period.stamp ≡ Some (record { card = card_by (slot_of c) n; reading = reading })
       → MayGoOn plan k at (λ x. either (x == n) (free_word reading) x) (Tells n)
-  frees_slot n reading read note stamp =
-      exchanges n (free_word reading) read note (λ tree t id reached here there h size is. notes_last plan s tree t id k here there h size reached taken_out c nodes n reading inside may note.used stamp is)
+  frees_slot n reading read note last late stamp =
+      exchanges n (free_word reading) read note (λ tree t id reached here there h size is. notes_last plan s tree t id k here there h size reached taken_out c nodes n reading inside may note.used last late stamp is)
 
 -- all three nodes of the card in a slot are noted by the word that a pass has read there, or known to be dead
 pub may_stamp : (k : Known) (taken_out : Bool) (c : ℕ) (nodes : CardNodes) (n slot : ℕ) → slot ≡ slot_of c → k.period.read ≡ Some (record { slot = slot_of c; word = n })

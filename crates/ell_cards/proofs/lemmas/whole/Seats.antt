@@ -93,6 +93,7 @@ holds_on s words words' u same later h = record {
   reading = λ n is. (let low = h.reading n is in omega arith);
   rests = h.rests;
   idle = h.idle;
+  stays = h.stays;
 }
 
 -- a pass that knows the same of periods, and is at rest if it announces nothing, knows what is so
@@ -108,4 +109,5 @@ holds_of s words k l same rests idle h = record {
   reading = λ n is. h.reading n (sym (ap (λ (p : Period). p.reading) same) ∙ is);
   rests = λ is. rests (sym (ap (λ (p : Period). p.announced) same) ∙ is);
   idle = λ c is. idle c (sym (ap (λ (p : Period). p.lost) same) ∙ is);
+  stays = λ c is quiet. h.stays c (sym (ap (λ (p : Period). p.lost) same) ∙ is) (sym (ap (λ (p : Period). p.announced) same) ∙ quiet);
 }

@@ -1,9 +1,9 @@
 use Rattle.std.proofs.Common.{◌≡◌, ◌≢◌, ℕ, zero, suc, ◌+◌, ◌-◌, ◌*◌, ◌/◌, ◌%◌, ◌<◌, ◌≤◌, ◌==◌, ◌&&◌, not, Bool, true, false, inl, inr, refl, sym, ap, ◌∙◌, subst, arith, eq-eqb, ne_eqb, if◌then◌else◌}
-use Rattle.std.proofs.Math.Nat.{mul-add, mul-one}
+use Rattle.std.proofs.Math.Nat.{le-min, mul-add, mul-one}
 use Rattle.std.proofs.lemmas.Bool.{cases_eq}
 use Rattle.ell_cards.specs.declared.view.Seek.{Seek}
 use Rattle.ell_cards.specs.declared.view.Slots.{Slots}
-use Rattle.ell_cards.specs.Seeking.{slots_before, is_next, one_if, sought_on, FindsNone}
+use Rattle.ell_cards.specs.Seeking.{slots_before, is_next, row_from, row_on, sought_on, FindsNone}
 use Rattle.ell_cards.specs.SlotWords.{has_slot_in, slot_of, turn_of}
 use Rattle.ell_cards.proofs.lemmas.words.Slotted.{slot_inside, turn_apart, has_slot_by}
 
@@ -92,33 +92,32 @@ next_in_row s c d low in_c in_d less first = elim (cases_eq (slot_of c) s.last) 
         let none = mul_zero (s.last + 1) in omega arith
 
 -- a search misses no slot of a card in hand
-pub sought_misses_none : (s : Slots) (begins for_delete : Bool) (c made : ℕ) (takes : Bool) (k : Seek)
-    → (sought_on s begins for_delete c made takes k).missed ≡ k.missed
-sought_misses_none s begins for_delete c made takes k = by (not begins && is_next s c k)
+pub sought_misses_none : (s : Slots) (begins for_delete : Bool) (c made : ℕ) (takes : Bool) (safe : ℕ) (k : Seek)
+    → (sought_on s begins for_delete c made takes safe k).missed ≡ k.missed
+sought_misses_none s begins for_delete c made takes safe k = by (not begins && is_next s c k)
   where
-    by : (b : Bool) → (if b then record k { read = k.read + 1; takeable = k.takeable + one_if takes }
-        else record k { for_delete = for_delete; from = c; read = 1; takeable = one_if takes; made = made }).missed ≡ k.missed
+    by : (b : Bool) → (if b then row_on for_delete takes safe k else row_from for_delete c made takes safe k).missed ≡ k.missed
     by true = refl
     by false = refl
 
 -- what a search has read that began at a card and is to read the slot of this number next: so many slots, of which it could
 -- take none for its change
-pub record RowSoFar (s : Slots) (card : ℕ) (for_delete : Bool) (made next read : ℕ) (k : Seek) : Type 0 where
+pub record RowSoFar (s : Slots) (card : ℕ) (for_delete : Bool) (made safe next read : ℕ) (k : Seek) : Type 0 where
   pub start : read ≡ 0 → (c : ℕ) → card ≤ c → has_slot_in s.last c ≡ true → next ≤ c
   pub on : 0 < read → (card ≤ k.from) × ((c : ℕ) → card ≤ c → has_slot_in s.last c ≡ true → k.from ≤ c) × (k.read ≡ read)
-      × (slots_before s next ≡ slots_before s k.from + read) × (k.takeable ≡ 0) × (k.made ≡ made) × (k.for_delete ≡ for_delete)
+      × (slots_before s next ≡ slots_before s k.from + read) × (k.takeable ≡ 0) × (k.made ≡ made) × (k.for_delete ≡ for_delete) × (safe ≤ k.safe)
 
 -- it begins
-pub row_begins : (s : Slots) (card : ℕ) (for_delete : Bool) (made next : ℕ) (k : Seek)
-    → ((c : ℕ) → card ≤ c → has_slot_in s.last c ≡ true → next ≤ c) → RowSoFar s card for_delete made next 0 k
-row_begins s card for_delete made next k first = record { start = λ none. first; on = λ some. absurd (omega arith) }
+pub row_begins : (s : Slots) (card : ℕ) (for_delete : Bool) (made safe next : ℕ) (k : Seek)
+    → ((c : ℕ) → card ≤ c → has_slot_in s.last c ≡ true → next ≤ c) → RowSoFar s card for_delete made safe next 0 k
+row_begins s card for_delete made safe next k first = record { start = λ none. first; on = λ some. absurd (omega arith) }
 
 -- it reads one more
-pub row_goes_on : (s : Slots) (card : ℕ) (for_delete : Bool) (made next read next' : ℕ) (k : Seek) → s.last < 2097152 → card ≤ next
+pub row_goes_on : (s : Slots) (card : ℕ) (for_delete : Bool) (made safe next read next' : ℕ) (k : Seek) → s.last < 2097152 → card ≤ next
     → has_slot_in s.last next ≡ true → has_slot_in s.last next' ≡ true → next + 1 ≤ next' → ((c : ℕ) → next + 1 ≤ c → has_slot_in s.last c ≡ true → next' ≤ c)
-    → RowSoFar s card for_delete made next read k
-    → RowSoFar s card for_delete made next' (read + 1) (sought_on s (read == 0) for_delete next made false k)
-row_goes_on s card for_delete made next zero next' k low from inside inside' after first' row = record {
+    → RowSoFar s card for_delete made safe next read k
+    → RowSoFar s card for_delete made safe next' (read + 1) (sought_on s (read == 0) for_delete next made false safe k)
+row_goes_on s card for_delete made safe next zero next' k low from inside inside' after first' row = record {
   start = λ none. absurd (omega arith);
   on = λ some. (
     from,
@@ -128,11 +127,12 @@ row_goes_on s card for_delete made next zero next' k low from inside inside' aft
     refl,
     refl,
     refl,
+    omega arith,
   );
 }
-row_goes_on s card for_delete made next (suc read) next' k low from inside inside' after first' row =
-    subst (λ b. RowSoFar s card for_delete made next' (suc read + 1) (if b then record k { read = k.read + 1; takeable = k.takeable + 0 }
-    else record k { for_delete = for_delete; from = next; read = 1; takeable = 0; made = made })) (sym goes) (record {
+row_goes_on s card for_delete made safe next (suc read) next' k low from inside inside' after first' row =
+    subst (λ b. RowSoFar s card for_delete made safe next' (suc read + 1) (if b then row_on for_delete false safe k
+    else row_from for_delete next made false safe k)) (sym goes) (record {
       start = λ none. absurd (omega arith);
       on = λ some. (
         was.0,
@@ -141,23 +141,28 @@ row_goes_on s card for_delete made next (suc read) next' k low from inside insid
         (let one = next_in_row s next next' low inside inside' (omega arith) first' in let so = was.3 in omega arith),
         (let none = was.4 in omega arith),
         was.5,
-        was.6,
+        both k.for_delete for_delete was.6,
+        le-min was.7 (omega arith),
       );
     })
   where
     was : (card ≤ k.from) × ((c : ℕ) → card ≤ c → has_slot_in s.last c ≡ true → k.from ≤ c) × (k.read ≡ suc read)
-        × (slots_before s next ≡ slots_before s k.from + suc read) × (k.takeable ≡ 0) × (k.made ≡ made) × (k.for_delete ≡ for_delete)
+        × (slots_before s next ≡ slots_before s k.from + suc read) × (k.takeable ≡ 0) × (k.made ≡ made) × (k.for_delete ≡ for_delete) × (safe ≤ k.safe)
     was = row.on (omega arith)
+
+    both : (a b : Bool) → a ≡ b → (a && b) ≡ b
+    both true b same = refl
+    both false b same = same
 
     goes : (not (suc read == 0) && is_next s next k) ≡ true
     goes = ap (λ b. not b && is_next s next k) (ne_eqb (suc read) 0 (λ z. omega arith)) ∙ eq-eqb (slots_before s next) (slots_before s k.from + k.read) (was.3 ∙ ap (λ n. slots_before s k.from + n) (sym was.2))
 
 -- the numbers of the table are at an end
-pub row_at_end : (s : Slots) (last card : ℕ) (for_delete : Bool) (made next read : ℕ) (k : Seek) → last < next → has_slot_in s.last next ≡ true
-    → RowSoFar s card for_delete made next read k → FindsNone s last card for_delete made k
-row_at_end s last card for_delete made next zero k past inside row =
+pub row_at_end : (s : Slots) (last card : ℕ) (for_delete : Bool) (made safe next read : ℕ) (k : Seek) → last < next → has_slot_in s.last next ≡ true
+    → RowSoFar s card for_delete made safe next read k → FindsNone s last card for_delete made safe k
+row_at_end s last card for_delete made safe next zero k past inside row =
     inl (λ c from in_c. (let at = row.start refl c from in_c in omega arith))
-row_at_end s last card for_delete made next (suc read) k past inside row =
+row_at_end s last card for_delete made safe next (suc read) k past inside row =
     let was = row.on (omega arith) in inr record {
       from = was.0;
       first = was.1;
@@ -165,12 +170,13 @@ row_at_end s last card for_delete made next (suc read) k past inside row =
       change = was.6;
       began = was.5;
       none = was.4;
+      by = was.7;
     }
 
 -- or all slots were read
-pub row_is_whole : (s : Slots) (last card : ℕ) (for_delete : Bool) (made next read : ℕ) (k : Seek) → read ≡ s.last + 1
-    → RowSoFar s card for_delete made next read k → FindsNone s last card for_delete made k
-row_is_whole s last card for_delete made next read k whole row =
+pub row_is_whole : (s : Slots) (last card : ℕ) (for_delete : Bool) (made safe next read : ℕ) (k : Seek) → read ≡ s.last + 1
+    → RowSoFar s card for_delete made safe next read k → FindsNone s last card for_delete made safe k
+row_is_whole s last card for_delete made safe next read k whole row =
     let was = row.on (omega arith) in inr record {
       from = was.0;
       first = was.1;
@@ -178,4 +184,5 @@ row_is_whole s last card for_delete made next read k whole row =
       change = was.6;
       began = was.5;
       none = was.4;
+      by = was.7;
     }

@@ -99,6 +99,7 @@ module _ (s : Slots) (t : WholeState) (id : ℕ) (k : Known) (here : get_elem? t
         reading = λ n is. was.reading n (sym reading ∙ is);
         rests = λ is. was.rests (sym stands.announced ∙ is);
         idle = λ c is. was.idle c (sym lost ∙ is);
+        stays = λ c is quiet. was.stays c (sym lost ∙ is) (sym stands.announced ∙ quiet);
       }
 
   same_word : (q : ℕ) → word_at_place s words q ≡ word_at_place s t.words q

@@ -1,13 +1,18 @@
 -- A table starts whole.
-use Rattle.std.proofs.Common.{◌≡◌, ◌-◌, ℕ, Option, Some, None, List, [], length, get_or, refl, sym, ap, ◌∙◌, subst}
+use Rattle.std.proofs.Common.{◌≡◌, ◌-◌, ℕ, zero, suc, Option, Some, None, List, [], ◌∷◌, length, get_or, refl, sym, ap, ◌∙◌, subst}
 use Rattle.atomic_table.specs.Table.{opening}
 use Rattle.ell_layout.specs.Layout.{address, table_size}
+use mathlib.Core.Option.{some, some-injective, some-ne-none}
+use lib.ListN.{get_elem?}
 use Rattle.ell_layout.specs.Start.{words_at_start}
 use Rattle.ell_layout.specs.Words.{words_of}
+use Rattle.ell_cards.specs.declared.view.Known.{Known}
 use Rattle.ell_cards.specs.declared.view.Slots.{Slots}
+use Rattle.ell_cards.specs.declared.view.View.{View}
 use Rattle.ell_cards.specs.Changes.{first_of}
 use Rattle.ell_cards.specs.Models.{TablePlan, last_slot, last_slot_of}
 use Rattle.ell_cards.specs.Periods.{AreWholeWords, period_by}
+use Rattle.ell_cards.specs.Seeking.{no_seek}
 use Rattle.ell_cards.specs.Shown.{IsWord, FieldIsWhole, StoresAreWhole}
 use Rattle.ell_cards.specs.Starts.{MayStart, SlotsFit}
 use Rattle.ell_cards.specs.Whole.{first_known, WordsAre, PeriodsAre, IsWhole, PlansFit}
@@ -18,6 +23,7 @@ use Rattle.ell_cards.proofs.lemmas.shown.ShownViews.{unfilled_whole}
 use Rattle.ell_cards.proofs.lemmas.ties.Opens.{tree_opened, reached_opened, periods_opened, leaks_opened}
 use Rattle.ell_cards.proofs.lemmas.whole.Lifts.{unplanned_fits}
 use Rattle.ell_cards.proofs.lemmas.whole.Opens.{with_zeros}
+use Rattle.ell_cards.proofs.lemmas.whole.Searches.{searches_opened}
 
 -- a table starts so
 pub whole_first : (plan : TablePlan) (may : MayStart plan) (cards words : List ℕ) → ((i : ℕ) → IsWord (get_or cards i 0)) → length cards ≡ table_size (last_slot plan) → words_of cards ≡ words_at_start plan.flat plan.start
@@ -52,5 +58,10 @@ whole_first plan may cards words small size are is = by plan.slots refl may.slot
           );
           periods = subst (λ o. PeriodsAre plan o tree (opening words [] (first_known plan))) (sym placed)
               (subst (λ o. PeriodsAre plan (Some s) tree (opening words [] (record { tree = first_of plan; period = period_by o }))) (sym placed)
-              (has, leaks_opened plan s cards words may fit all are small opens));
+              (has, leaks_opened plan s cards words may fit all are small opens, searches_opened s (opening words [] (record { tree = first_of plan; period = period_by (Some s) })) (only (first_of plan))));
         }
+      where
+        -- the first pass has read nothing, and is in no period
+        only : (v : View) (j : ℕ) (u : Known) → get_elem? (record { tree = v; period = period_by (Some s) } ∷ []) j ≡ some u → (u.period.sought ≡ no_seek) × (u.period.announced ≡ None)
+        only v zero u at = subst (λ (x : Known). (x.period.sought ≡ no_seek) × (x.period.announced ≡ None)) (some-injective (record { tree = v; period = period_by (Some s) }) u at) (refl, refl)
+        only v (suc j) u at = absurd (some-ne-none u (sym at))

@@ -143,6 +143,7 @@ module _ (s : Slots) (t : WholeState) (id : ℕ) (k : Known) (here : get_elem? t
         reading = same_holds.reading;
         rests = same_holds.rests;
         idle = same_holds.idle;
+        stays = same_holds.stays;
       }
 
       pub periods_sought : PeriodsAreSound s (record { words = again; homes = t.homes; views = set t.views id seeks }) lie dead began was_dead
@@ -186,6 +187,7 @@ module _ (s : Slots) (t : WholeState) (id : ℕ) (k : Known) (here : get_elem? t
     reading = λ n is. (let same = same_Some reading_now n is in let clock = same_at (clock_word s) (omega arith) (clock_word s) in omega arith);
     rests = now.rests;
     idle = now.idle;
+    stays = now.stays;
   }
 
   pub periods_read : PeriodsAreSound s (record { words = set t.words (clock_word s) (get_or t.words (clock_word s) 0); homes = t.homes; views = set t.views id reads }) lie dead began was_dead
@@ -332,6 +334,7 @@ module _ (s : Slots) (t : WholeState) (id : ℕ) (k : Known) (here : get_elem? t
       reading = now.reading;
       rests = now.rests;
       idle = now.idle;
+      stays = now.stays;
     }
 
     pub periods_seen : PeriodsAreSound s (record { words = set t.words (place_word s q) (get_or t.words (place_word s q) 0); homes = t.homes; views = set t.views id sees }) lie dead began was_dead
@@ -451,6 +454,7 @@ module _ (s : Slots) (t : WholeState) (id : ℕ) (k : Known) (here : get_elem? t
         reading = λ n is. (let same = turned_clock q (reading + 2) below in let low = mine.reading n is in omega arith);
         rests = λ is. absurd (some_not_none refl is);
         idle = mine.idle;
+        stays = λ c is quiet. some_not_none refl quiet;
       }
     where
       below : q < s.places
@@ -461,9 +465,9 @@ module _ (s : Slots) (t : WholeState) (id : ℕ) (k : Known) (here : get_elem? t
       gains r (spare is) = inl (spare is)
 
   -- the announcement of a pass at rest is taken away
-  pub periods_retracted : (q : ℕ) → k.period.place ≡ Some q → IsAtRest k.tree
+  pub periods_retracted : (q : ℕ) → k.period.place ≡ Some q → IsAtRest k.tree → k.period.lost ≡ None
       → PeriodsAreSound s (record { words = set t.words (place_word s q) 1; homes = t.homes; views = set t.views id (record { tree = k.tree; period = after_retract k.period }) }) lie dead began was_dead
-  periods_retracted q placed rest =
+  periods_retracted q placed rest unlost =
       periods_after s t id k here lie dead began was_dead h (turned q 1 below) (after_retract k.period) (turned_clock q 1 below) (others_have_none q 1 below (own placed)) gains
       lie dead began was_dead
       (λ r a at an. absurd (some_not_none an refl)) (λ j r a u other there at an. h.since j r a u there at an)
@@ -477,6 +481,7 @@ module _ (s : Slots) (t : WholeState) (id : ℕ) (k : Known) (here : get_elem? t
         reading = λ n is. (let same = turned_clock q 1 below in let low = mine.reading n is in omega arith);
         rests = λ is. rest;
         idle = mine.idle;
+        stays = λ c is. absurd (some_not_none is unlost);
       }
     where
       below : q < s.places
@@ -503,6 +508,7 @@ module _ (s : Slots) (t : WholeState) (id : ℕ) (k : Known) (here : get_elem? t
         reading = λ n is. (let same = turned_clock q 1 below in let low = mine.reading n is in omega arith);
         rests = mine.rests;
         idle = mine.idle;
+        stays = mine.stays;
       }
     where
       nobody : IsNobodys t q
@@ -529,6 +535,7 @@ module _ (s : Slots) (t : WholeState) (id : ℕ) (k : Known) (here : get_elem? t
         reading = λ n is. (let same = turned_clock q 0 below in let low = mine.reading n is in omega arith);
         rests = mine.rests;
         idle = mine.idle;
+        stays = mine.stays;
       }
     where
       below : q < s.places
@@ -555,6 +562,7 @@ module _ (s : Slots) (t : WholeState) (id : ℕ) (k : Known) (here : get_elem? t
         reading = λ n is. (let same = turned_clock q 0 below in let low = mine.reading n is in omega arith);
         rests = mine.rests;
         idle = mine.idle;
+        stays = mine.stays;
       }
     where
       below : q < s.places

@@ -1,5 +1,5 @@
 -- A pass takes the slot of its card in hand, which was set free with a stamp below the pass's safe number.
-use Rattle.std.proofs.Common.{◌≡◌, ◌≢◌, ℕ, ◌*◌, ◌%◌, ◌<◌, ◌≤◌, ◌==◌, if◌then◌else◌, Bool, true, false, Some, None, length, get_or, inl, inr, ◌⊎◌, refl, sym, ap, ◌∙◌, subst, arith, eq-eqb, ne_eqb}
+use Rattle.std.proofs.Common.{◌≡◌, ◌≢◌, ℕ, ◌*◌, ◌%◌, ◌<◌, ◌≤◌, ◌==◌, if◌then◌else◌, Bool, true, false, Some, None, length, get_or, inl, inr, ◌⊎◌, refl, sym, ap, ◌∙◌, subst, arith, eq-eqb, ne_eqb, get_or-set_other, set}
 use Rattle.std.proofs.lemmas.Bool.{cases_eq}
 use Rattle.std.proofs.lemmas.Option.{same_Some}
 use mathlib.Core.Option.{some}
@@ -12,7 +12,7 @@ use Rattle.ell_cards.specs.declared.view.Seek.{Seek}
 use Rattle.ell_cards.specs.declared.view.Slots.{Slots}
 use Rattle.ell_cards.specs.Ages.{IsOut, IsNotedThere, AreRetired, HasPeriods}
 use Rattle.ell_cards.specs.Models.{TablePlan}
-use Rattle.ell_cards.specs.Periods.{WholeState, slot_word, slots_size, after_missing, after_own, after_read, after_taking}
+use Rattle.ell_cards.specs.Periods.{WholeState, slot_word, slots_size, after_missing, after_own, after_read, after_taking, clock_word}
 use Rattle.ell_cards.specs.Seeking.{could_take, missed_one}
 use Rattle.ell_cards.specs.SlotWords.{has_slot_in, slot_of, turn_of, stamp_in}
 use Rattle.ell_cards.specs.Starts.{IsReached}
@@ -23,8 +23,10 @@ use Rattle.ell_cards.specs.Whole.{trees_of}
 use Rattle.ell_cards.proofs.lemmas.ties.TakingSlots.{take_goes}
 use Rattle.ell_cards.proofs.lemmas.whole.Freeing.{reads_now}
 use Rattle.ell_cards.proofs.lemmas.whole.Going.{GoesTo, turned_to, goes_on_whole}
-use Rattle.ell_cards.proofs.lemmas.whole.Slots.{slot_taken, taken_is_dead, taken_was_dead_for, lie_taken}
+use Rattle.ell_cards.proofs.lemmas.whole.Slots.{slot_taken, taken_is_dead, taken_was_dead_for, lie_taken, taken_bits}
 use Rattle.ell_cards.proofs.lemmas.whole.Trees.{tree_at}
+use Rattle.ell_cards.proofs.lemmas.whole.Searches.{SameRow, searches_turned, sought_still}
+use Rattle.ell_cards.proofs.lemmas.whole.Seats.{clock_before_slots}
 
 -- what the pass knows of periods, by whether the word was as it was
 pub word_was : (b : Bool) (p taken old : Period) → p ≡ (if b then taken else old) → b ≡ true → p ≡ taken
@@ -43,17 +45,18 @@ module _ (plan : TablePlan) (s : Slots) (tree : TableState) (t : WholeState) (id
   found = get_or t.words at 0
 
   -- it reads the slot's word
-  pub reads_so : (sought : Seek) → sought.retired ≡ k.period.sought.retired → GoesTo plan s tree t h (turned_to t id k (record (after_read (slot_of c) (get_or t.words (slot_word s (slot_of c)) 0) k.period) { sought = sought }) (slot_word s (slot_of c)) (get_or t.words (slot_word s (slot_of c)) 0))
-  reads_so sought noted = reads_now plan s tree t id k here (ap (λ l. get_elem? l id) (sym same) ∙ tree_at t.views id k here) h size reached (slot_of c) inside sought
+  pub reads_so : (sought : Seek) → sought.retired ≡ k.period.sought.retired → SameRow k.period.sought sought → GoesTo plan s tree t h (turned_to t id k (record (after_read (slot_of c) (get_or t.words (slot_word s (slot_of c)) 0) k.period) { sought = sought }) (slot_word s (slot_of c)) (get_or t.words (slot_word s (slot_of c)) 0))
+  reads_so sought noted row = reads_now plan s tree t id k here (ap (λ l. get_elem? l id) (sym same) ∙ tree_at t.views id k here) h size reached (slot_of c) inside sought
       (λ d at hand. subst (λ r. AreRetired h.ages.now.machine.words d r (λ x. IsOut plan tree h.ages.now.machine h.ages.now.uses x × IsNotedThere s t.words h.lie x)) (sym noted) (h.retired id d k here at hand))
+      (λ was. sought_still s t was id k here sought row)
 
   -- and counts a miss if it could not take the slot
   pub owns_now : GoesTo plan s tree t h (turned_to t id k (after_own c (get_or t.words (slot_word s (slot_of c)) 0) k.period) (slot_word s (slot_of c)) (get_or t.words (slot_word s (slot_of c)) 0))
   owns_now = by (could_take found k.period.safe)
     where
       by : (b : Bool) → GoesTo plan s tree t h (turned_to t id k (if b then after_read (slot_of c) found k.period else after_missing c found k.period) (slot_word s (slot_of c)) found)
-      by true = reads_so k.period.sought refl
-      by false = reads_so (missed_one k.period.sought) refl
+      by true = reads_so k.period.sought refl refl
+      by false = reads_so (missed_one k.period.sought) refl refl
 
   -- it takes the slot, if that was set free with a stamp below the pass's safe number
   pub takes_now : k.period.lost ≡ None → s.last < 2097152 → (n : ℕ) → get_or t.words (slot_word s (slot_of c)) 0 ≡ n → n % 8 ≡ 7 → stamp_in n < k.period.safe
@@ -77,6 +80,9 @@ module _ (plan : TablePlan) (s : Slots) (tree : TableState) (t : WholeState) (id
           retired = it.retired h.retired;
         };
         leaks = it.leaks unlost;
+        searches = λ was. searches_turned s t was id k here (record { tree = k.tree; period = after_taking c k.period }) (set t.words (slot_word s (slot_of c)) (8 * turn_of c)) t.homes
+            (let same = get_or-set_other t.words (slot_word s (slot_of c)) (clock_word s) (8 * turn_of c) 0 (λ e. (let behind_clock = clock_before_slots s (slot_of c) in omega arith)) in omega arith)
+            refl (λ a an. (an, refl)) (slot_of c) (8 * turn_of c) inside (omega arith) refl (inl (taken_bits (turn_of c)));
       }
 
 -- these steps are steps of the table
@@ -107,7 +113,7 @@ module _ (plan : TablePlan) (s : Slots) (placed : plan.slots ≡ Some s) (k : Kn
           (takes_now plan s tree t id k here same h size c hand inside numbered reached unlost low n is free safe)
       by tree t id reached here same h size (inr other) =
           subst (after t tree h id (get_or t.words (slot_word s (slot_of c)) 0)) (sym (ne_eqb (get_or t.words (slot_word s (slot_of c)) 0) n other))
-          (reads_so plan s tree t id k here same h size c hand inside numbered reached (missed_one k.period.sought) refl)
+          (reads_so plan s tree t id k here same h size c hand inside numbered reached (missed_one k.period.sought) refl refl)
 
   -- whichever card the pass has in hand, and whatever slot's word this is
   one : (d : ℕ) → k.tree.worker.card ≡ Some d → c ≡ d

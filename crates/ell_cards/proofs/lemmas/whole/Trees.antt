@@ -49,7 +49,7 @@ module _ (s : WholeState) (id : ℕ) (k : Known) (here : get_elem? s.views id �
   place_stays : (sl : Slots) (i n : ℕ) → i < table_size sl.last → (q : ℕ) → get_or (set s.words i n) (place_word sl q) 0 ≡ get_or s.words (place_word sl q) 0
   place_stays sl i n low q = get_or-set_other s.words i (place_word sl q) n 0 (let before = before_clock sl i low in omega arith)
 
-  clock_stays : (sl : Slots) (i n : ℕ) → i < table_size sl.last → get_or (set s.words i n) (clock_word sl) 0 ≡ get_or s.words (clock_word sl) 0
+  pub clock_stays : (sl : Slots) (i n : ℕ) → i < table_size sl.last → get_or (set s.words i n) (clock_word sl) 0 ≡ get_or s.words (clock_word sl) 0
   clock_stays sl i n low = get_or-set_other s.words i (clock_word sl) n 0 (let before = before_clock sl i low in omega arith)
 
   pub slots_stay : (sl : Slots) (i n : ℕ) → i < table_size sl.last → (slot : ℕ) → slot ≤ sl.last → get_or (set s.words i n) (slot_word sl slot) 0 ≡ get_or s.words (slot_word sl slot) 0

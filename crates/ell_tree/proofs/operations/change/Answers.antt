@@ -219,7 +219,7 @@ returns-in-Spent-clause-ends g c =
         idle = lays.idle;
         no_card = lays.no_card;
       },
-      still_none c.args.table.now.plan op c.try_once.new.pass c.leave.new.pass lays.next lays.sought lays.took c.in-Spent.ensures.ends.1,
+      still_none c.args.table.now.plan op c.try_once.new.pass c.leave.new.pass lays.next lays.sought lays.safe lays.took c.in-Spent.ensures.ends.1,
       begun_meets (way_of op tried) a tried c.leave.new.pass.view met halts.way lays.hindrances lays.knows,
     )
 

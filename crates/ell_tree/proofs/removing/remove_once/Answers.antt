@@ -115,7 +115,7 @@ returns-in-Spent-clause-removes g c =
     let d = c.delete_at.new.pass in
     let ended = ends_after b s.new.pass d _ s.ensures.keeps_but_search t op Spent c.in-Spent.ensures.ends in
     let lays = c.leave-in-Spent.ensures.lays op ended.0.stops.busy in
-    (halts_laid t op c.args.pass.now b d c.leave-in-Spent.new.pass _ c.begin.ensures ended.0 lays, still_none t.plan op d c.leave-in-Spent.new.pass lays.next lays.sought lays.took ended.1)
+    (halts_laid t op c.args.pass.now b d c.leave-in-Spent.new.pass _ c.begin.ensures ended.0 lays, still_none t.plan op d c.leave-in-Spent.new.pass lays.next lays.sought lays.safe lays.took ended.1)
 
 pub returns-in-Hindered-clause-removes : goal.returns-in-Hindered-clause-removes
 returns-in-Hindered-clause-removes g c =

@@ -1,7 +1,7 @@
-use Rattle.std.proofs.Common.{rules, ◌≢◌, None, ap, arith}
+use Rattle.std.proofs.Common.{rules, ◌≢◌, None, ap, ◌∙◌, arith}
 use Rattle.std.proofs.lemmas.Option.{same_Some}
 use Rattle.ell_cards.specs.Models.{PassModel}
-use Rattle.ell_tree.proofs.lemmas.Claiming.{numbers_at_end, may_claim_there, may_lay_aside, may_fill, row_goes, keeps_slot, taken_claims, in_vain, lost_claims}
+use Rattle.ell_tree.proofs.lemmas.Claiming.{none_found, numbers_at_end, may_claim_there, may_lay_aside, may_fill, row_goes, keeps_slot, taken_claims, in_vain, lost_claims}
 use Rattle.ell_tree.proofs.lemmas.LettingGo.{lets_aside_go}
 use Rattle.ell_tree.proofs.trying.claim_next.Goals as goal
 
@@ -64,4 +64,20 @@ returns-then-first-last_card-clause-claims g c =
       search rules,
       lets_aside_go c.args.table.now.plan c.args.pass.now c.next-first.new.pass (ap (λ (p : PassModel). p.view.worker.card) c.next-first.ensures.step)
           (ap (λ (p : PassModel). p.view.worker.flagged) c.next-first.ensures.step) (ap (λ (p : PassModel). p.slot) c.next-first.ensures.step) c.requires.hand,
+    )
+
+-- no slot could be taken
+pub returns-in_default-clause-claims : goal.returns-in_default-clause-claims
+returns-in_default-clause-claims g c =
+    let there : c.args.table.now.plan.slots ≢ None = λ none. search rules in
+    let first = c.next-first.ensures.step in
+    let same = c.next_takeable.ensures.same in (
+      search rules,
+      none_found c.args.table.now.plan c.args.op c.next_takeable.new.pass c.next-first.result c.next-first.new.pass.view.made c.is_delete.result there
+          (ap (λ (p : PassModel). p.view.next) same ∙ ap (λ (p : PassModel). p.view.next) first) (ap (λ (p : PassModel). p.view.made) same) c.is_delete.ensures
+          (c.next_takeable.ensures.none c.in_default.is),
+      search rules,
+      lets_aside_go c.args.table.now.plan c.args.pass.now c.next_takeable.new.pass (ap (λ (p : PassModel). p.view.worker.card) same ∙ ap (λ (p : PassModel). p.view.worker.card) first)
+          (ap (λ (p : PassModel). p.view.worker.flagged) same ∙ ap (λ (p : PassModel). p.view.worker.flagged) first)
+          (ap (λ (p : PassModel). p.slot) same ∙ ap (λ (p : PassModel). p.slot) first) c.requires.hand,
     )

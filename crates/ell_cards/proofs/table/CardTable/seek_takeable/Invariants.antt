@@ -10,5 +10,5 @@ invariant-loop-read g l = record {
   missed : l.pass.sought.missed ≡ l.fn.pass.sought.missed;
   from : l.fn.card ≤ l.next;
   slot : has_slot_in l.slots.last l.next ≡ true;
-  row : RowSoFar l.slots l.fn.card l.fn.for_delete l.fn.pass.view.made l.next l.read l.pass.sought;
+  row : RowSoFar l.slots l.fn.card l.fn.for_delete l.fn.pass.view.made l.fn.pass.safe l.next l.read l.pass.sought;
 }
