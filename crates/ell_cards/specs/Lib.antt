@@ -5,6 +5,7 @@ pub mod SlotWords
 -- what a search for a slot has read
 pub mod Seeking
 pub mod Searches
+pub mod Takings
 -- what contracts see of a table and of a pass
 pub mod Models
 -- how each step call changes what a pass knows

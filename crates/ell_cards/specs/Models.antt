@@ -20,7 +20,7 @@ use Rattle.ell_cards.specs.declared.view.Told.{Told}
 use Rattle.ell_cards.specs.declared.view.View.{View}
 use Rattle.ell_cards.specs.declared.view.Seek.{Seek}
 use Rattle.ell_cards.specs.declared.view.Slots.{Slots}
-use Rattle.ell_cards.specs.Seeking.{no_seek}
+use Rattle.ell_cards.specs.Seeking.{begun_seek, no_seek}
 
 -- what a table opens with: the keys that may have owners, the start pairs, the last card, if all other keys are
 -- shared, and if the tree is flat; and, if passes have places in it, how many cards have words and how many places
@@ -118,6 +118,20 @@ Steps old new v =
       safe = old.safe;
       slot = old.slot;
       sought = old.sought;
+    }
+
+-- the pass made one step by which it began an operation, and knows this now; slots that it could not take are counted
+-- anew
+abbrev pub BeginsBy : PassModel → PassModel → View → Type 0
+BeginsBy old new v =
+    new ≡ record {
+      table = old.table;
+      view = v;
+      steps = one_more old.steps;
+      label = old.label;
+      safe = old.safe;
+      slot = old.slot;
+      sought = begun_seek old.sought;
     }
 
 -- the pass came from another one by a step that both count, and knows this; it has looked at no place yet, and has

@@ -1,4 +1,4 @@
-use Rattle.std.specs.Prelude.{◌≡◌, ◌≢◌, ℕ, zero, suc, ◌+◌, ◌-◌, ◌*◌, ◌/◌, ◌<◌, ◌≤◌, ◌==◌, ◌++◌, ◌&&◌, nat_lt, nat_le, if◌then◌else◌, ◌%◌, Bool, Option, Some, None, List, [], length, replicate, slice_index, slice_set, true, false}
+use Rattle.std.specs.Prelude.{◌≡◌, ◌≢◌, ℕ, zero, suc, ◌+◌, ◌-◌, ◌*◌, ◌/◌, ◌<◌, ◌≤◌, ◌==◌, ◌++◌, ◌&&◌, max, nat_lt, nat_le, if◌then◌else◌, ◌%◌, Bool, Option, Some, None, List, [], length, replicate, slice_index, slice_set, true, false}
 use mathlib.Core.Option.{some, none}
 use mathlib.Core.Option.{Option as Maybe}
 use lib.ListN.{get_elem?}
@@ -16,7 +16,7 @@ use Rattle.ell_cards.specs.declared.view.Told.{Told}
 use Rattle.ell_cards.specs.declared.view.Told.TheVariants.{Met, Key}
 use Rattle.ell_cards.specs.declared.view.View.{View}
 use Rattle.ell_cards.specs.Models.{TablePlan, IsFree, IsTold}
-use Rattle.ell_cards.specs.Seeking.{could_have, could_take, is_done, missed_none, missed_one, no_seek, retires, retires_if, sought_on}
+use Rattle.ell_cards.specs.Seeking.{could_have, could_take, found_again, is_done, missed_none, missed_one, no_seek, retires, retires_if, sought_on}
 use Rattle.ell_cards.specs.SlotWords.{slot_of, card_by, free_word, freed_by, has_slot_in}
 
 -- the state of a table, with all that its passes know
@@ -109,8 +109,8 @@ size_by (Some s) last = slots_size s
 abbrev pub whole_size : TablePlan → ℕ
 whole_size plan = size_by plan.slots plan.last_card
 
--- how often a pass claims cards at most until it has one whose slot it takes: where cards lie in slots, once more than
--- there are, as another pass may take each of them first
+-- how often a pass claims cards at most until it has one whose slot it takes, or finds that it can take none: where
+-- cards lie in slots, once more than there are, as other passes may take each of them before it
 abbrev pub most_claims : Option Slots → ℕ
 most_claims None = 1
 most_claims (Some s) = s.last + 2
@@ -174,9 +174,9 @@ after_announce reading clock p = record p { announced = Some reading; began = cl
 abbrev pub after_retract : Period → Period
 after_retract p = record p { announced = None }
 
--- once all places were looked at, the least number that was seen is the safe one
+-- once all places were looked at, the least number that was seen is the safe one, unless the last one is greater
 abbrev pub settled_at : ℕ → ℕ → ℕ → ℕ → ℕ
-settled_at places looked least safe = if nat_lt looked places then safe else least
+settled_at places looked least safe = if nat_lt looked places then safe else max least safe
 
 -- the next place was looked at, and its word is this
 abbrev pub after_look_at : ℕ → ℕ → Period → Period
@@ -200,7 +200,7 @@ after_read slot n p = record p { read = Some (record { slot = slot; word = n }) 
 -- the word of a card's slot was read by a search for a slot to take, which begins with it or goes on
 abbrev pub after_seek : Slots → Bool → Bool → ℕ → ℕ → ℕ → Period → Period
 after_seek s begins for_delete c made n p = record (after_read (slot_of c) n p) {
-  sought = sought_on s begins for_delete c made (could_have s for_delete c n p.safe) p.safe p.sought;
+  sought = sought_on s begins for_delete c made n (could_have s for_delete c n p.safe) p.safe p.sought;
 }
 
 -- the word of a card's slot was read by a pass that is to note nodes of the card there, and none of them may be left
@@ -219,11 +219,13 @@ after_taking c p = record p { read = None; slot = Some c; sought = missed_none p
 
 -- or its word was found to be another one, and it could not be taken
 abbrev pub after_missing : ℕ → ℕ → Period → Period
-after_missing c n p = record (after_read (slot_of c) n p) { sought = missed_one p.sought }
+after_missing c n p = record (after_read (slot_of c) n p) { sought = missed_one (slot_of c) p.sought }
 
 -- the word of a card's slot was read, which could be taken, or could not
 abbrev pub after_own : ℕ → ℕ → Period → Period
-after_own c n p = if could_take n p.safe then after_read (slot_of c) n p else after_missing c n p
+after_own c n p =
+    if could_take n p.safe then record (after_read (slot_of c) n p) { sought = found_again (slot_of c) n p.sought }
+    else after_missing c n p
 
 -- the clock was read for a card whose nodes are dead
 abbrev pub after_stamp : ℕ → ℕ → Period → Period

@@ -1,8 +1,9 @@
 -- What a search for a slot has read.
-use Rattle.std.specs.Prelude.{◌≡◌, ℕ, ◌⊎◌, ◌+◌, ◌-◌, ◌*◌, ◌/◌, ◌<◌, ◌≤◌, ◌%◌, ◌==◌, ◌&&◌, ◌||◌, min, nat_lt, nat_le, not, if◌then◌else◌, Bool, true, false, Option, IfSome}
+use Rattle.std.specs.Prelude.{◌≡◌, ℕ, ◌⊎◌, ◌+◌, ◌-◌, ◌*◌, ◌/◌, ◌<◌, ◌≤◌, ◌%◌, ◌==◌, ◌&&◌, ◌||◌, min, nat_lt, nat_le, not, if◌then◌else◌, Bool, true, false, Option, None, Some, IfSome}
 use Rattle.ell_cards.specs.declared.card_nodes.CardNodes.{CardNodes}
 use Rattle.ell_cards.specs.declared.view.Retired.{Retired}
 use Rattle.ell_cards.specs.declared.view.Seek.{Seek}
+use Rattle.ell_cards.specs.declared.view.SlotRead.{SlotRead}
 use Rattle.ell_cards.specs.declared.view.Slots.{Slots}
 use Rattle.ell_cards.specs.CardNodes.{all_noted, no_nodes, nodes_of_both}
 use Rattle.ell_cards.specs.SlotWords.{has_slot_in, is_noted, slot_of, turn_in, turn_of, stamp_in}
@@ -41,6 +42,7 @@ no_seek = record {
   takeable = 0;
   safe = 0;
   made = 0;
+  found = None;
   missed = 0;
   retired = none_retired;
 }
@@ -52,34 +54,61 @@ is_next s c k = slots_before s c == slots_before s k.from + k.read
 abbrev pub one_if : Bool → ℕ
 one_if takes = if takes then 1 else 0
 
+-- a slot is found by its word, if the pass could take it
+abbrev pub found_if : Bool → ℕ → ℕ → Option SlotRead
+found_if takes c n = if takes then Some (record { slot = slot_of c; word = n }) else None
+
 -- the next number of a row was read too, for such a change, by such a safe number
-abbrev pub row_on : Bool → Bool → ℕ → Seek → Seek
-row_on for_delete takes safe k = record k {
+abbrev pub row_on : Bool → ℕ → ℕ → Bool → ℕ → Seek → Seek
+row_on for_delete c n takes safe k = record k {
   for_delete = k.for_delete && for_delete;
   read = k.read + 1;
   takeable = k.takeable + one_if takes;
   safe = min k.safe safe;
+  found = found_if takes c n;
 }
 
 -- or another row begins with a number
-abbrev pub row_from : Bool → ℕ → ℕ → Bool → ℕ → Seek → Seek
-row_from for_delete c made takes safe k =
-    record k { for_delete = for_delete; from = c; read = 1; takeable = one_if takes; safe = safe; made = made }
+abbrev pub row_from : Bool → ℕ → ℕ → ℕ → Bool → ℕ → Seek → Seek
+row_from for_delete c made n takes safe k = record k {
+  for_delete = for_delete;
+  from = c;
+  read = 1;
+  takeable = one_if takes;
+  safe = safe;
+  made = made;
+  found = found_if takes c n;
+}
 
 -- The word of a card's slot was read, and the pass could take the slot for its change, or not, by its safe number. The
 -- row goes on by it if the number is the next one of the row; if it is not, or if a search begins, another row begins
 -- with it, for a delete or another change, where the pass has made so many step calls.
-abbrev pub sought_on : Slots → Bool → Bool → ℕ → ℕ → Bool → ℕ → Seek → Seek
-sought_on s begins for_delete c made takes safe k =
-    if not begins && is_next s c k then row_on for_delete takes safe k else row_from for_delete c made takes safe k
+abbrev pub sought_on : Slots → Bool → Bool → ℕ → ℕ → ℕ → Bool → ℕ → Seek → Seek
+sought_on s begins for_delete c made n takes safe k =
+    if not begins && is_next s c k then row_on for_delete c n takes safe k
+    else row_from for_delete c made n takes safe k
 
--- the slot of a card in hand could not be taken, which is counted
-abbrev pub missed_one : Seek → Seek
-missed_one k = record k { missed = k.missed + 1 }
+-- a search has found a slot
+abbrev pub is_found : Option SlotRead → ℕ → Bool
+is_found None slot = false
+is_found (Some r) slot = r.slot == slot
+
+-- the word of a slot that was found was read again, and the pass could take the slot
+abbrev pub found_again : ℕ → ℕ → Seek → Seek
+found_again slot n k =
+    record k { found = if is_found k.found slot then Some (record { slot = slot; word = n }) else None }
+
+-- the slot of a card in hand could not be taken, which is counted if the search had found it
+abbrev pub missed_one : ℕ → Seek → Seek
+missed_one slot k = record k { missed = k.missed + one_if (is_found k.found slot); found = None }
 
 -- or it was taken, and the count begins anew; and for this card nothing was noted yet
 abbrev pub missed_none : Seek → Seek
-missed_none k = record k { missed = 0; retired = none_retired }
+missed_none k = record k { missed = 0; retired = none_retired; found = None }
+
+-- so the count does where an operation begins
+abbrev pub begun_seek : Seek → Seek
+begun_seek k = record k { missed = 0; found = None }
 
 -- What a pass has noted for its card in hand, once it has noted these nodes of one card too: nodes that the card in
 -- hand has taken out, of which the internal one is the parent and another one the leaf; or nodes of that card itself.

@@ -8,6 +8,7 @@ use Rattle.ell_cards.specs.declared.call.Call.{Call}
 use Rattle.ell_cards.specs.declared.call.Call.TheVariants as call
 use Rattle.ell_cards.specs.declared.view.Known.{Known}
 use Rattle.ell_cards.specs.declared.view.Period.{Period}
+use Rattle.ell_cards.specs.declared.view.Seek.{Seek}
 use Rattle.ell_cards.specs.declared.view.Slots.{Slots}
 use Rattle.ell_cards.specs.declared.view.View.{View}
 use Rattle.ell_cards.specs.Models.{flat_from, last_slot, TablePlan, PassModel, IsFree, MayPart, one_more, given_share}
@@ -16,6 +17,7 @@ use Rattle.ell_cards.specs.Depths.{deepest, IsShallow}
 use Rattle.ell_cards.specs.Naming.{IsNamed, IsPlaced}
 use Rattle.ell_cards.specs.Calls.{Exchange, atomic_of, after, May, Tells}
 use Rattle.ell_cards.specs.Apart.{IsApart}
+use Rattle.ell_cards.specs.Seeking.{begun_seek}
 use Rattle.ell_cards.specs.Shown.{cut_word, cut_by, shown, shown_call, CanBeShown}
 use Rattle.ell_cards.specs.States.{TableState}
 use Rattle.ell_cards.specs.LettingGo.{MayLetGo}
@@ -49,6 +51,21 @@ abbrev pub IsQuiet : Call → Type 0
 IsQuiet (call.Begin op) = ⊥
 IsQuiet call.Look = ⊥
 IsQuiet _ = Unit {0}
+
+-- a step call that begins no operation
+abbrev pub BeginsNone : Call → Type 0
+BeginsNone (call.Begin op) = ⊥
+BeginsNone _ = Unit {0}
+
+-- what a pass has sought after a step call: the same, but slots that it could not take are counted anew where the call
+-- begins an operation
+abbrev pub entered_seek : Call → Seek → Seek
+entered_seek (call.Begin op) k = begun_seek k
+entered_seek _ k = k
+
+-- and what it knows of periods
+abbrev pub after_entering : Call → Period → Period
+after_entering c p = record p { sought = entered_seek c p.sought }
 
 -- whatever the table is when a word of its periods becomes another one, this holds of the word found and of what the
 -- pass knows of periods after, and its tree is as it was
@@ -110,6 +127,28 @@ pub record SeesBy (old new : PassModel) : Type 0 where
   pub safe : new.safe ≡ old.safe
   pub slot : new.slot ≡ old.slot
   pub sought : new.sought ≡ old.sought
+
+-- so it is after a step call that may begin an operation, but for the count of slots that it could not take
+pub record EntersBy (c : Call) (old new : PassModel) : Type 0 where
+  pub table : new.table ≡ old.table
+  pub steps : new.steps ≡ old.steps
+  pub label : new.label ≡ old.label
+  pub safe : new.safe ≡ old.safe
+  pub slot : new.slot ≡ old.slot
+  pub sought : new.sought ≡ entered_seek c old.sought
+
+-- the pass made one step that it has not counted yet, by a call that may begin an operation, and knows this now
+abbrev pub Enters : Call → PassModel → PassModel → View → Type 0
+Enters c old new v =
+    new ≡ record {
+      table = old.table;
+      view = v;
+      steps = old.steps;
+      label = old.label;
+      safe = old.safe;
+      slot = old.slot;
+      sought = entered_seek c old.sought;
+    }
 
 -- a pass made one step: its table, its label, its safe number,
 -- its slot and its search for one are as they were

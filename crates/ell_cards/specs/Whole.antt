@@ -13,6 +13,7 @@ use Rattle.ell_cards.specs.Periods.{WholeState, slots_size, no_period, first_per
 use Rattle.ell_cards.specs.Ages.{HasPeriods}
 use Rattle.ell_cards.specs.Leaks.{NothingLeaks}
 use Rattle.ell_cards.specs.Searches.{SearchesAreSound}
+use Rattle.ell_cards.specs.Takings.{TakingsAreSound}
 use Rattle.ell_cards.specs.Shown.{shown_word, FieldIsWhole, StoresAreWhole}
 use Rattle.ell_cards.specs.Starts.{IsReached}
 use Rattle.ell_cards.specs.States.{TableState}
@@ -43,11 +44,12 @@ WordsAre None words tree = words ≡ tree
 WordsAre (Some s) words tree = (length words ≡ slots_size s) × FieldsAreWhole tree
 
 -- its periods are sound, and its memory is tied to its tree, if there are places; no slot stays in use for nothing, and
--- what passes have read in their searches for slots is so still
+-- what passes have read in their searches for slots is so still; and slots that they missed were taken meanwhile
 abbrev pub PeriodsAre : (plan : TablePlan) → Option Slots → TableState → WholeState → Type 0
 PeriodsAre plan None tree t = Unit {0}
 PeriodsAre plan (Some s) tree t = (h : HasPeriods plan s tree t)
     × NothingLeaks s t tree.views h.ages.now.machine.words h.ages.now.machine.stages h.lie × SearchesAreSound s t
+    × TakingsAreSound s t h.lie
 
 -- without places nothing that is planned is cut
 abbrev pub PlansFit : Option Slots → View → Type 0

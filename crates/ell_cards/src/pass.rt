@@ -31,7 +31,7 @@ pub(crate) struct Standing {
     /// The place that it found last for a part of it, at first its own: behind it, it looks for the next one. It may be any
     /// number.
     pub found: u64,
-    /// The safe number that it has found last, at first 0.
+    /// Its safe number, at first 0.
     pub safe: u64,
     /// How many numbers that have slots it went by for which it has not looked at all places. It may be any number.
     pub numbers: u64,

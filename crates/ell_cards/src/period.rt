@@ -1,7 +1,7 @@
 //! Grace periods: where a table has places, a pass tells at its own when it is in an operation or a look, and a number is
 //! safe if every pass that is in one began it when the clock was that at least. Their steps are on words of their own, and are
 //! not counted.
-ghost use Rattle.std.specs.Prelude.{◌≡◌, ℕ, ◌≢◌, ◌⊎◌, ◌≤◌, ◌<◌, ◌+◌, ◌%◌, ◌==◌, if◌then◌else◌, is_some, None, Some, [], true, false, IfSome};
+ghost use Rattle.std.specs.Prelude.{◌≡◌, ℕ, ◌≢◌, ◌⊎◌, ◌≤◌, ◌<◌, ◌+◌, ◌%◌, ◌==◌, max, if◌then◌else◌, is_some, None, Some, [], true, false, IfSome};
 ghost use prog.Atomic.{either};
 ghost use Rattle.ell_word.specs.Node.{greatest_card};
 ghost use Rattle.ell_grace.specs.Grace.{least_with};
@@ -331,6 +331,7 @@ impl<A: Allocator + Copy> CardTable<A> {
         requires empty { seat.old.me.1 ≡ [] }
         requires slots { self.now.plan.slots ≡ Some slots }
         ensures stands { StandsAs seat.old.me.0.period seat.new.me.0.period }
+        ensures safe { seat.new.me.0.period.safe ≡ seat.old.me.0.period.safe }
         ensures slot { seat.new.me.0.period.slot ≡ seat.old.me.0.period.slot }
         ensures sought { seat.new.me.0.period.sought ≡ seat.old.me.0.period.sought }
         ensures lost { seat.new.me.0.period.lost ≡ seat.old.me.0.period.lost }
@@ -357,13 +358,13 @@ impl<A: Allocator + Copy> CardTable<A> {
         self.period_load::<Brand>(seat, self.place_address(slots, place))
     }
 
-    // Reads the clock, and looks at all places. Returns the least number that it saw, which is the pass's safe number from now
-    // on.
+    // Reads the clock, and looks at all places. Returns the least number that it saw, which is the pass's safe number
+    // from now on, unless the last one is greater.
     fn scan(&self, seat: &mut Seat<(), Known>, slots: Slots) -> u64
         requires own { seat.old.table_id ≡ self.now.id }
         requires empty { seat.old.me.1 ≡ [] }
         requires slots { self.now.plan.slots ≡ Some slots }
-        ensures safe { result ≡ seat.new.me.0.period.safe }
+        ensures safe { seat.new.me.0.period.safe ≡ max result seat.old.me.0.period.safe }
         ensures stands { StandsAs seat.old.me.0.period seat.new.me.0.period }
         ensures slot { seat.new.me.0.period.slot ≡ seat.old.me.0.period.slot }
         ensures sought { seat.new.me.0.period.sought ≡ seat.old.me.0.period.sought }
@@ -380,14 +381,16 @@ impl<A: Allocator + Copy> CardTable<A> {
         least
     }
 
-    /// Lets the clock go on, and looks at all places. Returns the least number that it saw, which is the pass's safe number from
-    /// now on: as `safe_numbers_are_safe` says, whenever a pass is in a period, it began it when the clock was this at least. It
-    /// may be less than the last one, since a pass may announce a reading of the clock that is older. Returns 0 if the table has
-    /// no places. Its steps are not counted.
+    /// Lets the clock go on, and looks at all places. Returns the least number that it saw, or the last safe number if
+    /// that is greater: the pass's safe number from now on, which is never less than the last one. As
+    /// `safe_numbers_are_safe` says, whenever a pass is in a period, it began it when the clock was this at least.
+    /// Returns 0 if the table has no places. Its steps are not counted.
     pub fn safe_number(&self, pass: &mut Pass<A>) -> u64
         requires own { pass.old.table ≡ self.now.id }
         // The pass has this safe number, and is otherwise unchanged: it has made no step that is counted.
         ensures safe { pass.new ≡ record (pass.old) { safe = result } }
+        // It is no less than the last one.
+        ensures more { pass.old.safe ≤ result }
         // A table without places has no safe number but 0.
         ensures none { self.now.plan.slots ≡ None → result ≡ 0 }
     {
@@ -396,7 +399,8 @@ impl<A: Allocator + Copy> CardTable<A> {
             return 0;
         };
         self.advance(&mut pass.seat, slots);
-        let safe = self.scan(&mut pass.seat, slots);
+        let least = self.scan(&mut pass.seat, slots);
+        let safe = least.max(pass.standing.safe);
         pass.standing.safe = safe;
         safe
     }

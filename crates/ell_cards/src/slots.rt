@@ -10,7 +10,7 @@ ghost use Rattle.ell_cards.specs.CardNodes.{NotesToo, has_node, node_alone};
 ghost use Rattle.ell_cards.specs.Dead.{HasTakenOut};
 ghost use Rattle.ell_cards.specs.Guards.{MayFill};
 ghost use Rattle.ell_cards.specs.Periods.{clock_word, StandsAs, LostIs, after_freeing, after_missing, after_noting, after_noting_read, after_own, after_read, after_seek, after_stamp, after_taking, has_slot, last_reading, slot_word, spread};
-ghost use Rattle.ell_cards.specs.Seeking.{could_take, FindsNone, FindsNoneIn, FindsOneFor, may_have, is_done, missed_none, missed_one, retires, retires_if, sought_on};
+ghost use Rattle.ell_cards.specs.Seeking.{could_take, is_found, FindsNone, FindsNoneIn, FindsOneFor, may_have, is_done, missed_none, missed_one, retires, retires_if, sought_on};
 ghost use Rattle.ell_cards.specs.Noting.{AreTakenOut, HasNoted, MayNote, MayNoteNext, MayRetire, NeverCome, retires_in};
 ghost use Rattle.ell_cards.specs.SlotWords.{card_by, has_slot_in, has_slots, is_noted, slot_of, stamp_in, turn_in, turn_of};
 ghost use Rattle.ell_cards.specs.Stepping.{MayGoOn};
@@ -21,7 +21,7 @@ use crate::card_nodes::CardNodes;
 use crate::pass::Pass;
 use crate::rule::PeriodTelling;
 use crate::table::CardTable;
-use crate::view::{Known, Slots};
+use crate::view::{Known, SlotRead, Slots};
 use atomic_table::Seat;
 use ell_word::card_of;
 use std::alloc::Allocator;
@@ -556,6 +556,8 @@ impl<A: Allocator + Copy> CardTable<A> {
         requires slot { has_slot_in slots.last card ≡ true }
         requires hand { HoldsWaiting seat.old.me.0.tree card }
         ensures read { seat.new.me.0.period ≡ after_own card result seat.old.me.0.period }
+        ensures few { could_take result seat.old.me.0.period.safe ≡ false →
+            seat.new.me.0.period.sought.missed ≤ slots.last + 1 }
         ensures tree { seat.new.me.0.tree ≡ seat.old.me.0.tree }
         ensures seat { (seat.new.table_id ≡ seat.old.table_id) × (seat.new.me.1 ≡ []) }
     {
@@ -574,9 +576,12 @@ impl<A: Allocator + Copy> CardTable<A> {
         requires free { word % 8 ≡ 7 }
         requires safe { stamp_in word < seat.old.me.0.period.safe }
         requires unlost { seat.old.me.0.period.lost ≡ None }
+        requires found { (r : SlotRead) → seat.old.me.0.period.sought.found ≡ Some r → r.slot ≡ slot_of card
+            → r.word ≡ word }
         ensures taken { result ≡ true → seat.new.me.0.period ≡ after_taking card seat.old.me.0.period }
         ensures lost { result ≡ false →
             (n : ℕ) × (seat.new.me.0.period ≡ after_missing card n seat.old.me.0.period) }
+        ensures few { result ≡ false → seat.new.me.0.period.sought.missed ≤ slots.last + 1 }
         ensures tree { seat.new.me.0.tree ≡ seat.old.me.0.tree }
         ensures seat { (seat.new.table_id ≡ seat.old.table_id) × (seat.new.me.1 ≡ []) }
     {
@@ -590,7 +595,8 @@ impl<A: Allocator + Copy> CardTable<A> {
     // have different stamps, of which the next change can take the oldest.
     fn look_now_and_then(&self, pass: &mut Pass<A>, slots: Slots, card: u64)
         requires own { pass.old.table ≡ self.now.id }
-        ensures { pass.new ≡ record (pass.old) { safe = pass.new.safe } }
+        ensures same { pass.new ≡ record (pass.old) { safe = pass.new.safe } }
+        ensures more { pass.old.safe ≤ pass.new.safe }
     {
         let numbers = pass.standing.numbers.saturating_add(1);
         let per_look = slots.numbers_per_look();
@@ -606,7 +612,8 @@ impl<A: Allocator + Copy> CardTable<A> {
     // number 0.
     fn look_first(&self, pass: &mut Pass<A>)
         requires own { pass.old.table ≡ self.now.id }
-        ensures { pass.new ≡ record (pass.old) { safe = pass.new.safe } }
+        ensures same { pass.new ≡ record (pass.old) { safe = pass.new.safe } }
+        ensures more { pass.old.safe ≤ pass.new.safe }
     {
         if pass.standing.safe == 0 {
             self.safe_number(pass);
@@ -673,9 +680,9 @@ impl<A: Allocator + Copy> CardTable<A> {
         requires own { pass.old.table ≡ self.now.id }
         requires slots { self.now.plan.slots ≡ Some slots }
         requires slot { has_slot_in slots.last card ≡ true }
-        ensures same { pass.new ≡ record (pass.old) {
-          sought = sought_on slots begins for_delete card pass.old.view.made result pass.old.safe pass.old.sought;
-        } }
+        ensures same { (n : ℕ) × (pass.new ≡ record (pass.old) {
+          sought = sought_on slots begins for_delete card pass.old.view.made n result pass.old.safe pass.old.sought;
+        }) }
         ensures has { result ≡ true → may_have slots for_delete card ≡ true }
     {
         let word = self.seek_slot(&mut pass.seat, slots, card, begins, for_delete);
@@ -697,6 +704,7 @@ impl<A: Allocator + Copy> CardTable<A> {
         ensures same { pass.new ≡ record (pass.old) { sought = pass.new.sought } }
         ensures found { IfSome result (λ c. (card ≤ c) × (c ≤ self.now.plan.last_card) × (has_slot_in slots.last c ≡ true)) }
         ensures has { IfSome result (λ c. may_have slots for_delete c ≡ true) }
+        ensures sought { IfSome result (λ c. is_found pass.new.sought.found (slot_of c) ≡ true) }
         ensures none { result ≡ None → FindsNone slots self.now.plan.last_card card for_delete pass.old.view.made
             pass.old.safe pass.new.sought }
         ensures missed { pass.new.sought.missed ≡ pass.old.sought.missed }
@@ -736,6 +744,9 @@ impl<A: Allocator + Copy> CardTable<A> {
         ensures missed { pass.new.sought.missed ≡ pass.old.sought.missed }
         // Only a delete gets one of the last two slots.
         ensures has { IfSome result (FindsOneFor self.now.plan.slots for_delete) }
+        // The slot is the one that the pass has found.
+        ensures sought { self.now.plan.slots ≢ None →
+            IfSome result (λ c. is_found pass.new.sought.found (slot_of c) ≡ true) }
         // It is a card of the table that has a slot, and none before the one from which it was sought.
         ensures found { IfSome result (λ c. (card ≤ c) × (c ≤ self.now.plan.last_card) × (has_slot self.now.plan.slots c ≡ true)) }
         // A table without places has no slots to be read.
@@ -770,9 +781,12 @@ impl<A: Allocator + Copy> CardTable<A> {
         // If it did not take the slot, it has the slot that it had.
         ensures kept { result ≡ false →
             pass.new ≡ record (pass.old) { safe = pass.new.safe; sought = pass.new.sought } }
-        // Slots that could not be taken are counted, from the last one on that was taken.
+        // Slots that the pass has found, and that could not be taken, are counted, from the last one on that was taken,
+        // or from where its operation began: they are no more than all slots.
         ensures missed { result ≡ false → has_slot self.now.plan.slots card ≡ true →
-            pass.new.sought ≡ missed_one pass.old.sought }
+            pass.new.sought ≡ missed_one (slot_of card) pass.old.sought }
+        ensures few { result ≡ false → has_slot self.now.plan.slots card ≡ true →
+            IfSome self.now.plan.slots (λ s. pass.new.sought.missed ≤ s.last + 1) }
         ensures anew { result ≡ true → self.now.plan.slots ≢ None →
             pass.new.sought ≡ missed_none pass.old.sought }
         // A table without places has no slots to be taken.

@@ -21,7 +21,7 @@ ghost use Rattle.ell_cards.specs.Starts.{SlotsFit};
 ghost use Rattle.ell_cards.specs.Shown.{IsNoClaim, StoresWord, cut_word, shown_word};
 ghost use Rattle.ell_cards.specs.Skipping.{MayStepOn};
 ghost use Rattle.ell_cards.specs.SlotWords.{slot_of};
-ghost use Rattle.ell_cards.specs.Stepping.{Exchanges, IsQuiet, MayInTable, MayTell, KeepsPass, SeesBy, StepsBy};
+ghost use Rattle.ell_cards.specs.Stepping.{Enters, EntersBy, Exchanges, IsQuiet, MayInTable, MayTell, KeepsPass, SeesBy, StepsBy, after_entering};
 
 use crate::call::Call;
 use crate::pass::{Pass, one_more};
@@ -170,7 +170,7 @@ impl<A: Allocator + Copy> CardTable<A> {
 
     // Loads a word, a step that is not counted, after the pass has begun a period if there are places and it is in none.
     #[inline(always)]
-    fn load_entered_as<J: Telling>(&self, pass: &mut Pass<A>, call: Call, word: usize) -> u64
+    fn load_entered_as<J: Noting>(&self, pass: &mut Pass<A>, call: Call, word: usize) -> u64
         requires own { pass.old.table ≡ self.now.id }
         requires may { May self.now.plan call pass.old.view }
         requires word { word ≡ place_of call }
@@ -178,12 +178,13 @@ impl<A: Allocator + Copy> CardTable<A> {
         requires atomic { atomic_of call ≡ Load }
         requires tells { MayTell self.now.plan call pass.old.view J.then }
         requires keeps { KeepsPass self.now.plan pass.old.view J.then }
+        requires notes { (n : ℕ) (p : Period) → J.notes n p ≡ after_entering call p }
         ensures told { J.then result pass.new.view }
-        ensures step { SeesBy pass.old pass.new }
+        ensures step { EntersBy call pass.old pass.new }
     {
         let _ = call;
         self.enter(&mut pass.standing, &mut pass.seat);
-        self.table.shared.load::<By<J>>(&mut pass.seat, word)
+        self.table.shared.load::<Noted<J>>(&mut pass.seat, word)
     }
 
     /// A step call that loads its word, as `see`, in a period: where there are places, and the pass is in no period, it begins
@@ -195,7 +196,7 @@ impl<A: Allocator + Copy> CardTable<A> {
         requires word { word ≡ place_of call }
         requires kept { MayInTable self.now.plan pass.old call }
         requires atomic { atomic_of call ≡ Load }
-        ensures step { Sees pass.old pass.new (after call result pass.old.view) }
+        ensures step { Enters call pass.old pass.new (after call result pass.old.view) }
         ensures tells { Tells self.now.plan call pass.old.view result }
         ensures shallow { (x : ℕ) → IsShallow (deepest self.now.plan) pass.new.view x }
     {

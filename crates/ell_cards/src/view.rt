@@ -159,7 +159,9 @@ pub struct Seek {
     pub safe: u64,
     /// How many step calls it had made when it began the row.
     pub made: u64,
-    /// So many cards that it had in hand since it took a slot last had slots that it could not take.
+    /// The slot that it could take, if the last word that it read by a search was of such a slot, with that word.
+    pub found: Option<SlotRead>,
+    /// So many slots that it found so it could not take, since it took a slot last or began its operation.
     pub missed: u64,
     /// What it has noted since of the nodes that this card made dead.
     pub retired: Retired,

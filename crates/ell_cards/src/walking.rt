@@ -8,7 +8,7 @@ ghost use Rattle.ell_layout.specs.Words.{IsLeaf};
 ghost use Rattle.ell_core.specs.statements.Effects.{AnswersAsMap};
 ghost use Rattle.ell_core.specs.acts.Searching.{MayStop};
 ghost use Rattle.ell_cards.specs.declared.view.Told.TheVariants.{Met};
-ghost use Rattle.ell_cards.specs.Models.{Sees, Steps, flat_from, IsTold, InTable, EndWasUnknown, IsFree};
+ghost use Rattle.ell_cards.specs.Models.{BeginsBy, Sees, Steps, flat_from, IsTold, InTable, EndWasUnknown, IsFree};
 ghost use Rattle.ell_cards.specs.Changes.{after_begin, after_again, after_leave, after_answer, after_rest, after_upd};
 ghost use Rattle.ell_cards.specs.declared.call.Call.TheVariants as call;
 ghost use Rattle.ell_cards.specs.Guards.{MayBegin, MayAnswer, MayRead, MayGoDown, MayLookDown};
@@ -31,8 +31,9 @@ impl<A: Allocator + Copy> CardTable<A> {
     pub fn begin(&self, pass: &mut Pass<A>, op: Op)
         requires own { pass.old.table ≡ self.now.id }
         requires may { MayBegin pass.old.view op }
-        // It makes one step and counts it. The pass then knows exactly what this call tells.
-        ensures step { Steps pass.old pass.new (after_begin (Some op) pass.old.view) }
+        // It makes one step and counts it. The pass then knows exactly what this call tells, and counts slots that it
+        // could not take from here on.
+        ensures step { BeginsBy pass.old pass.new (after_begin (Some op) pass.old.view) }
     {
         self.see_entered(pass, Call::Begin(op), root_key());
         pass.count(1);

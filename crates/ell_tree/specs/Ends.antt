@@ -1,4 +1,4 @@
-use Rattle.std.specs.Prelude.{◌≡◌, ℕ, ◌+◌, ◌*◌, ◌≤◌, ◌↔◌, ◌⊎◌, ◌==◌, Bool, true, false, Option, None, Some, is_some, IfSome, Result, Ok, Err, ◌∷◌}
+use Rattle.std.specs.Prelude.{◌≡◌, ℕ, ◌+◌, ◌*◌, ◌≤◌, ◌↔◌, ◌==◌, Bool, true, false, Option, None, Some, is_some, IfSome, Result, Ok, Err, ◌∷◌}
 use Rattle.ell_core.specs.statements.Effects.{reply_of_change}
 use Rattle.ell_ops.specs.declared.op.Op.{Op}
 use Rattle.ell_ops.specs.declared.op.Op.TheVariants.{Find, Insert, Delete, Swap}
@@ -67,19 +67,12 @@ pub record HasSoughtInVain (s : Slots) (last : ℕ) (op : Op) (steps : ℕ) (p :
   pub none : FindsNone s last from (is_delete op) made p.safe p.sought
   pub since : p.view.made ≤ made + steps
 
--- since it took a slot last, it has claimed so many cards whose slots it could not take, one more than there are slots
-abbrev pub HasClaimedInVain : Slots → PassModel → Type 0
-HasClaimedInVain s p = s.last + 2 ≤ p.sought.missed
-
-abbrev pub HasNoSlot : Slots → ℕ → Op → ℕ → PassModel → Type 0
-HasNoSlot s last op steps p = HasSoughtInVain s last op steps p ⊎ HasClaimedInVain s p
-
 -- No card is left to an operation: the claim word, as the pass read it last, says that all cards are given out. Where
 -- cards lie in slots, the pass found no slot to take, and has made so many step calls at most since; and if it read the
 -- words of all slots in vain, they are full, in each state of the tree in which it knows this.
 pub record NoneIsLeft (plan : TablePlan) (op : Op) (steps : ℕ) (p : PassModel) : Type 0 where
   pub given_out : plan.slots ≡ None → p.view.next ≡ Some (plan.last_card + 1)
-  pub no_slot : (s : Slots) → plan.slots ≡ Some s → HasNoSlot s plan.last_card op steps p
+  pub no_slot : (s : Slots) → plan.slots ≡ Some s → HasSoughtInVain s plan.last_card op steps p
   pub full : (s : Slots) → plan.slots ≡ Some s → plan.flat ≡ true → p.sought.read ≡ s.last + 1 → p.sought.takeable ≡ 0
       → IsFullFor plan s p.sought
 

@@ -13,6 +13,7 @@ use Rattle.ell_word.specs.declared.update.Update.{Update}
 use Rattle.ell_core.specs.declared.fact.Fact.{Fact}
 use Rattle.ell_core.specs.declared.fact.Fact.TheVariants as fact
 use Rattle.ell_layout.specs.declared.field.Field.{Field}
+use Rattle.ell_cards.specs.declared.view.Slots.{Slots}
 use Rattle.ell_cards.specs.declared.view.Told.{Told}
 use Rattle.ell_cards.specs.declared.view.Told.TheVariants.{Expects}
 use Rattle.ell_cards.specs.declared.view.Hindrance.{Hindrance}
@@ -194,7 +195,7 @@ pub record HoldsAside (plan : TablePlan) (p : PassModel) : Type 0 where
   pub aside : plan.slots ≢ None → (c : ℕ) → p.view.worker.card ≡ Some c → p.slot ≢ Some c
 
 -- a card was claimed in vain, whose slot could not be taken: the pass stands where it stood, and would fill a card with
--- what it would have filled it
+-- what it would have filled it; and it has missed no more slots than there are
 pub record ClaimsInVain (plan : TablePlan) (old new : PassModel) : Type 0 where
   pub slots : plan.slots ≢ None
   pub hand : HoldsAside plan new
@@ -203,6 +204,7 @@ pub record ClaimsInVain (plan : TablePlan) (old new : PassModel) : Type 0 where
   pub values : value_told new.view.told ≡ value_told old.view.told
   pub hindrances : new.view.hindrances ≡ old.view.hindrances
   pub missed : new.sought.missed ≡ old.sought.missed + 1
+  pub few : (s : Slots) → plan.slots ≡ Some s → new.sought.missed ≤ s.last + 1
 
 -- what comes of claiming the next card
 abbrev pub ClaimsNext : TablePlan → Op → Place → ℕ → PassModel → PassModel → Next → Type 0

@@ -373,11 +373,11 @@ impl<A: Allocator + Copy> Tree<A> {
     /// then: a card that another pass took first, or a change of a neighbor, which was helped to its end if no other
     /// call had ended it.
     ///
-    /// A call finds no card if all are given out. Where cards come back, it finds none if it can take no slot. If it
-    /// has read the words of all slots, then all but the two that are left to deletes are at most as many as the start
-    /// keys, two for each key of the tree, three, three for each place, and those that were set free too lately: with
-    /// a stamp no less than the safe number by which the pass read the words. Otherwise it has claimed one card more
-    /// than there are slots, and could take the slot of none, or no number with a slot is left.
+    /// A call finds no card if all are given out. Where cards come back, it finds none if no number with a slot is
+    /// left, or if it has read the words of all slots that are left to numbers, in a row, and could have taken none of
+    /// them for the change. If these are all slots, then all but the two that are left to deletes are at most as many
+    /// as the start keys, two for each key of the tree, three, three for each place, and those that were set free too
+    /// lately: with a stamp no less than the safe number by which the pass read the words.
     ///
     /// A call takes at most `tries * (7 * depth + 27) + 1` steps. Each try that ends without an answer shows the pass
     /// a card given out, or come to its end, that it did not know of, and no card does either twice: so with more
@@ -401,11 +401,10 @@ impl<A: Allocator + Copy> Tree<A> {
         // any key, the answer is that of one thread at one point of the call, in every run. A call without an answer
         // changes nothing in any run: `Busy` is returned only after as many hindrances as tries, and `Spent` only if no
         // card is left: the claim word says so; or, where cards come back, no number with a slot is left, or the pass
-        // has read the words of all slots that are left to numbers, in a row, and could have taken none for the change;
-        // or it has claimed in vain one card more than there are slots. If it has read the words of all slots, those
-        // for the change (all for a delete, and all but two for another one) are at most as many as the start keys, two
-        // for each key of the tree, three, three for each place, and those set free too lately. What was in its way is
-        // over.
+        // has read the words of all slots that are left to numbers, in a row, and could have taken none for the change.
+        // If it has read the words of all slots, those for the change (all for a delete, and all but two for another
+        // one) are at most as many as the start keys, two for each key of the tree, three, three for each place, and
+        // those set free too lately. What was in its way is over.
         ensures ends { Ends self.now tries (Insert key value) pass.old pass.new (replied result) }
         // The pass was answered this call and no other, or nothing if the call has no answer.
         ensures called { IsCalled (Insert key value) pass.old pass.new (replied result) }
@@ -607,11 +606,10 @@ impl<A: Allocator + Copy> Tree<A> {
         // any key, the answer is that of one thread at one point of the call, in every run. A call without an answer
         // changes nothing in any run: `Busy` is returned only after as many hindrances as tries, and `Spent` only if no
         // card is left: the claim word says so; or, where cards come back, no number with a slot is left, or the pass
-        // has read the words of all slots that are left to numbers, in a row, and could have taken none for the change;
-        // or it has claimed in vain one card more than there are slots. If it has read the words of all slots, those
-        // for the change (all for a delete, and all but two for another one) are at most as many as the start keys, two
-        // for each key of the tree, three, three for each place, and those set free too lately. What was in its way is
-        // over.
+        // has read the words of all slots that are left to numbers, in a row, and could have taken none for the change.
+        // If it has read the words of all slots, those for the change (all for a delete, and all but two for another
+        // one) are at most as many as the start keys, two for each key of the tree, three, three for each place, and
+        // those set free too lately. What was in its way is over.
         ensures ends { Ends self.now tries (Delete key) pass.old pass.new (replied result) }
         // The pass was answered this call and no other, or nothing if the call has no answer. The call took a value
         // exactly if it says so.
@@ -647,11 +645,10 @@ impl<A: Allocator + Copy> Tree<A> {
         // any key, the answer is that of one thread at one point of the call, in every run. A call without an answer
         // changes nothing in any run: `Busy` is returned only after as many hindrances as tries, and `Spent` only if no
         // card is left: the claim word says so; or, where cards come back, no number with a slot is left, or the pass
-        // has read the words of all slots that are left to numbers, in a row, and could have taken none for the change;
-        // or it has claimed in vain one card more than there are slots. If it has read the words of all slots, those
-        // for the change (all for a delete, and all but two for another one) are at most as many as the start keys, two
-        // for each key of the tree, three, three for each place, and those set free too lately. What was in its way is
-        // over.
+        // has read the words of all slots that are left to numbers, in a row, and could have taken none for the change.
+        // If it has read the words of all slots, those for the change (all for a delete, and all but two for another
+        // one) are at most as many as the start keys, two for each key of the tree, three, three for each place, and
+        // those set free too lately. What was in its way is over.
         ensures ends { Ends self.now tries (Delete key) pass.old pass.new (replied (whether result)) }
         // The pass was answered this call and no other, which took the value that it returns; or nothing, if the call
         // has no answer.

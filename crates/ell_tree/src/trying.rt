@@ -88,6 +88,7 @@ pub(crate) fn take_card<A: Allocator + Copy, G: StepGate>(
             Next::InUse => {}
         }
     }
+    // Never so: others took each of these slots first, and an operation misses no slot twice.
     Claimed::NoneLeft
 }
 

@@ -35,6 +35,8 @@ pub mod LeaksOfCalls
 pub mod LeaksOfHandovers
 -- what passes have read in their searches for slots
 pub mod Searches
+-- what was taken since their periods began
+pub mod Takings
 -- these steps as those of a whole table
 pub mod Going
 -- and those on the words of slots

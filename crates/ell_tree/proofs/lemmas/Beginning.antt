@@ -1,7 +1,7 @@
 use Rattle.std.proofs.Common.{◌++◌, Option, Some, [], refl, sym, ap, subst}
 use Rattle.ell_ops.specs.declared.op.Op.{Op}
 use Rattle.ell_cards.specs.declared.view.View.{View}
-use Rattle.ell_cards.specs.Models.{PassModel, Steps, Does, latest}
+use Rattle.ell_cards.specs.Models.{BeginsBy, PassModel, Steps, Does, latest}
 use Rattle.ell_cards.specs.Changes.{after_begin, after_again, after_leave, in_the_way, tries_hindered}
 use Rattle.ell_tree.specs.Hindrances.{way_of}
 use Rattle.ell_tree.specs.Searches.{AtRoot}
@@ -11,7 +11,7 @@ use Rattle.ell_tree.proofs.lemmas.Meeting.{root_way}
 use Rattle.ell_tree.proofs.lemmas.Hindrances.{root_hindered}
 
 -- an operation that was taken in hand stands at the root
-pub begins : (old new : PassModel) (op : Op) → Steps old new (after_begin (Some op) old.view) → Begins op [] old.view.hindered old new
+pub begins : (old new : PassModel) (op : Op) → BeginsBy old new (after_begin (Some op) old.view) → Begins op [] old.view.hindered old new
 begins old new op s = subst (λ (m : PassModel). Begins op [] old.view.hindered old m) (sym s) (record {
   table = refl;
   label = refl;
@@ -25,7 +25,7 @@ begins old new op s = subst (λ (m : PassModel). Begins op [] old.view.hindered 
   least = refl;
   root = record { busy = refl; root = refl; no_card = refl; met = latest _ _; before = refl; unmet = refl };
   taken = refl;
-  took = took_one old (after_begin (Some op) old.view) refl;
+  took = let one = took_one old (after_begin (Some op) old.view) refl in record { steps = one.steps; made = one.made };
 })
 
 -- so does one that starts anew

@@ -1,4 +1,4 @@
-use Rattle.std.proofs.Common.{◌≡◌, ◌≢◌, ℕ, ◌+◌, ◌-◌, ◌*◌, ◌<◌, ◌≤◌, ◌++◌, Bool, true, false, Option, Some, None, List, [], ◌∷◌, length, inl, inr, refl, sym, ◌∙◌, ap, subst, unwrap_or, arith}
+use Rattle.std.proofs.Common.{IfSome, ◌≡◌, ◌≢◌, ℕ, ◌+◌, ◌-◌, ◌*◌, ◌<◌, ◌≤◌, ◌++◌, Bool, true, false, Option, Some, None, List, [], ◌∷◌, length, inl, inr, refl, sym, ◌∙◌, ap, subst, unwrap_or, arith}
 use Rattle.std.proofs.lemmas.Option.{same_Some}
 use Rattle.ell_ops.specs.declared.op.Op.{Op}
 use Rattle.ell_word.specs.declared.update.State.TheVariants as state
@@ -16,7 +16,8 @@ use Rattle.ell_cards.specs.Models.{TablePlan, PassModel, Steps, flat_from, lates
 use Rattle.ell_cards.specs.Changes.{expected_tag, filling_for, filling_of, tag_of_claim, value_told}
 use Rattle.ell_cards.specs.Guards.{MayClaim, MayFill, Wants}
 use Rattle.ell_cards.specs.Periods.{most_claims}
-use Rattle.ell_cards.specs.Seeking.{FindsNone, FindsNoneIn, missed_one}
+use Rattle.ell_cards.specs.SlotWords.{slot_of}
+use Rattle.ell_cards.specs.Seeking.{FindsNone, FindsNoneIn, is_found, missed_one, one_if}
 use Rattle.ell_cards.specs.Shown.{cut_planned}
 use Rattle.ell_cards.specs.Skipping.{after_claimed_row, after_row, IsAfterRow, IsFresh}
 use Rattle.ell_cards.specs.Stepping.{LetsGo, MayInTable}
@@ -176,8 +177,9 @@ module _ (a b e : PassModel) (first node_key : ℕ) (read : Steps a b (after_nex
 
     -- or it may be laid aside
     pub in_vain : (plan : TablePlan) (f : PassModel) → plan.slots ≢ None → plan.flat ≡ true → ClaimsAll true → IsFresh plan e.slot true last
-        → f ≡ record d { safe = f.safe; sought = f.sought } → e.sought.missed ≡ b.sought.missed → f.sought ≡ missed_one d.sought → ClaimsInVain plan a f
-    in_vain plan f places flat s fresh kept none missed =
+        → f ≡ record d { safe = f.safe; sought = f.sought } → e.sought.missed ≡ b.sought.missed → is_found e.sought.found (slot_of last) ≡ true → f.sought ≡ missed_one (slot_of last) d.sought
+        → IfSome plan.slots (λ o. f.sought.missed ≤ o.last + 1) → ClaimsInVain plan a f
+    in_vain plan f places flat s fresh kept none found missed few =
         let view = ap (λ (p : PassModel). p.view) kept in
         let slot = ap (λ (p : PassModel). p.slot) kept ∙ ap (λ (p : PassModel). p.slot) s in
         let r = subst (IsAfterRow first last node_key (after_next first a.view)) (sym view) (row s) in
@@ -196,7 +198,9 @@ module _ (a b e : PassModel) (first node_key : ℕ) (read : Steps a b (after_nex
               let now = ap (λ (k : Seek). k.missed) missed in
               let claimed = ap (λ (p : PassModel). p.sought.missed) s in
               let before = ap (λ (p : PassModel). p.sought.missed) read in
-              omega (arith, now, claimed, none, before);
+              let one = ap (λ (p : PassModel). one_if (is_found p.sought.found (slot_of last))) s ∙ ap one_if found in
+              omega (arith, now, claimed, none, before, one);
+          few = λ o is. subst (λ x. IfSome x (λ y. f.sought.missed ≤ y.last + 1)) is few;
         }
 
     -- if it lost them, no card was taken, and that was in the way
@@ -228,6 +232,7 @@ pub record HasAsked (plan : TablePlan) (n : ℕ) (old new : PassModel) : Type 0 
   pub hindrances : new.view.hindrances ≡ old.view.hindrances
   pub slots : 0 < n → plan.slots ≢ None
   pub missed : n ≤ new.sought.missed
+  pub few : 0 < n → (s : Slots) → plan.slots ≡ Some s → new.sought.missed ≤ s.last + 1
   pub taken : plan.slots ≡ None → TakesNoCard old new
 
 -- none was at first
@@ -245,6 +250,7 @@ asked_none plan p none = record {
   hindrances = refl;
   slots = λ some. absurd (omega (arith, some));
   missed = omega arith;
+  few = λ some. absurd (omega (arith, some));
   taken = λ empty. refl;
 }
 
@@ -269,6 +275,7 @@ asked_more plan n old mid new h keeps vain = record {
   hindrances = vain.hindrances ∙ h.hindrances;
   slots = λ some. vain.slots;
   missed = omega (arith, h.missed, vain.missed);
+  few = λ some. vain.few;
   taken = λ empty. absurd (vain.slots empty);
 }
 
@@ -357,29 +364,24 @@ pub claims_some : (o : Option Slots) → 0 < most_claims o
 claims_some None = omega arith
 claims_some (Some s) = omega arith
 
--- so once it has claimed as many as it may, there are slots
-asked_slots : (plan : TablePlan) (n : ℕ) (old mid : PassModel) → HasAsked plan n old mid → n ≡ most_claims plan.slots → plan.slots ≢ None
-asked_slots plan n old mid h all = h.slots (let some = claims_some plan.slots in omega (arith, all, some))
-
+-- so it never claims as many as it may in vain
 pub asked_in_vain : (plan : TablePlan) (n : ℕ) (old mid : PassModel) (op : Op) (place : Place) (node_key : ℕ) → HasAsked plan n old mid → n ≡ most_claims plan.slots
     → Claims plan op place node_key old mid claimed.NoneLeft
-asked_in_vain plan n old mid op place node_key h all = (
-  record { unflagged = λ c holds. aside_unflagged plan mid c h.hand holds; search = h.search },
-  record {
-    given_out = λ empty. absurd (asked_slots plan n old mid h all empty);
-    no_slot = λ s is. (let many = all ∙ ap most_claims is in inr (omega (arith, many, h.missed)));
-    full = λ s is flat whole none_takes. sought_in_vain_means_full plan s is flat mid.sought whole none_takes;
-  },
-  h.hindrances,
-  lets_aside_go plan mid mid refl refl refl h.hand,
-)
+asked_in_vain plan n old mid op place node_key h all = absurd (by plan.slots refl)
+  where
+    some : 0 < n
+    some = let more = claims_some plan.slots in omega (arith, all, more)
+
+    by : (o : Option Slots) → plan.slots ≡ o → ⊥
+    by None none = h.slots some none
+    by (Some s) is = let many = all ∙ ap most_claims is in let few = h.few some s is in omega (arith, many, few, h.missed)
 
 -- all numbers were given out
 pub numbers_at_end : (plan : TablePlan) (op : Op) (p : PassModel) (from : ℕ) → p.view.next ≡ Some from → plan.last_card < from → from ≤ plan.last_card + 1
     → NoneIsLeft plan op 0 p
 numbers_at_end plan op p from next past most = record {
   given_out = λ empty. next ∙ ap (λ n. Some n) (omega (arith, past, most));
-  no_slot = λ s is. inl record {
+  no_slot = λ s is. record {
     from = from;
     made = p.view.made;
     next = next;
@@ -394,7 +396,7 @@ pub none_found : (plan : TablePlan) (op : Op) (p : PassModel) (from made : ℕ) 
     → FindsNoneIn plan.slots plan.last_card from for_delete made p.safe p.sought → NoneIsLeft plan op 0 p
 none_found plan op p from made for_delete there next same kind finds = record {
   given_out = λ empty. absurd (there empty);
-  no_slot = λ s is. inl record {
+  no_slot = λ s is. record {
     from = from;
     made = made;
     next = next;
@@ -408,16 +410,13 @@ none_found plan op p from made for_delete there next same kind finds = record {
 pub still_none : (plan : TablePlan) (op : Op) (old new : PassModel) → new.view.next ≡ old.view.next → new.sought ≡ old.sought → new.safe ≡ old.safe → Took old new 1 → NoneIsLeft plan op 0 old → NoneIsLeft plan op 1 new
 still_none plan op old new next sought safe took none = record {
   given_out = λ empty. next ∙ none.given_out empty;
-  no_slot = λ s is. elim (none.no_slot s is) [
-    | inl vain ↦ inl record {
-      from = vain.from;
-      made = vain.made;
-      next = next ∙ vain.next;
-      none = subst (λ n. FindsNone s plan.last_card vain.from (is_delete op) vain.made n new.sought) (sym safe)
-          (subst (FindsNone s plan.last_card vain.from (is_delete op) vain.made old.safe) (sym sought) vain.none);
-      since = omega (arith, took.made, vain.since);
-    }
-    | inr many ↦ inr (subst (λ (k : Seek). s.last + 2 ≤ k.missed) (sym sought) many)
-  ];
+  no_slot = λ s is. (let vain = none.no_slot s is in record {
+    from = vain.from;
+    made = vain.made;
+    next = next ∙ vain.next;
+    none = subst (λ n. FindsNone s plan.last_card vain.from (is_delete op) vain.made n new.sought) (sym safe)
+        (subst (FindsNone s plan.last_card vain.from (is_delete op) vain.made old.safe) (sym sought) vain.none);
+    since = omega (arith, took.made, vain.since);
+  });
   full = λ s is flat whole none_takes. sought_in_vain_means_full plan s is flat new.sought whole none_takes;
 }

@@ -14,11 +14,13 @@ use Rattle.ell_word.specs.Node.{greatest_card, greatest_number}
 use Rattle.ell_layout.specs.Layout.{address, table_size}
 use Rattle.ell_layout.specs.declared.field.Field.{Field}
 use Rattle.ell_layout.specs.declared.field.Field.TheVariants as field
+use Rattle.ell_ops.specs.declared.op.Op.{Op}
 use Rattle.ell_cards.specs.declared.call.Call.{Call}
 use Rattle.ell_cards.specs.declared.call.Call.TheVariants as call
 use Rattle.ell_cards.specs.declared.view.Known.{Known}
 use Rattle.ell_cards.specs.declared.view.Period.{Period}
 use Rattle.ell_cards.specs.declared.view.Retired.{Retired}
+use Rattle.ell_cards.specs.declared.view.Seek.{Seek}
 use Rattle.ell_cards.specs.declared.view.Slots.{Slots}
 use Rattle.ell_cards.specs.declared.view.Told.TheVariants.{Info}
 use Rattle.ell_cards.specs.declared.view.View.{View}
@@ -35,10 +37,11 @@ use Rattle.ell_cards.specs.PeriodLaws.{IsInPeriod}
 use Rattle.ell_cards.specs.Periods.{WholeState, IsAtRest, slots_size, after_flagging}
 use Rattle.ell_cards.specs.Apart.{IsApart}
 use Rattle.ell_cards.specs.Shown.{IsWord, cut_word, cut_by, shown_word, shown_words, shown, shown_call, FieldIsWhole, FillIsWhole, CanBeShown, StoresAreWhole, StoresWord}
+use Rattle.ell_cards.specs.Seeking.{begun_seek}
 use Rattle.ell_cards.specs.SlotWords.{slot_of}
 use Rattle.ell_cards.specs.Starts.{SlotsFit}
 use Rattle.ell_cards.specs.States.{TableState}
-use Rattle.ell_cards.specs.Stepping.{Exchanges, IsQuiet, MayInTable, MayTell}
+use Rattle.ell_cards.specs.Stepping.{BeginsNone, Exchanges, after_entering, IsQuiet, MayInTable, MayTell}
 use Rattle.ell_cards.specs.Tied.{HasWon, MayInMemory, IsTied, FlagsCard, FlagsNone}
 use Rattle.ell_cards.specs.Ties.{card_touched, ExpectsNear, FindsTied, IsTiedByAges, TouchesTied, memory_after}
 use Rattle.ell_cards.specs.Touching.{touched_by}
@@ -60,7 +63,7 @@ use Rattle.ell_cards.proofs.lemmas.ties.Touched.{spots, touched_won, claim_is_wo
 use Rattle.ell_cards.proofs.lemmas.whole.Ages.{AgesOn}
 use Rattle.ell_cards.proofs.lemmas.whole.Going.{set_twice}
 use Rattle.ell_cards.proofs.lemmas.whole.Fields.{FillsWhole, fields_after, field_can}
-use Rattle.ell_cards.proofs.lemmas.whole.LeaksOfCalls.{flag_lost, leaks_after_call, flags_by_hand}
+use Rattle.ell_cards.proofs.lemmas.whole.LeaksOfCalls.{flag_lost, leaks_after_call, flags_by_hand, free_after}
 use Rattle.ell_cards.proofs.lemmas.whole.Losing.{aside_in_ages, lost_now}
 use Rattle.ell_cards.proofs.lemmas.ties.Apart.{tells_apart, tells_apart_plain}
 use Rattle.ell_cards.proofs.lemmas.whole.Apart.{passes_tell_apart, ready_there}
@@ -70,8 +73,10 @@ use Rattle.ell_cards.proofs.lemmas.whole.Retired.{HadInHand, held_before, retire
 use Rattle.ell_cards.proofs.lemmas.whole.Seats.{lie_same}
 use Rattle.ell_cards.proofs.lemmas.whole.Trees.{tree_at, slots_stay, tree_periods, clock_stays}
 use Rattle.ell_cards.proofs.lemmas.words.Slotted.{slot_inside}
-use Rattle.ell_cards.proofs.lemmas.whole.Searches.{row_of, searches_same}
+use Rattle.ell_cards.proofs.lemmas.whole.Searches.{SameRow, searches_same}
 use Rattle.ell_cards.specs.Searches.{SearchesAreSound}
+use Rattle.ell_cards.proofs.lemmas.whole.Takings.{takings_noted}
+use Rattle.ell_cards.specs.Takings.{MissesWereTaken, TakingsAreSound}
 
 -- a card that is no later than the last one that may have a slot of its own has that
 own_slot : (c : ℕ) → c ≤ greatest_card → slot_of c ≡ c
@@ -83,9 +88,20 @@ flags_one (call.IFlag c p from) d e is same = is ∙ sym same
 flags_one (call.DFlag c gp from) d e is same = is ∙ sym same
 flags_one _ d e is same = absurd is
 
--- what a pass notes of periods by a step call: nothing, or the card that the call was to flag, and has not
+-- a call that begins neither an operation nor a look begins no operation, and one that sets a flag begins none
+pub quiet_begins : (c : Call) → IsQuiet c → BeginsNone c
+quiet_begins (call.Begin op) quiet = quiet
+quiet_begins _ quiet = tt
+
+flag_begins : (c : Call) (d : ℕ) → FlagsCard c d → BeginsNone c
+flag_begins (call.Begin op) d flags = flags
+flag_begins _ d flags = tt
+
+-- What a pass notes of periods by a step call: nothing; or that it counts slots that it could not take anew, as the call
+-- begins an operation; or the card that the call was to flag, and has not.
 pub data Notes (slots : Option Slots) (c : Call) (n : ℕ) (old new : Period) : Type 0 where
-  nothing : new ≡ old → (slots ≢ None → (d : ℕ) → FlagsCard c d → is_won (atomic_of c) n ≡ true) → Notes slots c n old new
+  nothing : new ≡ old → BeginsNone c → (slots ≢ None → (d : ℕ) → FlagsCard c d → is_won (atomic_of c) n ≡ true) → Notes slots c n old new
+  begins : (op : Op) → c ≡ call.Begin op → new ≡ record old { sought = begun_seek old.sought } → Notes slots c n old new
   loses : (d : ℕ) → new ≡ record old { lost = Some d } → FlagsCard c d → is_won (atomic_of c) n ≡ false → Notes slots c n old new
 
 -- the parts of a step call of the tree
@@ -307,46 +323,82 @@ module _ (plan : TablePlan) (s : WholeState) (h : IsWhole plan s) (id : ℕ) (k 
           its_periods.1 has.retired has.tied.fits has.tied.own (set s.words (place_of c) cut) homes (slots_stay s id k here (view_after h.tree k.tree c) sl (place_of c) cut tied_touch.inside) p (slotted notes) (lost_by notes)
         where
           slotted : Notes plan.slots c (found_by h.tree c) k.period p → p.slot ≡ k.period.slot
-          slotted (nothing is flags) = ap (λ (x : Period). x.slot) is
+          slotted (nothing is none flags) = ap (λ (x : Period). x.slot) is
+          slotted (begins op at is) = ap (λ (x : Period). x.slot) is
           slotted (loses d is flags unwon) = ap (λ (x : Period). x.slot) is
 
           lost_by : Notes plan.slots c (found_by h.tree c) k.period p → (d : ℕ) → FlagsCard c d → is_won (atomic_of c) (found_by h.tree c) ≡ false → p.lost ≡ Some d
-          lost_by (nothing is won) d flags unwon = absurd (false≢true (sym unwon ∙ won (λ none. some_not_none placed none) d flags))
+          lost_by (begins op at is) d flags unwon = absurd (subst (λ e. FlagsCard e d) at flags)
+          lost_by (nothing is none won) d flags unwon = absurd (false≢true (sym unwon ∙ won (λ none. some_not_none placed none) d flags))
           lost_by (loses e is flags' unwon') d flags unwon = ap (λ (x : Period). x.lost) is ∙ ap Some (flags_one c e d flags' flags)
 
       -- and what passes have read in their searches is so still
-      noted_searches : (p : Period) → p.sought ≡ k.period.sought → p.announced ≡ k.period.announced → p.began ≡ k.period.began
+      noted_searches : (p : Period) → SameRow k.period.sought p.sought → p.announced ≡ k.period.announced → p.began ≡ k.period.began
           → SearchesAreSound sl (record { words = set s.words (place_of c) cut; homes = homes; views = set s.views id (noting p) })
       noted_searches p sought announced began =
           searches_same sl s its_periods.2 id k here (noting p) (set s.words (place_of c) cut) homes
-          (let same = clock_stays s id k here (view_after h.tree k.tree c) sl (place_of c) cut tied_touch.inside in omega arith) (ap row_of sought) (λ a an. (sym announced ∙ an, began))
+          (let same = clock_stays s id k here (view_after h.tree k.tree c) sl (place_of c) cut tied_touch.inside in omega arith) sought (λ a an. (sym announced ∙ an, began))
           (slots_stay s id k here (view_after h.tree k.tree c) sl (place_of c) cut tied_touch.inside)
+
+      -- and slots that they missed were taken meanwhile
+      abbrev HasMissed : Period → Type 0
+      HasMissed p = (view_after h.tree k.tree c).worker.operation ≢ None → MissesWereTaken sl s.words its_periods.3.taken p
+
+      missed_still : BeginsNone c → HasMissed k.period
+      missed_still begun works = its_periods.3.misses id k here (λ free. works (free_after c (found_by h.tree c) k.tree begun free))
+
+      noted_takings : (p : Period) → p.stamp ≡ k.period.stamp → HasMissed p → TakingsAreSound sl (record { words = set s.words (place_of c) cut; homes = homes; views = set s.views id (noting p) }) has.lie
+      noted_takings p stamp mine =
+          takings_noted sl s has.lie its_periods.3 id k here (noting p) (set s.words (place_of c) cut) homes
+          (let same = clock_stays s id k here (view_after h.tree k.tree c) sl (place_of c) cut tied_touch.inside in omega arith)
+          (slots_stay s id k here (view_after h.tree k.tree c) sl (place_of c) cut tied_touch.inside) (λ d reading is. inl (sym stamp ∙ is)) mine
 
       abbrev Periods : List Known → Type 0
       Periods views = PeriodsAre plan (Some sl) after (record { words = set s.words (place_of c) cut; homes = homes; views = views })
 
-      -- if it noted the card whose flag it lost, too
-      lost_periods_too : (d : ℕ) → FlagsCard c d → is_won (atomic_of c) (found_by h.tree c) ≡ false → Periods (set (set s.views id knows) id (noting (record k.period { lost = Some d })))
-      lost_periods_too d flags unwon = (
-        lost_now plan sl after (memory_after h.tree s homes id k c) id knows (set_there s.views id knows k here) tied_periods (Some d)
-            (λ e is. subst (IsAside tied_ages.ages.now.machine.stages after.views) (same_Some d e is) (aside_in_ages plan sl h.tree s has.lie has.dead has.was_dead has.ages id k.tree tree_here c may (memory_after h.tree s homes id k c) tied_ages d flags unwon))
-            (λ e is. flag_lost c (found_by h.tree c) k.tree d flags unwon) (λ e is. in_period),
-        subst (λ l. NothingLeaks sl (record { words = set s.words (place_of c) cut; homes = homes; views = l }) after.views tied_ages.ages.now.machine.words tied_ages.ages.now.machine.stages has.lie)
-            (sym (set_twice s.views id knows (noting (record k.period { lost = Some d })))) (noted_leaks (record k.period { lost = Some d }) (loses d refl flags unwon)),
-        subst (λ l. SearchesAreSound sl (record { words = set s.words (place_of c) cut; homes = homes; views = l }))
-            (sym (set_twice s.views id knows (noting (record k.period { lost = Some d })))) (noted_searches (record k.period { lost = Some d }) refl refl refl),
-      )
+      -- if it noted something, too
+      noted_too : (o : Option ℕ) (sought : Seek) → sought.retired ≡ k.period.sought.retired → SameRow k.period.sought sought
+          → ((d : ℕ) → o ≡ Some d → IsAside tied_ages.ages.now.machine.stages after.views d) → ((d : ℕ) → o ≡ Some d → (view_after h.tree k.tree c).worker.card ≡ None) → ((d : ℕ) → o ≡ Some d → k.period.announced ≢ None)
+          → Notes plan.slots c (found_by h.tree c) k.period (record k.period { lost = o; sought = sought }) → HasMissed (record k.period { lost = o; sought = sought })
+          → Periods (set s.views id (noting (record k.period { lost = o; sought = sought })))
+      noted_too o sought noted row aside idle in_period notes mine =
+          let p : Period = record k.period { lost = o; sought = sought } in
+          let twice = set_twice s.views id knows (noting p) in
+          subst Periods twice (
+            lost_now plan sl after (memory_after h.tree s homes id k c) id knows (set_there s.views id knows k here) tied_periods o sought noted aside idle in_period,
+            subst (λ l. NothingLeaks sl (record { words = set s.words (place_of c) cut; homes = homes; views = l }) after.views tied_ages.ages.now.machine.words tied_ages.ages.now.machine.stages has.lie)
+                (sym twice) (noted_leaks p notes),
+            subst (λ l. SearchesAreSound sl (record { words = set s.words (place_of c) cut; homes = homes; views = l })) (sym twice) (noted_searches p row refl refl),
+            subst (λ l. TakingsAreSound sl (record { words = set s.words (place_of c) cut; homes = homes; views = l }) has.lie) (sym twice) (noted_takings p refl mine),
+          )
+
+      whole_periods : (p : Period) → Notes plan.slots c (found_by h.tree c) k.period p → Periods (set s.views id (noting p))
+      whole_periods p (nothing is none flags) =
+          subst (λ q. Periods (set s.views id (noting q))) (sym is) (
+            tied_periods,
+            noted_leaks k.period (nothing refl none flags),
+            noted_searches k.period refl refl refl,
+            noted_takings k.period refl (missed_still none),
+          )
+      whole_periods p (begins op at is) =
+          let none : (d : ℕ) → k.period.lost ≡ Some d → ⊥ = λ d lost_it. some_not_none lost_it unlost in
+          subst (λ q. Periods (set s.views id (noting q))) (sym is)
+          (noted_too k.period.lost (begun_seek k.period.sought) refl refl (λ d lost_it. absurd (none d lost_it)) (λ d lost_it. absurd (none d lost_it)) (λ d lost_it. absurd (none d lost_it)) (begins op at refl)
+          (λ works. record { few = omega arith; found = λ r is. absurd (some_not_none is refl) }))
+      whole_periods p (loses d is flags unwon) =
+          subst (λ q. Periods (set s.views id (noting q))) (sym is)
+          (noted_too (Some d) k.period.sought refl refl
+          (λ e same. subst (IsAside tied_ages.ages.now.machine.stages after.views) (same_Some d e same)
+          (aside_in_ages plan sl h.tree s has.lie has.dead has.was_dead has.ages id k.tree tree_here c may (memory_after h.tree s homes id k c) tied_ages d flags unwon))
+          (λ e same. flag_lost c (found_by h.tree c) k.tree d flags unwon) (λ e same. in_period) (loses d refl flags unwon)
+          (λ works. (let was = missed_still (flag_begins c d flags) works in record {
+            few = was.few;
+            found = λ r is. (let it = was.found r is in record { inside = it.inside; could = it.could; stands = it.stands });
+          })))
         where
           -- a pass with a card in hand is in a period
           in_period : k.period.announced ≢ None
           in_period quiet = flags_by_hand plan c d k.tree may flags ((has.periods.each id k here).rests quiet).empty
-
-      whole_periods : (p : Period) → Notes plan.slots c (found_by h.tree c) k.period p → Periods (set s.views id (noting p))
-      whole_periods p (nothing is flags) =
-          subst (λ q. Periods (set s.views id (noting q))) (sym is) (tied_periods, noted_leaks k.period (nothing refl flags), noted_searches k.period refl refl refl)
-      whole_periods p (loses d is flags unwon) =
-          subst (λ q. Periods (set s.views id (noting q))) (sym is)
-          (subst Periods (set_twice s.views id knows (noting (record k.period { lost = Some d }))) (lost_periods_too d flags unwon))
 
       pub tied_whole : (p : Period) → Notes plan.slots c (found_by h.tree c) k.period p → IsWhole plan (stepped s (place_of c) cut id [] (noting p) keeps)
       tied_whole p notes = whole_after p (place_of c) cut
@@ -390,6 +442,15 @@ quiet_whole (call.Begin op) quiet = quiet
 quiet_whole call.Look quiet = quiet
 quiet_whole _ quiet = tt
 
+-- and begins an operation where the call begins it
+shown_begins : (c : Call) (op : Op) → shown_call c ≡ call.Begin op → c ≡ call.Begin op
+shown_begins (call.Begin op') op is = is
+shown_begins _ op is = absurd (cc)
+
+none_whole : (c : Call) → BeginsNone (shown_call c) → BeginsNone c
+none_whole (call.Begin op) none = none
+none_whole _ none = tt
+
 -- and stores a word where the call stores what a field holds whole
 word_filled : (f : Field) (value : ℕ) → IsWord (shown_word f value) → FieldIsWhole f value
 word_filled field.Gp value word = tt
@@ -417,15 +478,16 @@ told_tied words tree c told w finds same says = subst (λ n. told n w) (sym find
 -- and what the pass notes by the call that is shown it notes by the call
 notes_whole : (o : Option Slots) (words : List ℕ) (tree : TableState) (c : Call) → FindsTied words tree c → CanBeShown c (found_by tree c) → (old new : Period)
     → Notes o (shown_call c) (get_or words (place_of c) 0) old new → Notes o c (found_by tree c) old new
-notes_whole o words tree (call.IFlag e p from) finds can old new (nothing is won) =
-    nothing is (λ some d flags. sym can.wins ∙ (ap (is_won (atomic_of (call.IFlag e p from))) (sym finds) ∙ won some d flags))
-notes_whole o words tree (call.DFlag e gp from) finds can old new (nothing is won) =
-    nothing is (λ some d flags. sym can.wins ∙ (ap (is_won (atomic_of (call.DFlag e gp from))) (sym finds) ∙ won some d flags))
+notes_whole o words tree (call.IFlag e p from) finds can old new (nothing is none won) =
+    nothing is tt (λ some d flags. sym can.wins ∙ (ap (is_won (atomic_of (call.IFlag e p from))) (sym finds) ∙ won some d flags))
+notes_whole o words tree (call.DFlag e gp from) finds can old new (nothing is none won) =
+    nothing is tt (λ some d flags. sym can.wins ∙ (ap (is_won (atomic_of (call.DFlag e gp from))) (sym finds) ∙ won some d flags))
 notes_whole o words tree (call.IFlag e p from) finds can old new (loses d is flags unwon) =
     loses d is flags (sym can.wins ∙ (ap (is_won (atomic_of (call.IFlag e p from))) (sym finds) ∙ unwon))
 notes_whole o words tree (call.DFlag e gp from) finds can old new (loses d is flags unwon) =
     loses d is flags (sym can.wins ∙ (ap (is_won (atomic_of (call.DFlag e gp from))) (sym finds) ∙ unwon))
-notes_whole o words tree _ finds can old new (nothing is won) = nothing is (λ some d flags. absurd flags)
+notes_whole o words tree c finds can old new (nothing is none won) = nothing is (none_whole c none) (λ some d flags. absurd flags)
+notes_whole o words tree c finds can old new (begins op at is) = begins op (shown_begins c op at) is
 notes_whole o words tree _ finds can old new (loses d is flags unwon) = absurd flags
 
 -- what a step call does to the word that it finds: it leaves what is cut of what the call leaves, and without places all of that
@@ -563,6 +625,11 @@ none_flags (call.IFlag e p from) none d flags = none
 none_flags (call.DFlag e gp from) none d flags = none
 none_flags _ none d flags = flags
 
+-- what a pass notes by a load that may begin an operation
+pub load_notes : (c : Call) (slots : Option Slots) (n : ℕ) (p : Period) → atomic_of c ≡ Load → Notes slots c n p (after_entering c p)
+load_notes (call.Begin op) slots n p is = begins op refl refl
+load_notes c slots n p is = nothing refl tt (λ some d flags. absurd (load_flags c is d flags))
+
 -- a load stores nothing
 pub load_stores : (c : Call) → atomic_of c ≡ Load → IsFill c → ⊥
 load_stores (call.Fill e f value) is fill = absurd cc
@@ -587,8 +654,8 @@ pub flag_notes : (c : Call) (d expected value n : ℕ) (old new : Period) → at
 flag_notes c d expected value n old new is flags o notes = by o (n == expected) refl notes
   where
     by : (o : Option Slots) (b : Bool) → (n == expected) ≡ b → new ≡ after_flagging o b d old → Notes o c n old new
-    by None b won notes = nothing notes (λ some. absurd (some refl))
-    by (Some s) true won notes = nothing notes (λ some e flags'. ap (λ a. is_won a n) is ∙ won)
+    by None b won notes = nothing notes (flag_begins c d flags) (λ some. absurd (some refl))
+    by (Some s) true won notes = nothing notes (flag_begins c d flags) (λ some e flags'. ap (λ a. is_won a n) is ∙ won)
     by (Some s) false unwon notes = loses d notes flags (ap (λ a. is_won a n) is ∙ unwon)
 
 -- a card that a pass is to flag is one whose slot it has taken, if there are places

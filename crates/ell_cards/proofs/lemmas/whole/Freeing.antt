@@ -19,7 +19,10 @@ use Rattle.ell_cards.specs.Dead.{HasTakenOut}
 use Rattle.ell_cards.specs.Models.{TablePlan}
 use Rattle.ell_cards.specs.Periods.{WholeState, clock_word, slot_word, slots_size, last_reading, LieInSlots, pending_by, after_read, after_seek, after_stamp, PeriodsAreSound}
 use Rattle.ell_cards.specs.Searches.{SearchesAreSound}
-use Rattle.ell_cards.specs.Seeking.{could_have, is_next, row_from, row_on, sought_on}
+use Rattle.ell_cards.specs.Takings.{MissesWereTaken, TakingsAreSound}
+use Rattle.ell_cards.specs.declared.view.Period.{Period}
+use Rattle.ell_cards.specs.declared.view.Stamp.{Stamp}
+use Rattle.ell_cards.specs.Seeking.{could_have, could_take, found_if, is_next, may_have, row_from, row_on, sought_on}
 use Rattle.ell_cards.specs.Shown.{shown}
 use Rattle.ell_cards.specs.SlotWords.{card_by, slot_of, stamp_in, turn_of, turn_in, free_word, is_noted}
 use Rattle.ell_cards.specs.Starts.{IsReached}
@@ -38,7 +41,9 @@ use Rattle.ell_cards.proofs.lemmas.whole.Leaks.{holds_so, leaks_same, leaks_turn
 use Rattle.ell_cards.proofs.lemmas.whole.Going.{GoesTo, turned_to, behind, past_again, same_noted, same_again, goes_on_there}
 use Rattle.ell_cards.proofs.lemmas.whole.Retired.{retired_are, retired_of_period, retired_so}
 use Rattle.ell_cards.proofs.lemmas.whole.Steps.{word_again}
-use Rattle.ell_cards.proofs.lemmas.whole.Searches.{SameRow, SoughtIsSo, announces_some, began_past, freed_late, searches_same, searches_sought, searches_turned, sought_more, sought_still}
+use Rattle.ell_cards.proofs.lemmas.whole.Takings.{misses_sought, misses_still, takings_noted, takings_turned}
+use Rattle.ell_cards.proofs.lemmas.whole.Seeking.{sought_misses_none}
+use Rattle.ell_cards.proofs.lemmas.whole.Searches.{SameSearch, SoughtIsSo, row_of, announces_some, began_past, freed_late, searches_same, searches_sought, searches_turned, sought_more, sought_still}
 use Rattle.ell_cards.proofs.lemmas.whole.Seats.{period_was, lie_same, clock_before_slots}
 use Rattle.ell_cards.proofs.lemmas.whole.Slots.{slot_read, card_stamped, free_stamp, slot_noted, slot_freed, lie_noted, lie_freed}
 use Rattle.ell_cards.proofs.lemmas.words.NotedBits.{few_noted}
@@ -48,11 +53,41 @@ use Rattle.ell_cards.proofs.lemmas.words.Slotted.{slot_inside}
 pub lies_by : (c slot n : ℕ) → slot ≡ slot_of c → turn_in n ≡ turn_of c → card_by slot n ≡ c
 lies_by c slot n at turn = omega arith
 
--- a search notes nothing
-sought_retired : (s : Slots) (begins for_delete : Bool) (c made : ℕ) (takes : Bool) (safe : ℕ) (k : Seek) → (sought_on s begins for_delete c made takes safe k).retired ≡ k.retired
-sought_retired s begins for_delete c made takes safe k = by (not begins && is_next s c k)
+-- what a pass has missed and found is so where nothing of it is another one
+pub counts_same : (s : Slots) (words : List ℕ) (taken : ℕ → ℕ) (p q : Period) → q.sought.missed ≡ p.sought.missed → q.sought.found ≡ p.sought.found → q.began ≡ p.began → q.safe ≡ p.safe
+    → MissesWereTaken s words taken p → MissesWereTaken s words taken q
+counts_same s words taken p q missed found began safe m = misses_still s words words taken (λ slot inside full. refl) p q missed found began (omega arith) m
+
+-- a search finds the slot whose word it has read, if it could take that
+sought_found : (s : Slots) (begins for_delete : Bool) (c made n : ℕ) (takes : Bool) (safe : ℕ) (k : Seek) → (sought_on s begins for_delete c made n takes safe k).found ≡ found_if takes c n
+sought_found s begins for_delete c made n takes safe k = by (not begins && is_next s c k)
   where
-    by : (b : Bool) → (if b then row_on for_delete takes safe k else row_from for_delete c made takes safe k).retired ≡ k.retired
+    by : (b : Bool) → (if b then row_on for_delete c n takes safe k else row_from for_delete c made n takes safe k).found ≡ found_if takes c n
+    by true = refl
+    by false = refl
+
+-- so it is of what a pass has missed once it has read that
+counts_sought : (s : Slots) (begins for_delete : Bool) (c made : ℕ) (words : List ℕ) (slot : ℕ) → slot_of c ≡ slot → slot ≤ s.last → (p : Period) (taken : ℕ → ℕ) → MissesWereTaken s words taken p
+    → MissesWereTaken s words taken (record (after_read slot (get_or words (slot_word s slot) 0) p) {
+      sought = sought_on s begins for_delete c made (get_or words (slot_word s slot) 0) (could_have s for_delete c (get_or words (slot_word s slot) 0) p.safe) p.safe p.sought;
+    })
+counts_sought s begins for_delete c made words slot lies inside p taken m =
+    let n = get_or words (slot_word s slot) 0 in
+    let takes = could_have s for_delete c n p.safe in
+    let at = ap (λ x. get_or words (slot_word s x) 0) lies in
+    misses_sought s words taken p m _ c takes (subst (λ x. x ≤ s.last) (sym lies) inside)
+    (sought_misses_none s begins for_delete c made n takes p.safe p.sought) (sought_found s begins for_delete c made n takes p.safe p.sought ∙ ap (found_if takes c) (sym at))
+    (λ is. ap (λ x. could_take x p.safe) at ∙ left (could_take n p.safe) (may_have s for_delete c) is) refl
+  where
+    left : (a b : Bool) → (a && b) ≡ true → a ≡ true
+    left true b h = refl
+    left false b h = absurd (false≢true h)
+
+-- a search notes nothing
+sought_retired : (s : Slots) (begins for_delete : Bool) (c made n : ℕ) (takes : Bool) (safe : ℕ) (k : Seek) → (sought_on s begins for_delete c made n takes safe k).retired ≡ k.retired
+sought_retired s begins for_delete c made n takes safe k = by (not begins && is_next s c k)
+  where
+    by : (b : Bool) → (if b then row_on for_delete c n takes safe k else row_from for_delete c made n takes safe k).retired ≡ k.retired
     by true = refl
     by false = refl
 
@@ -103,8 +138,9 @@ module _ (plan : TablePlan) (s : Slots) (tree : TableState) (t : WholeState) (id
 
   -- it reads the word of a slot, whatever its search has read then, and it may have noted more
   pub reads_now : (slot : ℕ) → slot ≤ s.last → (sought : Seek) → HasRetired t.words sought.retired → (SearchesAreSound s t → SoughtIsSo s t sought)
+      → ((taken : ℕ → ℕ) → MissesWereTaken s t.words taken k.period → MissesWereTaken s t.words taken (record (after_read slot (get_or t.words (slot_word s slot) 0) k.period) { sought = sought }))
       → GoesTo plan s tree t h (turned_to t id k (record (after_read slot (get_or t.words (slot_word s slot) 0) k.period) { sought = sought }) (slot_word s slot) (get_or t.words (slot_word s slot) 0))
-  reads_now slot inside sought mine searched =
+  reads_now slot inside sought mine searched counted =
       let n = get_or t.words (slot_word s slot) 0 in record {
         periods = record {
           lie = h.lie;
@@ -130,6 +166,8 @@ module _ (plan : TablePlan) (s : Slots) (tree : TableState) (t : WholeState) (id
             (λ other low used. holds_so k (record (after_read slot n k.period) { sought = sought }) refl refl (h.lie other)) same;
         searches = λ was. searches_sought s t was id k here (record { tree = k.tree; period = record (after_read slot n k.period) { sought = sought } }) (set t.words (slot_word s slot) n) t.homes
             (word_again t.words (slot_word s slot) (omega arith) (clock_word s)) (λ other low. same other) refl refl (searched was);
+        takings = λ was. takings_noted s t h.lie was id k here (record { tree = k.tree; period = record (after_read slot n k.period) { sought = sought } }) (set t.words (slot_word s slot) n) t.homes
+            (past_again plan s tree t id k here h size (slot_word s slot) (omega arith)) (λ other low. same other) (λ c reading is. inl is) (λ works. counted was.taken (was.misses id k here works));
       }
     where
       now : ℕ
@@ -176,6 +214,9 @@ module _ (plan : TablePlan) (s : Slots) (tree : TableState) (t : WholeState) (id
             (λ other low used. holds_so k (after_stamp c n k.period) refl refl (h.lie other)) same;
         searches = λ was. searches_same s t was id k here (record { tree = k.tree; period = after_stamp c n k.period }) (set t.words (clock_word s) n) t.homes
             (past_again plan s tree t id k here h size (clock_word s) (omega arith)) refl (λ a an. (an, refl)) (λ other low. same other);
+        takings = λ was. takings_noted s t h.lie was id k here (record { tree = k.tree; period = after_stamp c n k.period }) (set t.words (clock_word s) n) t.homes
+            (past_again plan s tree t id k here h size (clock_word s) (omega arith)) (λ other low. same other) (λ d reading is. inr (ap (λ (x : Stamp). x.reading) (sym (same_Some _ _ is))))
+            (λ works. counts_same s t.words was.taken k.period (after_stamp c n k.period) refl refl refl refl (was.misses id k here works));
       }
     where
       same : (other : ℕ) → get_or (set t.words (clock_word s) (get_or t.words (clock_word s) 0)) (slot_word s other) 0 ≡ get_or t.words (slot_word s other) 0
@@ -234,9 +275,10 @@ module _ (plan : TablePlan) (s : Slots) (tree : TableState) (t : WholeState) (id
       → PeriodsAreSound s (turned_to t id k (record (k.period) { sought = sought }) (slot_word s slot) n) h.lie h.dead h.began h.was_dead
       → ((i : ℕ) → is_noted n i ≡ true → OutNow (4 * h.lie slot + i))
       → (n % 8 ≢ 7 → (i : ℕ) → is_noted n i ≡ true → (is_noted (get_or t.words (slot_word s slot) 0) i ≡ true) ⊎ HasWon h.ages.now.machine.stages (h.lie slot))
-      → SameRow k.period.sought sought → (SearchesAreSound s t → (n % 8 ≢ 7) ⊎ ((j : ℕ) (u : Known) → get_elem? t.views j ≡ some u → u.period.sought.safe ≤ stamp_in n))
+      → SameSearch k.period.sought sought → (SearchesAreSound s t → (n % 8 ≢ 7) ⊎ ((j : ℕ) (u : Known) → get_elem? t.views j ≡ some u → u.period.sought.safe ≤ stamp_in n))
+      → ((taken : TakingsAreSound s t h.lie) → (n % 8 ≢ 7) ⊎ (taken.taken slot ≤ stamp_in n))
       → GoesTo plan s tree t h (turned_to t id k (record (k.period) { sought = sought }) (slot_word s slot) n)
-  turns_now slot n sought inside was keeps mine lies sound notes won row turned = record {
+  turns_now slot n sought inside was keeps mine lies sound notes won search turned aged = record {
     periods = record {
       lie = h.lie;
       lies = lies;
@@ -259,7 +301,10 @@ module _ (plan : TablePlan) (s : Slots) (tree : TableState) (t : WholeState) (id
     leaks = λ leaks. leaks_turned s t tree.views h.ages.now.machine.words h.ages.now.machine.stages h.lie leaks id k here (record (k.period) { sought = sought }) slot n inside (omega arith)
         (λ other low used. holds_so k (record (k.period) { sought = sought }) refl refl (h.lie other)) (λ some. was) won keeps;
     searches = λ was. searches_turned s t was id k here (record { tree = k.tree; period = record (k.period) { sought = sought } }) (set t.words (slot_word s slot) n) t.homes
-        (let same = get_or-set_other t.words (slot_word s slot) (clock_word s) n 0 (λ e. (let behind_clock = clock_before_slots s slot in omega arith)) in omega arith) row (λ a an. (an, refl)) slot n inside (omega arith) refl (turned was);
+        (let same = get_or-set_other t.words (slot_word s slot) (clock_word s) n 0 (λ e. (let behind_clock = clock_before_slots s slot in omega arith)) in omega arith) (ap row_of search) (λ a an. (an, refl)) slot n inside (omega arith) refl (turned was);
+    takings = λ taken. takings_turned s t h.lie taken id k here (record { tree = k.tree; period = record (k.period) { sought = sought } }) (set t.words (slot_word s slot) n) t.homes
+        (let same = get_or-set_other t.words (slot_word s slot) (clock_word s) n 0 (λ e. (let behind_clock = clock_before_slots s slot in omega arith)) in omega arith) slot n inside (omega arith) refl was (aged taken)
+        refl (ap (λ (x : Seek). x.missed) search) (ap (λ (x : Seek). x.found) search) refl (omega arith) (λ works. works);
   }
     where
       noted : (other i : ℕ) → other ≤ s.last → is_noted (get_or (set t.words (slot_word s slot) n) (slot_word s other) 0) i ≡ true → OutNow (4 * h.lie other + i)
@@ -277,9 +322,9 @@ module _ (plan : TablePlan) (s : Slots) (tree : TableState) (t : WholeState) (id
   pub notes_now : (slot n m : ℕ) (sought : Seek) → slot ≤ s.last → get_or t.words (slot_word s slot) 0 ≡ n → turn_in m ≡ turn_in n → n % 8 ≢ 7 → m % 8 ≢ 7
       → ((i : ℕ) → is_noted n i ≡ true → is_noted m i ≡ true)
       → ((i : ℕ) → is_noted m i ≡ true → (is_noted n i ≡ true) ⊎ KnowsDeadNode k.tree (4 * card_by slot n + i))
-      → HasRetired (set t.words (slot_word s slot) m) sought.retired → SameRow k.period.sought sought
+      → HasRetired (set t.words (slot_word s slot) m) sought.retired → SameSearch k.period.sought sought
       → GoesTo plan s tree t h (turned_to t id k (record (k.period) { sought = sought }) (slot_word s slot) m)
-  notes_now slot n m sought inside is turn some_bit some_bit' more knows mine row =
+  notes_now slot n m sought inside is turn some_bit some_bit' more knows mine search =
       turns_now slot m sought inside used (λ some i was. more i (subst (λ x. is_noted x i ≡ true) is was)) mine (lie_noted s h.lie t.words h.lies slot (omega arith) m used (turn ∙ ap turn_in (sym is)))
       (slot_noted s t id k here h.lie h.dead h.began h.was_dead h.periods size slot inside sought m used some_bit')
       (λ i noted. elim (knows i noted) [
@@ -290,7 +335,7 @@ module _ (plan : TablePlan) (s : Slots) (tree : TableState) (t : WholeState) (id
         | inl was ↦ inl (subst (λ x. is_noted x i ≡ true) (sym is) was)
         | inr dead ↦ inr (subst (HasWon h.ages.now.machine.stages) (sym lies_there) (known_won (card_by slot n) i (few_noted m i noted) dead))
       ])
-      row (λ searches. inl some_bit')
+      search (λ searches. inl some_bit') (λ taken. inl some_bit')
     where
       used : get_or t.words (slot_word s slot) 0 % 8 ≢ 7
       used e = some_bit (ap (λ x. x % 8) (sym is) ∙ e)
@@ -302,20 +347,30 @@ module _ (plan : TablePlan) (s : Slots) (tree : TableState) (t : WholeState) (id
   pub frees_now : (slot reading : ℕ) (sought : Seek) → slot ≤ s.last → (n : ℕ) → get_or t.words (slot_word s slot) 0 ≡ n → n % 8 ≢ 7
       → k.period.stamp ≡ Some (record { card = card_by slot n; reading = reading })
       → HasRetired (set t.words (slot_word s slot) (free_word reading)) sought.retired
-      → SameRow k.period.sought sought → k.period.announced ≢ None → k.period.began ≤ reading
+      → SameSearch k.period.sought sought → k.period.announced ≢ None → k.period.began ≤ reading
       → GoesTo plan s tree t h (turned_to t id k (record (k.period) { sought = sought }) (slot_word s slot) (free_word reading))
-  frees_now slot reading sought inside n is some_bit has mine row in_period late =
+  frees_now slot reading sought inside n is some_bit has mine search in_period late =
       turns_now slot (free_word reading) sought inside (λ e. some_bit (ap (λ x. x % 8) (sym is) ∙ e)) (λ some. absurd (some (omega arith))) mine (lie_freed s h.lie t.words h.lies slot (omega arith) reading)
       (slot_freed s t id k here h.lie h.dead h.began h.was_dead h.periods size slot inside sought reading (h.tied.own slot inside) stamp)
       (λ i noted. h.ages.now.each (h.lie slot) i (few_noted (free_word reading) i noted) dead)
       (λ some. absurd (some (omega arith)))
-      row (λ searches. inr (freed_late s t searches id k here in_period (free_word reading) (let stamp_is = free_stamp reading in omega arith)))
+      search (λ searches. inr (freed_late s t searches id k here in_period (free_word reading) (let stamp_is = free_stamp reading in omega arith))) aged
     where
       lies_there : h.lie slot ≡ card_by slot n
       lies_there = h.lies slot inside (λ e. some_bit (ap (λ x. x % 8) (sym is) ∙ e)) ∙ ap (card_by slot) is
 
       stamp : k.period.stamp ≡ Some (record { card = h.lie slot; reading = reading })
       stamp = has ∙ ap (λ c. Some (record { card = c; reading = reading })) (sym lies_there)
+
+      -- the slot was taken no later than the stamp was read
+      aged : (taken : TakingsAreSound s t h.lie) → (free_word reading % 8 ≢ 7) ⊎ (taken.taken slot ≤ stamp_in (free_word reading))
+      aged taken =
+          let home = h.tied.own slot inside in
+          let low = taken.pending id (h.lie slot) reading k here stamp (subst (λ x. x ≤ s.last) (sym home) inside)
+          (λ full. some_bit (ap (λ x. x % 8) (sym is) ∙ (ap (λ x. get_or t.words (slot_word s x) 0 % 8) (sym home) ∙ full))) (ap h.lie home) in
+          let at_slot = ap taken.taken home in
+          let stamp_is = free_stamp reading in
+          inr (omega arith)
 
       dead : h.dead (h.lie slot) ≡ true
       dead = (h.periods.sound.pending id (h.lie slot) reading (ap (λ (p : Period). pending_by p.stamp) (period_was t.views id k here k) ∙ ap pending_by stamp)).gone
@@ -326,7 +381,11 @@ module _ (plan : TablePlan) (s : Slots) (placed : plan.slots ≡ Some s) (slot :
   pub reads_slot : (k : Known) → MayGoOn plan k (slot_word s slot) (λ n. n) (λ n p. p ≡ after_read slot n k.period)
   reads_slot k =
       goes_on_there plan s placed k (slot_word s slot) (λ n. n) (λ n p. p ≡ after_read slot n k.period) (λ t. after_read slot (get_or t.words (slot_word s slot) 0) k.period)
-      (λ tree t id reached here there h size. (reads_now plan s tree t id k here there h size reached slot inside k.period.sought (λ c at hand. h.retired id c k here at hand) (λ was. sought_still s t was id k here k.period.sought refl), refl))
+      (λ tree t id reached here there h size. (
+        reads_now plan s tree t id k here there h size reached slot inside k.period.sought (λ c at hand. h.retired id c k here at hand) (λ was. sought_still s t was id k here k.period.sought refl)
+            (λ taken m. counts_same s t.words taken k.period (after_read slot (get_or t.words (slot_word s slot) 0) k.period) refl refl refl refl m),
+        refl,
+      ))
 
   -- whatever slot a word is of
   pub reads_any : (k : Known) (word : ℕ) → word ≡ slot_word s slot
@@ -352,14 +411,15 @@ module _ (plan : TablePlan) (s : Slots) (placed : plan.slots ≡ Some s) (slot :
         subst (λ x. GoesTo plan s tree t h (turned_to t id k (record (after_read x (get_or t.words (slot_word s slot) 0) k.period) { sought = now t }) (slot_word s slot) (get_or t.words (slot_word s slot) 0))) (sym lies)
             (reads_now plan s tree t id k here there h size reached slot inside (now t)
             (λ d at hand. subst (λ r. AreRetired h.ages.now.machine.words d r (λ x. IsOut plan tree h.ages.now.machine h.ages.now.uses x × IsNotedThere s t.words h.lie x))
-            (sym (sought_retired s begins for_delete c made (could_have s for_delete c (get_or t.words (slot_word s slot) 0) k.period.safe) k.period.safe k.period.sought)) (h.retired id d k here at hand))
-            (λ was. subst (λ x. SoughtIsSo s t (sought_on s begins for_delete c made (could_have s for_delete c (get_or t.words (slot_word s x) 0) k.period.safe) k.period.safe k.period.sought)) lies
-            (sought_more s t h.lie h.dead h.began h.was_dead h.periods was id k here begins for_delete c made (subst (λ x. x ≤ s.last) (sym lies) inside)))),
+            (sym (sought_retired s begins for_delete c made (get_or t.words (slot_word s slot) 0) (could_have s for_delete c (get_or t.words (slot_word s slot) 0) k.period.safe) k.period.safe k.period.sought)) (h.retired id d k here at hand))
+            (λ was. subst (λ x. SoughtIsSo s t (sought_on s begins for_delete c made (get_or t.words (slot_word s x) 0) (could_have s for_delete c (get_or t.words (slot_word s x) 0) k.period.safe) k.period.safe k.period.sought)) lies
+            (sought_more s t h.lie h.dead h.began h.was_dead h.periods was id k here begins for_delete c made (subst (λ x. x ≤ s.last) (sym lies) inside)))
+            (counts_sought s begins for_delete c made t.words slot lies inside k.period)),
         refl,
       )))
     where
       now : WholeState → Seek
-      now t = sought_on s begins for_delete c made (could_have s for_delete c (get_or t.words (slot_word s slot) 0) k.period.safe) k.period.safe k.period.sought
+      now t = sought_on s begins for_delete c made (get_or t.words (slot_word s slot) 0) (could_have s for_delete c (get_or t.words (slot_word s slot) 0) k.period.safe) k.period.safe k.period.sought
 
 -- a pass reads the clock for a card whose nodes it knows dead, or which it laid aside
 pub stamps_card : (plan : TablePlan) (s : Slots) → plan.slots ≡ Some s → (k : Known) (c : ℕ) → MayStamp k c

@@ -24,6 +24,7 @@ use Rattle.ell_cards.proofs.lemmas.whole.Rests.{is_at_rest}
 use Rattle.ell_cards.proofs.lemmas.whole.Seats.{part_same, part_put}
 use Rattle.ell_cards.proofs.lemmas.whole.Trees.{grace_same}
 use Rattle.ell_cards.proofs.lemmas.whole.Searches.{PassWas, knew, nobody}
+use Rattle.ell_cards.proofs.lemmas.whole.Takings.{TakerWas, same_one, rests_now, nothing_known}
 
 -- what is at a place of a list with one more at its end
 pub at_end : {A : Type 0} (l : List A) (a b : A) (j : ℕ) → get_elem? (l ++ a ∷ []) j ≡ some b → (get_elem? l j ≡ some b) ⊎ ((j ≡ length l) × (a ≡ b))
@@ -139,6 +140,15 @@ module _ (sl : Slots) (t : WholeState) (id : ℕ) (k : Known) (here : get_elem? 
   part_parted : {A : Type 0} (part : Period → A) → part (after_give k.period) ≡ part k.period → part (given_period k.period) ≡ part no_period → (i : ℕ)
       → part (period_in parted.views i) ≡ part (period_in t.views i)
   part_parted part same new i = part_more part (set t.views id left_known) right_known new i ∙ part_same t.views id k here left_known part same i
+
+  -- so it is of what each part is about to set free, and neither has anything in hand
+  pub split_takers : (j : ℕ) (u : Known) → get_elem? parted.views j ≡ some u → TakerWas t u
+  split_takers j u at = by (origin j u at)
+    where
+      by : Origin j u → TakerWas t u
+      by (of_left e is) = subst (TakerWas t) is (rests_now id k here refl left_rests.free)
+      by (of_right e is) = subst (TakerWas t) is (nothing_known refl right_rests.free)
+      by (of_other apart there) = same_one j u there refl
 
   -- what each part knows of a search and of its period, the pass knew, or it knows nothing
   pub split_was : (j : ℕ) (u : Known) → get_elem? parted.views j ≡ some u → PassWas t u
@@ -320,6 +330,15 @@ module _ (sl : Slots) (t : WholeState) (id other : ℕ) (k l : Known) (here : ge
   part_joined {A} part same i =
       part_put (set t.views id both) other l still_there spent_known part i
       ∙ ap (λ (f : ℕ → A). put f other (part no_period) i) (λ p j. part_same t.views id k here both part same j p)
+
+  -- so it is of what it is about to set free, and neither has anything in hand
+  pub join_takers : (j : ℕ) (u : Known) → get_elem? joined.views j ≡ some u → TakerWas t u
+  join_takers j u at = by (before j u at)
+    where
+      by : Before j u → TakerWas t u
+      by (of_both e is) = subst (TakerWas t) is (rests_now id k here refl refl)
+      by (of_spent is) = subst (TakerWas t) is (nothing_known refl refl)
+      by (of_another apart aside still) = same_one j u still refl
 
   -- what the pass that has both knows of a search and of its period, it knew, and the other one knows nothing
   pub join_was : (j : ℕ) (u : Known) → get_elem? joined.views j ≡ some u → PassWas t u

@@ -36,7 +36,7 @@ use Rattle.ell_cards.specs.declared.view.Slots.{Slots}
 use Rattle.ell_cards.specs.declared.view.View.{View}
 use Rattle.ell_cards.specs.Ages.{IsOut, IsNotedThere, RetiredStaysNoted}
 use Rattle.ell_cards.specs.Calls.{May, after, atomic_of, is_won}
-use Rattle.ell_cards.specs.Changes.{after_flag, after_mark, unmarking, with_fact, is_mark_of}
+use Rattle.ell_cards.specs.Changes.{after_claim, after_flag, after_mark, unmarking, with_fact, is_mark_of}
 use Rattle.ell_cards.specs.Holding.{HasFlagged, HoldsWaiting}
 use Rattle.ell_cards.specs.Laws.{machine_of_table}
 use Rattle.ell_cards.specs.Leaks.{Holds, IsHeld, IsInFlaggedHand, Kills, NothingLeaks}
@@ -48,6 +48,7 @@ use Rattle.ell_cards.specs.SlotWords.{has_slot_in, is_noted, slot_of}
 use Rattle.ell_cards.specs.Machines.{HasMachine}
 use Rattle.ell_cards.specs.Models.{TablePlan, IsFree, flat_from}
 use Rattle.ell_cards.specs.States.{TableState, seat_worker}
+use Rattle.ell_cards.specs.Stepping.{BeginsNone}
 use Rattle.ell_cards.specs.Tied.{HasWon, FlagsCard, MayInMemory}
 use Rattle.ell_cards.specs.TurnEffects.{turn_wins, win_of}
 use Rattle.ell_cards.specs.Turns.{Makes, found_by, view_after, state_after}
@@ -242,6 +243,34 @@ pub flag_lost : (c : Call) (n : ℕ) (v : View) (d : ℕ) → FlagsCard c d → 
 flag_lost (call.IFlag e p from) n v d flags unwon = hand_lost (n == packed from) unwon (fact.IFlagged e) p (unpacked n) v (after (call.IFlag e p from) n v) refl
 flag_lost (call.DFlag e gp from) n v d flags unwon = hand_lost (n == packed from) unwon (fact.DFlagged e) gp (unpacked n) v (after (call.DFlag e gp from) n v) refl
 flag_lost _ n v d flags unwon = absurd flags
+
+-- a pass that has no operation in hand has none after a call that begins none
+flag_free : (b : Bool) (new : Fact) (x : ℕ) (u : Update) (v w : View) → w.worker ≡ (after_flag b new x u v).worker → v.worker.operation ≡ None → w.worker.operation ≡ None
+flag_free true new x u v w same free = ap (λ k. k.operation) same ∙ free
+flag_free false new x u v w same free = ap (λ k. k.operation) same ∙ free
+
+mark_free : (b : Bool) (d x : ℕ) (u : Update) (v w : View) → w.worker ≡ (after_mark b d x u v).worker → v.worker.operation ≡ None → w.worker.operation ≡ None
+mark_free true d x u v w same free = ap (λ k. k.operation) same ∙ free
+mark_free false d x u v w same free = by (is_mark_of d u.state u.card) same
+  where
+    by : (m : Bool) → w.worker ≡ (if m then with_fact (fact.Marked d) v else unmarking d x u v).worker → w.worker.operation ≡ None
+    by true same = ap (λ k. k.operation) same ∙ free
+    by false same = ap (λ k. k.operation) same ∙ free
+
+claim_free : (b : Bool) (d node_key : ℕ) (v : View) → v.worker.operation ≡ None → (after_claim b d node_key v).worker.operation ≡ None
+claim_free true d node_key v free = free
+claim_free false d node_key v free = free
+
+pub free_after : (c : Call) (n : ℕ) (v : View) → BeginsNone c → v.worker.operation ≡ None → (after c n v).worker.operation ≡ None
+free_after (call.Begin op) n v begun free = absurd begun
+free_after (call.IFlag e p from) n v begun free = flag_free (n == packed from) (fact.IFlagged e) p (unpacked n) v (after (call.IFlag e p from) n v) refl free
+free_after (call.DFlag e gp from) n v begun free = flag_free (n == packed from) (fact.DFlagged e) gp (unpacked n) v (after (call.DFlag e gp from) n v) refl free
+free_after (call.Mark e p was) n v begun free = mark_free (n == was) e p (unpacked n) v (after (call.Mark e p was) n v) refl free
+free_after (call.Claim e node_key) n v begun free = claim_free (n == e) e node_key v free
+free_after call.Leave n v begun free = refl
+free_after call.Rest n v begun free = refl
+free_after (call.Answer said) n v begun free = refl
+free_after _ n v begun free = free
 
 -- a pass that is to flag a card has it in hand
 pub flags_by_hand : (plan : TablePlan) (c : Call) (d : ℕ) (v : View) → May plan c v → FlagsCard c d → v.worker.card ≢ None

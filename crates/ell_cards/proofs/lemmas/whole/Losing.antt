@@ -10,6 +10,7 @@ use Rattle.ell_grace.specs.Dead.{HasUses}
 use Rattle.ell_cards.specs.declared.call.Call.{Call}
 use Rattle.ell_cards.specs.declared.view.Known.{Known}
 use Rattle.ell_cards.specs.declared.view.Period.{Period}
+use Rattle.ell_cards.specs.declared.view.Seek.{Seek}
 use Rattle.ell_cards.specs.declared.view.Slots.{Slots}
 use Rattle.ell_cards.specs.declared.view.View.{View}
 use Rattle.ell_cards.specs.Ages.{IsOut, IsNotedThere, AreRetired, AgesAreSound, HasPeriods}
@@ -41,6 +42,7 @@ use Rattle.ell_cards.proofs.lemmas.whole.Trees.{grace_same}
 use Rattle.ell_cards.proofs.lemmas.words.NotedBits.{unnoted}
 use Rattle.ell_cards.proofs.lemmas.words.Slotted.{slot_inside}
 use Rattle.ell_cards.proofs.lemmas.whole.Searches.{searches_same}
+use Rattle.ell_cards.proofs.lemmas.whole.Takings.{takings_same}
 
 -- in the state to which a call leads that loses a flag, its card was laid aside
 pub aside_onward : (plan : TablePlan) (s : TableState) (r : HasMachine plan s) (uses : HasUses (machine_of_table plan s r)) (seat : ℕ) (v : View)
@@ -57,10 +59,10 @@ aside_in_ages plan s tree t lie dead was_dead h id v there c may t' on d flags u
     lost_is_aside plan tree h.now.machine id v there c may d flags unwon on.ages.now.machine on.later (on.wins d)
 
 module _ (plan : TablePlan) (s : Slots) (tree : TableState) (t : WholeState) (id : ℕ) (k : Known) (here : get_elem? t.views id ≡ some k)
-    (h : HasPeriods plan s tree t) (o : Option ℕ) (aside : (c : ℕ) → o ≡ Some c → IsAside h.ages.now.machine.stages tree.views c)
+    (h : HasPeriods plan s tree t) (o : Option ℕ) (sought : Seek) (noted : sought.retired ≡ k.period.sought.retired) (aside : (c : ℕ) → o ≡ Some c → IsAside h.ages.now.machine.stages tree.views c)
     (idle : (c : ℕ) → o ≡ Some c → k.tree.worker.card ≡ None) (stays_in : (c : ℕ) → o ≡ Some c → k.period.announced ≢ None) where
   abbrev noting : Period
-  noting = record k.period { lost = o }
+  noting = record k.period { lost = o; sought = sought }
 
   abbrev now : Known
   now = record { tree = k.tree; period = noting }
@@ -104,7 +106,7 @@ module _ (plan : TablePlan) (s : Slots) (tree : TableState) (t : WholeState) (id
       h.ages.noted (λ x out is. is) (λ r has. h.ages.read id k r here has)
       aside
 
-  -- the pass notes the card that it has laid aside, or that it has set free the slot of that
+  -- the pass notes the card that it has laid aside, or that it has set free the slot of that; or it seeks something else
   abbrev pub lost_now : HasPeriods plan s tree after
   lost_now = record {
     lie = h.lie;
@@ -116,7 +118,7 @@ module _ (plan : TablePlan) (s : Slots) (tree : TableState) (t : WholeState) (id
     ages = lost_ages;
     tied = tie_of_period s tree t h.ages.now.machine.stages h.lie h.dead h.dead h.was_dead h.was_dead h.tied id k here noting refl t.words (λ i low. refl)
         (λ d lives. lives) (λ q a at an. inl (at, an, λ d lives. lives)) (λ seat q a u other at placed an d lives. lives) t.homes;
-    retired = retired_so plan s tree h.ages.now.machine h.ages.now.uses t id k here noting refl refl t.words h.lie h.lie (λ x out is. is) h.retired;
+    retired = retired_so plan s tree h.ages.now.machine h.ages.now.uses t id k here noting refl noted t.words h.lie h.lie (λ x out is. is) h.retired;
   }
 
 -- A pass sets the slot free of a card that it has laid aside: nobody else knows of the card, so no node is noted in the slot's
@@ -131,10 +133,11 @@ module _ (plan : TablePlan) (s : Slots) (tree : TableState) (t : WholeState) (id
       → (NothingLeaks s t tree.views h.ages.now.machine.words h.ages.now.machine.stages h.lie → (slot : ℕ) → slot ≤ s.last → get_or t.words (slot_word s slot) 0 % 8 ≢ 7 → h.lie slot ≡ c → ⊥)
       → GoesTo plan s tree t h (record { words = t.words; homes = t.homes; views = set t.views id freed })
   unlost_now c lost_it gone = record {
-    periods = lost_now plan s tree t id k here h None (λ d none. absurd (some_not_none none refl)) (λ d none. absurd (some_not_none none refl)) (λ d none. absurd (some_not_none none refl));
+    periods = lost_now plan s tree t id k here h None k.period.sought refl (λ d none. absurd (some_not_none none refl)) (λ d none. absurd (some_not_none none refl)) (λ d none. absurd (some_not_none none refl));
     leaks = λ was. leaks_same s t tree.views h.ages.now.machine.words h.ages.now.machine.stages h.lie was id k here (after_freeing k.period) t.words
         (λ slot low used holds. by was slot low used holds) (λ slot. refl);
     searches = λ was. searches_same s t was id k here freed t.words t.homes (omega arith) refl (λ a an. (an, refl)) (λ slot low. refl);
+    takings = λ was. takings_same s t h.lie was id k here freed t.words t.homes (omega arith) (λ slot low. refl) refl refl refl refl (omega arith) (λ works. works);
   }
     where
       by : NothingLeaks s t tree.views h.ages.now.machine.words h.ages.now.machine.stages h.lie → (slot : ℕ) → slot ≤ s.last → get_or t.words (slot_word s slot) 0 % 8 ≢ 7
@@ -192,7 +195,7 @@ module _ (plan : TablePlan) (s : Slots) (tree : TableState) (t : WholeState) (id
         let t1 = turned_to t id k k.period (slot_word s (slot_of c)) (free_word reading) in
         let here1 = set_there t.views id k k here in
         let second = unlost_now plan s tree t1 id k here1 first.periods c lost_it (λ was slot low used lies. gone first.periods slot low used lies) in
-        subst (λ l. GoesTo plan s tree t h (record { words = t1.words; homes = t.homes; views = l })) (set_twice t.views id k freed_then) (record { periods = second.periods; leaks = λ was. second.leaks (first.leaks was); searches = λ was. second.searches (first.searches was) })
+        subst (λ l. GoesTo plan s tree t h (record { words = t1.words; homes = t.homes; views = l })) (set_twice t.views id k freed_then) (record { periods = second.periods; leaks = λ was. second.leaks (first.leaks was); searches = λ was. second.searches (first.searches was); takings = λ was. second.takings (first.takings was) })
       where
         in_period : k.period.announced ≢ None
         in_period = (h.periods.each id k here).stays c lost_it
@@ -229,7 +232,7 @@ module _ (plan : TablePlan) (s : Slots) (tree : TableState) (t : WholeState) (id
         let here1 = set_there t.views id k k here in
         let second = unlost_now plan s tree t1 id k here1 first.periods c lost_it
         (λ was slot low used lies. same_not (stands plan s tree t1 id k here1 first.periods c lost_it taken was slot low used lies)) in
-        subst (λ l. GoesTo plan s tree t h (record { words = t1.words; homes = t.homes; views = l })) (set_twice t.views id k freed_then) (record { periods = second.periods; leaks = λ was. second.leaks (first.leaks was); searches = λ was. second.searches (first.searches was) })
+        subst (λ l. GoesTo plan s tree t h (record { words = t1.words; homes = t.homes; views = l })) (set_twice t.views id k freed_then) (record { periods = second.periods; leaks = λ was. second.leaks (first.leaks was); searches = λ was. second.searches (first.searches was); takings = λ was. second.takings (first.takings was) })
       where
         same_not : get_or (set t.words (slot_word s (slot_of c)) found) (slot_word s (slot_of c)) 0 ≡ 8 * turn_of c → ⊥
         same_not is = other (sym (word_again t.words (slot_word s (slot_of c)) (let low = inside in omega arith) (slot_word s (slot_of c))) ∙ is)

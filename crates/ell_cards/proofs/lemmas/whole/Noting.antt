@@ -40,19 +40,19 @@ use Rattle.ell_cards.proofs.lemmas.whole.Trees.{tree_at}
 use Rattle.ell_cards.proofs.lemmas.views.DeadNodes.{both, of_either}
 use Rattle.ell_cards.proofs.lemmas.whole.Ages.{noted_as, noted_at}
 use Rattle.ell_cards.proofs.lemmas.whole.Apart.{ready_there}
-use Rattle.ell_cards.proofs.lemmas.whole.Freeing.{HasRetired, dead_by, frees_now, lies_by, low_slot, noted_then, notes_now, reads_now, taken_lies}
+use Rattle.ell_cards.proofs.lemmas.whole.Freeing.{HasRetired, counts_same, dead_by, frees_now, lies_by, low_slot, noted_then, notes_now, reads_now, taken_lies}
 use Rattle.ell_cards.proofs.lemmas.whole.Going.{GoesTo, turned_to, goes_on_there}
 use Rattle.ell_cards.proofs.lemmas.words.NotedBits.{all_some, done_by, few_noted, few_nodes, left_some, left_turn, left_used, notes_more}
 use Rattle.ell_cards.specs.declared.view.Seek.{Seek}
 use Rattle.ell_cards.specs.declared.view.View.{View}
-use Rattle.ell_cards.proofs.lemmas.whole.Searches.{SameRow, sought_still}
+use Rattle.ell_cards.proofs.lemmas.whole.Searches.{SameSearch, row_of, sought_still}
 use Rattle.ell_core.proofs.lemmas.outcomes.Decide.{some_not_none}
 use Rattle.ell_cards.proofs.lemmas.whole.InUse.{some_unnoted}
 
 -- what a pass notes changes no row that it has read
-row_noted : (done taken_out : Bool) (nodes : CardNodes) (k : Seek) → SameRow k (retires_if done taken_out nodes k)
-row_noted true taken_out nodes k = refl
-row_noted false taken_out nodes k = refl
+search_noted : (done taken_out : Bool) (nodes : CardNodes) (k : Seek) → SameSearch k (retires_if done taken_out nodes k)
+search_noted true taken_out nodes k = refl
+search_noted false taken_out nodes k = refl
 
 -- a pass that may note a node has a card in hand
 retires_by_hand : (taken_out : Bool) (c : ℕ) (nodes : CardNodes) (v : View) → MayRetire (shown v) taken_out c nodes → (i : ℕ) → has_node nodes i ≡ true → v.worker.card ≢ None
@@ -264,8 +264,12 @@ module _ (plan : TablePlan) (s : Slots) (tree : TableState) (t : WholeState) (id
       → GoesTo plan s tree t h (turned_to t id k (after_noting_read taken_out c nodes (word_now c) k.period) (slot_word s (slot_of c)) (word_now c))
   notes_read taken_out c nodes inside may =
       reads_now plan s tree t id k here there h size reached (slot_of c) inside (retires_if (is_done taken_out c nodes (word_now c)) taken_out nodes k.period.sought)
-      (by (is_done taken_out c nodes (word_now c)) refl) (λ was. sought_still s t was id k here _ (row_noted (is_done taken_out c nodes (word_now c)) taken_out nodes k.period.sought))
+      (by (is_done taken_out c nodes (word_now c)) refl) (λ was. sought_still s t was id k here _ (ap row_of search))
+      (λ taken m. counts_same s t.words taken k.period (after_noting_read taken_out c nodes (word_now c) k.period) (ap (λ (x : Seek). x.missed) search) (ap (λ (x : Seek). x.found) search) refl refl m)
     where
+      search : SameSearch k.period.sought (retires_if (is_done taken_out c nodes (word_now c)) taken_out nodes k.period.sought)
+      search = search_noted (is_done taken_out c nodes (word_now c)) taken_out nodes k.period.sought
+
       by : (b : Bool) → is_done taken_out c nodes (word_now c) ≡ b → HasRetired plan s tree t id k here there h size reached t.words (retires_if b taken_out nodes k.period.sought).retired
       by true done = retired_now taken_out c nodes may t.words (λ x out is. is) (shows_done taken_out c nodes inside done)
       by false left = λ d at hand. h.retired id d k here at hand

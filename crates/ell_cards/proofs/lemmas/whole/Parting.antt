@@ -17,7 +17,7 @@ use Rattle.ell_cards.specs.Stepping.{MaySplit}
 use Rattle.ell_cards.specs.Starts.{SlotsFit}
 use Rattle.ell_cards.specs.Turns.{TableTurns, Splits as SplitsInto, Joins as JoinsWith, state_split, state_joined}
 use Rattle.ell_cards.proofs.lemmas.ties.Handovers.{split_goes, split_held, join_goes, join_held}
-use Rattle.ell_cards.proofs.lemmas.whole.Handovers.{split_periods, join_periods, split_was, join_was}
+use Rattle.ell_cards.proofs.lemmas.whole.Handovers.{split_periods, join_periods, split_takers, join_takers, split_was, join_was}
 use Rattle.ell_cards.specs.Whole.{trees_of, joined_known, spent_known, PeriodsAre, IsWhole, PlansFit}
 use Rattle.ell_cards.proofs.lemmas.lifetimes.Joins.{each_joined as each_view_joined}
 use Rattle.ell_cards.proofs.lemmas.lifetimes.Splits.{each_split as each_view_split}
@@ -29,6 +29,7 @@ use Rattle.ell_cards.proofs.lemmas.whole.LeaksOfHandovers.{join_hands, join_hold
 use Rattle.ell_cards.proofs.lemmas.whole.Lifts.{unplanned_fits}
 use Rattle.ell_cards.proofs.lemmas.whole.Searches.{searches_from}
 use Rattle.ell_cards.proofs.lemmas.whole.Trees.{tree_at}
+use Rattle.ell_cards.proofs.lemmas.whole.Takings.{takings_from}
 
 -- the trees of a list with one more at its end
 trees_more : (views : List Known) (k : Known) → trees_of (views ++ k ∷ []) ≡ trees_of views ++ k.tree ∷ []
@@ -72,7 +73,7 @@ whole_splits plan k keys quiet may id s h here =
         → PeriodsAre plan o (state_split tree id k.tree keys)
         (record { words = s.words; homes = s.homes; views = set s.views id (record { tree = left_view keys k.tree; period = after_give k.period }) ++ record { tree = right_view keys k.tree; period = given_period k.period } ∷ [] })
     by tree there same None fit periods = tt
-    by tree there same (Some sl) fit (h, was, sought) =
+    by tree there same (Some sl) fit (h, was, sought, takings) =
         let tie = split_goes plan sl tree s h.lie h.dead h.was_dead (let low = fit.4 in omega arith) (record { ages = h.ages; tied = h.tied }) id k here there keys may.free may.may in (
           record {
             lie = h.lie;
@@ -90,6 +91,8 @@ whole_splits plan k keys quiet may id s h here =
               (λ c. split_holds plan tree h.ages.now.machine s id k here there may.free c keys) (λ c. split_hands plan tree h.ages.now.machine s id k here there may.free c (left_view keys k.tree) (right_view keys k.tree)) s.homes,
           searches_from sl s sought (set s.views id (left_known keys k) ++ right_known keys k ∷ []) s.homes
               (split_was sl s id k here h.lie h.dead h.began h.was_dead h.periods (left_view keys k.tree) (right_view keys k.tree) left_rests right_rests quiet),
+          takings_from sl s h.lie takings (set s.views id (left_known keys k) ++ right_known keys k ∷ []) s.homes
+              (split_takers sl s id k here h.lie h.dead h.began h.was_dead h.periods (left_view keys k.tree) (right_view keys k.tree) left_rests right_rests quiet),
         )
 
 -- a join of the tree is a join of the table
@@ -127,7 +130,7 @@ whole_joins plan k l free other_free unlost id other s h here aside there =
         → PeriodsAre plan o (state_joined tree id other k.tree l.tree)
         (record { words = s.words; homes = s.homes; views = set (set s.views id (joined_known k l)) other spent_known })
     by tree ours theirs same None fit periods there = tt
-    by tree ours theirs same (Some sl) fit (h, was, sought) there =
+    by tree ours theirs same (Some sl) fit (h, was, sought, takings) there =
         let tie = join_goes plan sl tree s h.lie h.dead h.was_dead (let low = fit.4 in omega arith) (record { ages = h.ages; tied = h.tied }) id other k l here there ours theirs
         (λ e. aside (sym e)) free other_free in (
           record {
@@ -146,4 +149,5 @@ whole_joins plan k l free other_free unlost id other s h here aside there =
               (λ c. join_holds plan tree h.ages.now.machine s id other k l here there ours theirs (λ e. aside (sym e)) free other_free unlost c)
               (λ c. join_hands plan tree h.ages.now.machine s id other k l here there ours theirs (λ e. aside (sym e)) free other_free unlost c (joined_view k.tree l.tree) spent_view) s.homes,
           searches_from sl s sought (set (set s.views id (joined_known k l)) other spent_known) s.homes (join_was sl s id other k l here there aside h.lie h.dead h.began h.was_dead h.periods),
+          takings_from sl s h.lie takings (set (set s.views id (joined_known k l)) other spent_known) s.homes (join_takers sl s id other k l here there aside h.lie h.dead h.began h.was_dead h.periods),
         )

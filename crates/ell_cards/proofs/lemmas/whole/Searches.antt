@@ -57,10 +57,14 @@ module _ (s : Slots) (t : WholeState) (lie : ℕ → ℕ) (dead : ℕ → Bool) 
 
 -- what a search has read of a row
 abbrev pub row_of : Seek → Seek
-row_of k = record k { made = 0; missed = 0; retired = none_retired }
+row_of k = record k { made = 0; found = None; missed = 0; retired = none_retired }
 
 abbrev pub SameRow : Seek → Seek → Type 0
 SameRow old new = row_of new ≡ row_of old
+
+-- a search of which nothing is another one but what was noted
+abbrev pub SameSearch : Seek → Seek → Type 0
+SameSearch old new = record new { retired = none_retired } ≡ record old { retired = none_retired }
 
 row_alone : (s : Slots) (words : List ℕ) (k : Seek) → RowIsSo s words k → RowIsSo s words (row_of k)
 row_alone s words k h = record { past = h.past; none = h.none }
@@ -286,17 +290,17 @@ module _ (s : Slots) (words : List ℕ) (c : ℕ) (inside : slot_of c ≤ s.last
     abbrev takes : Bool
     takes = could_have s for_delete c found safe
 
-    row_begins : RowIsSo s words (row_from for_delete c made takes safe k)
+    row_begins : RowIsSo s words (row_from for_delete c made found takes safe k)
     row_begins = record {
       past = past;
       none = λ zero i low for.
           let first : i ≡ 0 = omega arith in
-          let slot : row_slot s (row_from for_delete c made takes safe k) i ≡ slot_of c = slot_there (row_from for_delete c made takes safe k) i (omega arith) in
+          let slot : row_slot s (row_from for_delete c made found takes safe k) i ≡ slot_of c = slot_there (row_from for_delete c made found takes safe k) i (omega arith) in
           subst (λ x. could_take (get_or words (slot_word s x) 0) safe ≡ false) (sym slot)
           (not_had for_delete found safe (slot_of c) (subst (λ x. is_slot_for s for_delete x ≡ true) slot for) (none_of_one takes zero));
     }
 
-    row_goes : is_next s c k ≡ true → RowIsSo s words k → RowIsSo s words (row_on for_delete takes safe k)
+    row_goes : is_next s c k ≡ true → RowIsSo s words k → RowIsSo s words (row_on for_delete c found takes safe k)
     row_goes next was = record {
       past = (let low = min-le_left k.safe safe in let so = was.past in omega arith);
       none = λ zero i low for. elim (cases_eq i k.read) [
@@ -311,29 +315,29 @@ module _ (s : Slots) (words : List ℕ) (c : ℕ) (inside : slot_of c ≤ s.last
       ];
     }
 
-    pub row_sought : (begins : Bool) → RowIsSo s words k → RowIsSo s words (sought_on s begins for_delete c made takes safe k)
+    pub row_sought : (begins : Bool) → RowIsSo s words k → RowIsSo s words (sought_on s begins for_delete c made found takes safe k)
     row_sought begins was = by (not begins && is_next s c k) refl
       where
         is_right : (a b : Bool) → (a && b) ≡ true → b ≡ true
         is_right true b e = e
         is_right false b e = absurd (true≢false (sym e))
 
-        by : (b : Bool) → (not begins && is_next s c k) ≡ b → RowIsSo s words (if b then row_on for_delete takes safe k else row_from for_delete c made takes safe k)
+        by : (b : Bool) → (not begins && is_next s c k) ≡ b → RowIsSo s words (if b then row_on for_delete c found takes safe k else row_from for_delete c made found takes safe k)
         by true goes = row_goes (is_right (not begins) (is_next s c k) goes) was
         by false stops = row_begins
 
     -- its least safe number is the pass's, or was
-    pub sought_safe : (begins : Bool) → ((sought_on s begins for_delete c made takes safe k).safe ≤ k.safe) ⊎ ((sought_on s begins for_delete c made takes safe k).safe ≤ safe)
+    pub sought_safe : (begins : Bool) → ((sought_on s begins for_delete c made found takes safe k).safe ≤ k.safe) ⊎ ((sought_on s begins for_delete c made found takes safe k).safe ≤ safe)
     sought_safe begins = by (not begins && is_next s c k)
       where
-        by : (b : Bool) → ((if b then row_on for_delete takes safe k else row_from for_delete c made takes safe k).safe ≤ k.safe) ⊎ ((if b then row_on for_delete takes safe k else row_from for_delete c made takes safe k).safe ≤ safe)
+        by : (b : Bool) → ((if b then row_on for_delete c found takes safe k else row_from for_delete c made found takes safe k).safe ≤ k.safe) ⊎ ((if b then row_on for_delete c found takes safe k else row_from for_delete c made found takes safe k).safe ≤ safe)
         by true = inl (min-le_left k.safe safe)
         by false = inr (omega arith)
 
 -- So it is of the row of a search that reads one slot more, by the safe number of its pass.
 pub sought_more : (s : Slots) (t : WholeState) (lie : ℕ → ℕ) (dead : ℕ → Bool) (began : ℕ → ℕ) (was_dead : ℕ → ℕ → Bool) → PeriodsAreSound s t lie dead began was_dead → SearchesAreSound s t
     → (id : ℕ) (k : Known) → get_elem? t.views id ≡ some k → (begins for_delete : Bool) (c made : ℕ) → slot_of c ≤ s.last
-    → SoughtIsSo s t (sought_on s begins for_delete c made (could_have s for_delete c (get_or t.words (slot_word s (slot_of c)) 0) k.period.safe) k.period.safe k.period.sought)
+    → SoughtIsSo s t (sought_on s begins for_delete c made (get_or t.words (slot_word s (slot_of c)) 0) (could_have s for_delete c (get_or t.words (slot_word s (slot_of c)) 0) k.period.safe) k.period.safe k.period.sought)
 sought_more s t lie dead began was_dead periods h id k here begins for_delete c made inside = record {
   row = row_sought s t.words c inside for_delete made k.period.safe k.period.sought (safe_past s t lie dead began was_dead periods id k here) begins (h.rows id k here);
   late = λ j a l at an. elim (sought_safe s t.words c inside for_delete made k.period.safe k.period.sought (safe_past s t lie dead began was_dead periods id k here) begins) [

@@ -92,11 +92,11 @@ next_in_row s c d low in_c in_d less first = elim (cases_eq (slot_of c) s.last) 
         let none = mul_zero (s.last + 1) in omega arith
 
 -- a search misses no slot of a card in hand
-pub sought_misses_none : (s : Slots) (begins for_delete : Bool) (c made : ℕ) (takes : Bool) (safe : ℕ) (k : Seek)
-    → (sought_on s begins for_delete c made takes safe k).missed ≡ k.missed
-sought_misses_none s begins for_delete c made takes safe k = by (not begins && is_next s c k)
+pub sought_misses_none : (s : Slots) (begins for_delete : Bool) (c made n : ℕ) (takes : Bool) (safe : ℕ) (k : Seek)
+    → (sought_on s begins for_delete c made n takes safe k).missed ≡ k.missed
+sought_misses_none s begins for_delete c made n takes safe k = by (not begins && is_next s c k)
   where
-    by : (b : Bool) → (if b then row_on for_delete takes safe k else row_from for_delete c made takes safe k).missed ≡ k.missed
+    by : (b : Bool) → (if b then row_on for_delete c n takes safe k else row_from for_delete c made n takes safe k).missed ≡ k.missed
     by true = refl
     by false = refl
 
@@ -113,11 +113,11 @@ pub row_begins : (s : Slots) (card : ℕ) (for_delete : Bool) (made safe next : 
 row_begins s card for_delete made safe next k first = record { start = λ none. first; on = λ some. absurd (omega arith) }
 
 -- it reads one more
-pub row_goes_on : (s : Slots) (card : ℕ) (for_delete : Bool) (made safe next read next' : ℕ) (k : Seek) → s.last < 2097152 → card ≤ next
+pub row_goes_on : (s : Slots) (card : ℕ) (for_delete : Bool) (made safe next read next' n : ℕ) (k : Seek) → s.last < 2097152 → card ≤ next
     → has_slot_in s.last next ≡ true → has_slot_in s.last next' ≡ true → next + 1 ≤ next' → ((c : ℕ) → next + 1 ≤ c → has_slot_in s.last c ≡ true → next' ≤ c)
     → RowSoFar s card for_delete made safe next read k
-    → RowSoFar s card for_delete made safe next' (read + 1) (sought_on s (read == 0) for_delete next made false safe k)
-row_goes_on s card for_delete made safe next zero next' k low from inside inside' after first' row = record {
+    → RowSoFar s card for_delete made safe next' (read + 1) (sought_on s (read == 0) for_delete next made n false safe k)
+row_goes_on s card for_delete made safe next zero next' n k low from inside inside' after first' row = record {
   start = λ none. absurd (omega arith);
   on = λ some. (
     from,
@@ -130,9 +130,9 @@ row_goes_on s card for_delete made safe next zero next' k low from inside inside
     omega arith,
   );
 }
-row_goes_on s card for_delete made safe next (suc read) next' k low from inside inside' after first' row =
-    subst (λ b. RowSoFar s card for_delete made safe next' (suc read + 1) (if b then row_on for_delete false safe k
-    else row_from for_delete next made false safe k)) (sym goes) (record {
+row_goes_on s card for_delete made safe next (suc read) next' n k low from inside inside' after first' row =
+    subst (λ b. RowSoFar s card for_delete made safe next' (suc read + 1) (if b then row_on for_delete next n false safe k
+    else row_from for_delete next made n false safe k)) (sym goes) (record {
       start = λ none. absurd (omega arith);
       on = λ some. (
         was.0,

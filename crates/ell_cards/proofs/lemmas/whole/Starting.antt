@@ -24,6 +24,7 @@ use Rattle.ell_cards.proofs.lemmas.ties.Opens.{tree_opened, reached_opened, peri
 use Rattle.ell_cards.proofs.lemmas.whole.Lifts.{unplanned_fits}
 use Rattle.ell_cards.proofs.lemmas.whole.Opens.{with_zeros}
 use Rattle.ell_cards.proofs.lemmas.whole.Searches.{searches_opened}
+use Rattle.ell_cards.proofs.lemmas.whole.Takings.{takings_opened}
 
 -- a table starts so
 pub whole_first : (plan : TablePlan) (may : MayStart plan) (cards words : List ℕ) → ((i : ℕ) → IsWord (get_or cards i 0)) → length cards ≡ table_size (last_slot plan) → words_of cards ≡ words_at_start plan.flat plan.start
@@ -58,10 +59,15 @@ whole_first plan may cards words small size are is = by plan.slots refl may.slot
           );
           periods = subst (λ o. PeriodsAre plan o tree (opening words [] (first_known plan))) (sym placed)
               (subst (λ o. PeriodsAre plan (Some s) tree (opening words [] (record { tree = first_of plan; period = period_by o }))) (sym placed)
-              (has, leaks_opened plan s cards words may fit all are small opens, searches_opened s (opening words [] (record { tree = first_of plan; period = period_by (Some s) })) (only (first_of plan))));
+              (has, leaks_opened plan s cards words may fit all are small opens, searches_opened s (opening words [] (record { tree = first_of plan; period = period_by (Some s) })) (only (first_of plan)), takings_opened s (opening words [] (record { tree = first_of plan; period = period_by (Some s) })) has.lie (idle_first (first_of plan) refl)));
         }
       where
         -- the first pass has read nothing, and is in no period
         only : (v : View) (j : ℕ) (u : Known) → get_elem? (record { tree = v; period = period_by (Some s) } ∷ []) j ≡ some u → (u.period.sought ≡ no_seek) × (u.period.announced ≡ None)
         only v zero u at = subst (λ (x : Known). (x.period.sought ≡ no_seek) × (x.period.announced ≡ None)) (some-injective (record { tree = v; period = period_by (Some s) }) u at) (refl, refl)
         only v (suc j) u at = absurd (some-ne-none u (sym at))
+
+        -- nor is it about to set anything free, and it has nothing in hand
+        idle_first : (v : View) → v.worker.operation ≡ None → (j : ℕ) (u : Known) → get_elem? (record { tree = v; period = period_by (Some s) } ∷ []) j ≡ some u → (u.period.stamp ≡ None) × (u.tree.worker.operation ≡ None)
+        idle_first v free zero u at = subst (λ (x : Known). (x.period.stamp ≡ None) × (x.tree.worker.operation ≡ None)) (some-injective (record { tree = v; period = period_by (Some s) }) u at) (refl, free)
+        idle_first v free (suc j) u at = absurd (some-ne-none u (sym at))

@@ -1,5 +1,6 @@
-use Rattle.std.proofs.Common.{◌≡◌, ◌≢◌, ℕ, zero, suc, ◌+◌, ◌<◌, ◌≤◌, ◌==◌, nat_lt, if◌then◌else◌, Bool, true, false, Option, Some, None, List, length, get_or, set, inl, inr, ◌⊎◌, refl, sym, ap, ◌∙◌, subst, ⊎_elim, arith, get_or-set_same, get_or-set_other}
-use Rattle.std.proofs.lemmas.Bool.{cases_eq}
+use Rattle.std.proofs.Common.{◌≡◌, ◌≢◌, ℕ, zero, suc, ◌+◌, ◌<◌, ◌≤◌, ◌==◌, max, nat_lt, if◌then◌else◌, Bool, true, false, Option, Some, None, List, length, get_or, set, inl, inr, ◌⊎◌, refl, sym, ap, ◌∙◌, subst, ⊎_elim, arith, get_or-set_same, get_or-set_other}
+use Rattle.std.proofs.Math.Nat.{max-eq_left, max-eq_right}
+use Rattle.std.proofs.lemmas.Bool.{cases_eq, cases_lt}
 use Rattle.std.proofs.lemmas.Bool.Decides.{nat_tests}
 use Rattle.std.proofs.lemmas.Option.{same_Some}
 use mathlib.Core.Option.{some}
@@ -303,27 +304,42 @@ module _ (s : Slots) (t : WholeState) (id : ℕ) (k : Known) (here : get_elem? t
         let there : nat_lt r (k.period.looked + 1) ≡ true = grind (arith, nat_tests) in
         ap {A = ℕ → Bool} (λ g. g r) (put_same was.seen id (put (was.seen id) q true)) ∙ (sym (seen_more r) ∙ there)
 
-    -- then the least number is the safe one, and before that the safe number is as it was
+    -- then the least number is the safe one, unless the last one is greater
+    module _ (all : nat_lt (k.period.looked + 1) s.places ≡ false) where
+      abbrev least_seen : ℕ
+      least_seen = least_with k.period.least (announced_by found)
+
+      greater_one : settled_at s.places (k.period.looked + 1) least_seen k.period.safe ≡ max least_seen k.period.safe
+      greater_one = ap (λ b. if b then k.period.safe else max least_seen k.period.safe) all
+
+      settled_sound : (least_seen < k.period.safe) ⊎ (k.period.safe ≤ least_seen) → GraceIsSound s.places (grace_of s after_it lie dead began was_dead)
+      settled_sound (inr more) =
+          grace_same s.places settled_now (grace_of s after_it lie dead began was_dead)
+          (kept_at (clock_word s)) (λ c. refl) (same_word (place_word s q) (omega arith)) (λ r. refl) (λ r c. refl) pending_after
+          least_after seen_after
+          (λ i. part_put t.views id k here sees (λ p. p.safe) i ∙ ap (λ n. put was.safe id n i) safe_now)
+          (same_stamps (place_word s q) (omega arith))
+          (grace_goes_on s.places looked_now settled_now looked_sound (settles id (all_seen (grind (arith, nat_tests))) refl))
+        where
+          safe_now : settled_at s.places (k.period.looked + 1) least_seen k.period.safe ≡ looked_now.least id
+          safe_now = greater_one ∙ (max-eq_left more ∙ (least_now ∙ sym (put_same was.least id (least_with (was.least id) (was.word q)))))
+      settled_sound (inl less) =
+          grace_same s.places looked_now (grace_of s after_it lie dead began was_dead)
+          (kept_at (clock_word s)) (λ c. refl) (same_word (place_word s q) (omega arith)) (λ r. refl) (λ r c. refl) pending_after
+          least_after seen_after
+          (part_same t.views id k here sees (λ p. p.safe) (greater_one ∙ max-eq_right (omega arith)))
+          (same_stamps (place_word s q) (omega arith)) looked_sound
+
+    -- and before that the safe number is as it was
     seen_sound : (b : Bool) → nat_lt (k.period.looked + 1) s.places ≡ b → GraceIsSound s.places (grace_of s after_it lie dead began was_dead)
     seen_sound true is =
         grace_same s.places looked_now (grace_of s after_it lie dead began was_dead)
         (kept_at (clock_word s)) (λ c. refl) (same_word (place_word s q) (omega arith)) (λ r. refl) (λ r c. refl) pending_after
         least_after seen_after
         (part_same t.views id k here sees (λ p. p.safe)
-        (ap (λ b. if b then k.period.safe else least_with k.period.least (announced_by found)) is))
+        (ap (λ b. if b then k.period.safe else max (least_with k.period.least (announced_by found)) k.period.safe) is))
         (same_stamps (place_word s q) (omega arith)) looked_sound
-    seen_sound false is =
-        let all : s.places ≤ k.period.looked + 1 = grind (arith, nat_tests) in
-        grace_same s.places settled_now (grace_of s after_it lie dead began was_dead)
-        (kept_at (clock_word s)) (λ c. refl) (same_word (place_word s q) (omega arith)) (λ r. refl) (λ r c. refl) pending_after
-        least_after seen_after
-        (λ i. part_put t.views id k here sees (λ p. p.safe) i ∙ ap (λ n. put was.safe id n i) (safe_now is))
-        (same_stamps (place_word s q) (omega arith)) (grace_goes_on s.places looked_now settled_now looked_sound (settles id (all_seen all) refl))
-      where
-        safe_now : nat_lt (k.period.looked + 1) s.places ≡ false → settled_at s.places (k.period.looked + 1) (least_with k.period.least (announced_by found)) k.period.safe ≡ looked_now.least id
-        safe_now e =
-            ap (λ b. if b then k.period.safe else least_with k.period.least (announced_by found)) e
-            ∙ (least_now ∙ sym (put_same was.least id (least_with (was.least id) (was.word q))))
+    seen_sound false is = settled_sound is (cases_lt (least_with k.period.least (announced_by found)) k.period.safe)
 
     sees_holds : PeriodHolds s kept sees
     sees_holds = let now = same_holds (place_word s q) (omega arith) in record {

@@ -10,4 +10,7 @@ period_load-requires-clause-rule g c =
     (c.slot_address.ensures.word ∙ ap (slot_word c.args.slots) c.slot_of.ensures)
 
 pub returns-clause-read : goal.returns-clause-read
-returns-clause-read g c = c.period_load.ensures.told c.args.card c.requires.hand.0
+returns-clause-read g c = c.period_load.ensures.told.0 c.args.card c.requires.hand.0
+
+pub returns-clause-few : goal.returns-clause-few
+returns-clause-few g c = λ none. c.period_load.ensures.told.1 none c.args.slots c.requires.slots

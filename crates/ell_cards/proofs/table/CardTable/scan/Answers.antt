@@ -15,5 +15,6 @@ loop-place-init g c =
       lost = search rules;
       looked = search rules;
       least = search rules;
+      unsettled = search rules;
       safe = λ none. absurd (omega arith);
     }

@@ -1,8 +1,9 @@
-use Rattle.std.specs.Prelude.{◌≡◌, ◌≤◌, []}
+use Rattle.std.specs.Prelude.{◌≡◌, ◌<◌, ◌≤◌, [], max}
 use Rattle.ell_cards.specs.Periods.{StandsAs}
 use Rattle.ell_cards.proofs.table.CardTable.scan.Given as goal
 
--- So many places were looked at, and this is the least number that was seen. It is the safe one if there are no more places.
+-- So many places were looked at, and this is the least number that was seen. It is the safe one if there are no more places, unless
+-- the last one is greater.
 abbrev pub invariant-loop-place : goal.invariant-loop-place
 invariant-loop-place g l = record {
   seat : l.seat.table_id ≡ l.fn.seat.table_id;
@@ -14,5 +15,6 @@ invariant-loop-place g l = record {
   lost : l.seat.me.0.period.lost ≡ l.fn.seat.me.0.period.lost;
   looked : l.seat.me.0.period.looked ≡ l.place;
   least : l.seat.me.0.period.least ≡ l.least;
-  safe : l.slots.places ≤ l.place → l.seat.me.0.period.safe ≡ l.least;
+  unsettled : l.place < l.slots.places → l.seat.me.0.period.safe ≡ l.fn.seat.me.0.period.safe;
+  safe : l.slots.places ≤ l.place → l.seat.me.0.period.safe ≡ max l.least l.fn.seat.me.0.period.safe;
 }
