@@ -124,8 +124,8 @@ abbrev pub slots_for : Slots → Bool → ℕ
 slots_for s for_delete = if for_delete then s.last + 1 else s.last - 1
 
 -- Wherever steps have led a table while some pass knows this of its search: the slots for its change are at most as
--- many as the start keys, two for each key of the tree and three more, and three for each place; and those that were set
--- free too lately, as their stamps say, for its least safe number when it read them.
+-- many as the start keys, two for each key of the tree and three more, and three for each place; and those that were
+-- set free too lately, as their stamps say, for its least safe number when it read them.
 abbrev pub IsFullFor : TablePlan → Slots → Seek → Type 0
 IsFullFor plan s k = (t : WholeState) (h : IsWhole plan t)
     → (pairs : List (ℕ × ℕ)) → ListsTreePairs (own_words h.tree) pairs

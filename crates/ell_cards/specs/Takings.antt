@@ -19,8 +19,8 @@ how_many P (suc n) = one_if (P n) + how_many P n
 abbrev pub taken_since : Slots → (ℕ → ℕ) → ℕ → ℕ
 taken_since s taken clock = how_many (λ slot. nat_le clock (taken slot)) (s.last + 1)
 
--- A slot that a pass has found is so still: its word is as it was read, by which the pass could take it; or it was taken
--- since the pass's period began, by which more slots were than the pass has missed.
+-- A slot that a pass has found is so still: its word is as it was read, by which the pass could take it; or it was
+-- taken since the pass's period began, and with it more slots were than the pass has missed.
 pub record FoundIsSo (s : Slots) (words : List ℕ) (taken : ℕ → ℕ) (p : Period) (r : SlotRead) : Type 0 where
   pub inside : r.slot ≤ s.last
   pub could : could_take r.word p.safe ≡ true
@@ -41,6 +41,7 @@ pub record TakingsAreSound (s : Slots) (t : WholeState) (lie : ℕ → ℕ) : Ty
       → taken slot ≤ stamp_in (slice_index t.words (slot_word s slot))
   pub pending : (i c reading : ℕ) (k : Known) → get_elem? t.views i ≡ some k
       → k.period.stamp ≡ Some (record { card = c; reading = reading }) → slot_of c ≤ s.last
-      → slice_index t.words (slot_word s (slot_of c)) % 8 ≢ 7 → lie (slot_of c) ≡ c → taken (slot_of c) ≤ reading
+      → slice_index t.words (slot_word s (slot_of c)) % 8 ≢ 7 → lie (slot_of c) ≡ c
+      → taken (slot_of c) ≤ reading
   pub misses : (i : ℕ) (k : Known) → get_elem? t.views i ≡ some k → k.tree.worker.operation ≢ None
       → MissesWereTaken s t.words taken k.period

@@ -404,4 +404,16 @@ impl<A: Allocator + Copy> CardTable<A> {
         pass.standing.safe = safe;
         safe
     }
+
+    /// Lets the clock go on and looks at all places, if the pass has not done so yet: no stamp is below the safe
+    /// number 0.
+    pub(crate) fn look_first(&self, pass: &mut Pass<A>)
+        requires own { pass.old.table ≡ self.now.id }
+        ensures same { pass.new ≡ record (pass.old) { safe = pass.new.safe } }
+        ensures more { pass.old.safe ≤ pass.new.safe }
+    {
+        if pass.standing.safe == 0 {
+            self.safe_number(pass);
+        }
+    }
 }

@@ -73,8 +73,8 @@ pub record HasSoughtInVain (s : Slots) (last : ℕ) (op : Op) (steps : ℕ) (p :
 pub record NoneIsLeft (plan : TablePlan) (op : Op) (steps : ℕ) (p : PassModel) : Type 0 where
   pub given_out : plan.slots ≡ None → p.view.next ≡ Some (plan.last_card + 1)
   pub no_slot : (s : Slots) → plan.slots ≡ Some s → HasSoughtInVain s plan.last_card op steps p
-  pub full : (s : Slots) → plan.slots ≡ Some s → plan.flat ≡ true → p.sought.read ≡ s.last + 1 → p.sought.takeable ≡ 0
-      → IsFullFor plan s p.sought
+  pub full : (s : Slots) → plan.slots ≡ Some s → plan.flat ≡ true
+      → p.sought.read ≡ s.last + 1 → p.sought.takeable ≡ 0 → IsFullFor plan s p.sought
 
 -- why: something was in its way at each try; or its last try got no card, and was laid down by the next step call
 abbrev pub NotDoneFor : TablePlan → ℕ → Op → PassModel → PassModel → NotDone → Type 0
