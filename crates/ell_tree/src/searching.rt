@@ -106,17 +106,29 @@ fn walk<A: Allocator + Copy, G: StepGate>(
     };
     let (mut parent, mut node) = pass_by(table, pass, op, root, gate);
     let mut grandparent = None;
-    let mut key = ask_key(table, pass, node, gate);
-    let mut steps = STEPS_AT_A_NODE + 1;
-    while is_internal(node) && !ends_at(table, op, node, key) {
+    let mut steps = STEPS_AT_A_NODE;
+    // Where a key stands depends on the kind of its node. It is asked where that is known, so that a processor which
+    // goes on by a guess need not wait for it.
+    while is_internal(node) {
+        let key = ask_key(table, pass, node, gate);
+        if ends_at(table, op, node, key) {
+            let place = Place {
+                node,
+                key,
+                value: 0,
+                parent,
+                grandparent,
+            };
+            return (place, steps + 1);
+        }
         let (passed, child) = pass_by(table, pass, op, KeyedNode { node, key }, gate);
         grandparent = Some(rebuild(parent));
         parent = rebuild(passed);
         node = child;
-        key = ask_key(table, pass, node, gate);
         steps += STEPS_AT_A_NODE;
     }
-    let (value, at_the_end) = value_at(table, pass, node, gate);
+    let key = ask_key(table, pass, node, gate);
+    let value = ask_value(table, pass, node, gate);
     let place = Place {
         node,
         key,
@@ -124,7 +136,7 @@ fn walk<A: Allocator + Copy, G: StepGate>(
         parent,
         grandparent,
     };
-    (place, steps + at_the_end)
+    (place, steps + 2)
 }
 
 // Asks the key of a node that the pass has met. The step is not counted.
@@ -144,26 +156,22 @@ fn ask_key<A: Allocator + Copy, G: StepGate>(
     table.key_of(pass, node)
 }
 
-// Returns the value of a leaf that the pass has met, or 0 for an internal node, and in how many steps. They are not
-// counted.
+// Asks the value of a leaf that the pass has met. The step is not counted.
 #[inline(always)]
-fn value_at<A: Allocator + Copy, G: StepGate>(
+fn ask_value<A: Allocator + Copy, G: StepGate>(
     table: &CardTable<A>,
     pass: &mut Pass<A>,
-    node: u64,
+    leaf: u64,
     gate: &G,
-) -> (u64, u64)
+) -> u64
     requires own { pass.old.table ≡ table.now.id }
-    requires met { IsTold pass.old.view (Met node) }
-    ensures inner { IsInternal node → (result ≡ (0, 0)) × (pass.new ≡ pass.old) }
-    ensures outer { IsLeaf node → (result.1 ≡ 1) × Sees pass.old pass.new (after (call.ValueOf node) result.0 pass.old.view)
-        × TellsLedgerValue pass.old.view node result.0 }
+    requires met { IsTold pass.old.view (Met leaf) }
+    requires outer { IsLeaf leaf }
+    ensures step { Sees pass.old pass.new (after (call.ValueOf leaf) result pass.old.view) }
+    ensures tells { TellsLedgerValue pass.old.view leaf result }
 {
-    if is_internal(node) {
-        return (0, 0);
-    }
     gate.before(pass.label(), Kind::Look);
-    (table.value_of(pass, node), 1)
+    table.value_of(pass, leaf)
 }
 
 // The same value, made from its parts. A move would also copy the unused bytes next to the state, and the processor

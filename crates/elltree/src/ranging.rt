@@ -73,7 +73,7 @@ pub extern "C" fn elltree_slot_next_at_least(
     // `CLOSED` is returned exactly if the slot has no handle, and then nothing is written.
     ensures closed { (result ≡ said_closed) ↔ (handle_of slot.old.raw.inside ≡ None) }
     ensures kept { result ≡ said_closed → (found.new ≡ found.old) × (value.new ≡ value.old) }
-    // The answer is that of the tree's call: yes, and the key and its value are written, or no.
+    // The answer is that of the tree's call of this name: yes, and the key and its value are written, or no.
     ensures tells { OfHandlesIfAny
         (SaysWith (SeeksNext key) code_of_found pair_of result (found.old, value.old) (found.new, value.new))
         (handle_of slot.old.raw.inside) (handle_of slot.new.raw.inside) }
@@ -97,7 +97,7 @@ pub extern "C" fn elltree_slot_last_at_most(
     // `CLOSED` is returned exactly if the slot has no handle, and then nothing is written.
     ensures closed { (result ≡ said_closed) ↔ (handle_of slot.old.raw.inside ≡ None) }
     ensures kept { result ≡ said_closed → (found.new ≡ found.old) × (value.new ≡ value.old) }
-    // The answer is that of the tree's call: yes, and the key and its value are written, or no.
+    // The answer is that of the tree's call of this name: yes, and the key and its value are written, or no.
     ensures tells { OfHandlesIfAny
         (SaysWith (SeeksLast key) code_of_found pair_of result (found.old, value.old) (found.new, value.new))
         (handle_of slot.old.raw.inside) (handle_of slot.new.raw.inside) }

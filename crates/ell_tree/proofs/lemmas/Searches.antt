@@ -1,10 +1,10 @@
-use Rattle.std.proofs.Common.{◌≡◌, ◌≢◌, ℕ, ◌<◌, ◌≤◌, ◌==◌, ◌%◌, ◌++◌, List, Bool, true, false, true≢false, inl, inr, Option, Some, None, IfSome, if◌then◌else◌, eq-eqb, eqb-true, refl, sym, ◌∙◌, ap, subst, arith}
+use Rattle.std.proofs.Common.{◌≡◌, ◌≢◌, ℕ, ◌<◌, ◌≤◌, ◌==◌, ◌%◌, ◌++◌, List, Bool, true, false, true≢false, inl, Option, Some, None, IfSome, if◌then◌else◌, eq-eqb, eqb-true, refl, sym, ◌∙◌, ap, subst, arith}
 use Rattle.std.specs.Option.{is_some}
 use Rattle.ell_ops.specs.declared.op.Op.{Op}
 use Rattle.ell_ops.specs.declared.op.Op.TheVariants.{Find, Insert, Delete, Swap}
 use Rattle.ell_block.specs.Blocks.{InBlockOf}
 use Rattle.ell_word.specs.Node.{IsInternal}
-use Rattle.std.proofs.lemmas.Bool.{cases_eq, ne_eqb}
+use Rattle.std.proofs.lemmas.Bool.{ne_eqb}
 use Rattle.ell_ops.specs.declared.reply.Reply.{Reply}
 use Rattle.ell_ops.specs.Meaning.{key_of}
 use Rattle.ell_word.specs.Link.{IsLink, linked, link_in}
@@ -37,7 +37,7 @@ use Rattle.ell_tree.specs.Searches.{AtRoot, seen_any, below, KnowsPassed, EndWas
 use Rattle.ell_tree.specs.Counts.{HasUncounted}
 use Rattle.ell_tree.proofs.lemmas.Counts.{uncounted_one, uncounted_trans}
 use Rattle.ell_tree.proofs.lemmas.Links.{link_same, word_node}
-use Rattle.ell_tree.proofs.lemmas.Keeping.{keeps_but_search_none, keeps_but_search_unseen, keeps_but_search_trans, upd_keeps, key_of_keeps, value_of_keeps, down_keeps, seen_kept, place_told}
+use Rattle.ell_tree.proofs.lemmas.Keeping.{keeps_but_search_unseen, keeps_but_search_trans, upd_keeps, key_of_keeps, value_of_keeps, down_keeps, seen_kept, place_told}
 
 -- an update is read in a step, and so are a key and a value
 pub upd_seeks : (old new : PassModel) (x : ℕ) (u : Update) → Sees old new (after_upd x u old.view) → KeepsAllButSearch old new 1
@@ -48,13 +48,6 @@ key_seeks old new x key s = keeps_but_search_unseen old new (after_key_of x key 
 
 pub value_seeks : (old new : PassModel) (x value : ℕ) → Sees old new (after_value_of x value old.view) → KeepsAllButSearch old new 1
 value_seeks old new x value s = keeps_but_search_unseen old new (after_value_of x value old.view) s (value_of_keeps x value old.view) refl refl refl refl refl
-
--- the value of a leaf is asked in a step, that of an internal node in none
-pub end_seeks : (a b : PassModel) (x value : ℕ) → (IsInternal x → b ≡ a) → (IsLeaf x → Sees a b (after_value_of x value a.view)) → KeepsAllButSearch a b 1
-end_seeks a b x value inner outer = elim (cases_eq (x % 4) 0) [
-  | inl i ↦ subst (λ p. KeepsAllButSearch a p 1) (sym (inner i)) (keeps_but_search_none a 1)
-  | inr o ↦ value_seeks a b x value (outer o)
-]
 
 -- a search may go on below the root
 pub root_passes : (from : ℕ) (op : Op) (key : ℕ) → MayPass from op 0 key

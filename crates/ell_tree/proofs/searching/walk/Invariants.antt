@@ -1,24 +1,21 @@
 use Rattle.std.proofs.Common.{ℕ, ◌≡◌, ◌+◌, ◌*◌, ◌<◌, ◌-◌}
 use Rattle.ell_tree.specs.Counts.{HasUncounted}
 use Rattle.ell_tree.specs.Keeping.{KeepsAllButSearch}
-use Rattle.ell_cards.specs.Models.{flat_from}
 use Rattle.ell_tree.specs.Searches.{Stands}
-use Rattle.ell_tree.proofs.lemmas.Searches.{HasAsked}
 use Rattle.ell_tree.proofs.searching.walk.Given as goal
 use Rattle.ell_cards.specs.Depths.{deepest, depth_of, IsShallow}
 
--- the steps so far are three for each internal node down to the parent, and one for the key of the node below
-abbrev pub invariant-loop-grandparent : goal.invariant-loop-grandparent
-invariant-loop-grandparent g l = record {
+-- the steps so far are three for each internal node down to the parent
+abbrev pub invariant-loop-op : goal.invariant-loop-op
+invariant-loop-op g l = record {
   same : (l.op ≡ l.fn.op) × (l.table ≡ l.fn.table);
   stands : Stands l.table.plan l.pass.view l.op l.node l.parent l.grandparent;
-  asked : HasAsked (flat_from l.table.plan) l.pass.view l.node l.key;
   depth : ℕ;
   deep : depth < depth_of l.pass.view l.node;
   shallow : IsShallow (deepest l.table.plan) l.pass.view l.node;
-  keeps_but_search : KeepsAllButSearch l.fn.pass l.pass (3 * depth + 4);
+  keeps_but_search : KeepsAllButSearch l.fn.pass l.pass (3 * depth + 3);
   uncounted : HasUncounted l.fn.pass l.pass l.steps;
 }
 
-abbrev pub decreases-loop-grandparent : goal.decreases-loop-grandparent
-decreases-loop-grandparent g l = deepest l.table.plan + 2 - depth_of l.pass.view l.node
+abbrev pub decreases-loop-op : goal.decreases-loop-op
+decreases-loop-op g l = deepest l.table.plan + 2 - depth_of l.pass.view l.node
