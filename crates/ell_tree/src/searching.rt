@@ -7,7 +7,6 @@ ghost use Rattle.ell_cards.specs.declared.view.Told.TheVariants.{Met};
 ghost use Rattle.ell_cards.specs.declared.view.Told.TheVariants as told;
 ghost use Rattle.ell_cards.specs.declared.call.Call.TheVariants as call;
 ghost use Rattle.ell_layout.specs.Words.{IsLeaf};
-ghost use Rattle.ell_word.specs.Node.{IsInternal};
 ghost use Rattle.ell_tree.specs.Counts.{CountsAll, HasUncounted};
 ghost use Rattle.ell_tree.specs.Keeping.{IsInnerMet, KeepsAllButSearch};
 ghost use Rattle.ell_tree.specs.Searches.{AtRoot, EndsAbove, EndsAt, EndWasUnknownAt, FitsBelow, KnowsPassed, MayPass, below, node_with};
@@ -107,8 +106,8 @@ fn walk<A: Allocator + Copy, G: StepGate>(
     let (mut parent, mut node) = pass_by(table, pass, op, root, gate);
     let mut grandparent = None;
     let mut steps = STEPS_AT_A_NODE;
-    // Where a key stands depends on the kind of its node. It is asked where that is known, so that a processor which
-    // goes on by a guess need not wait for it.
+    // A leaf's key stands elsewhere than that of an internal node. So each is asked behind the test of the kind: a
+    // processor that predicts the test finds the key's word without waiting for it.
     while is_internal(node) {
         let key = ask_key(table, pass, node, gate);
         if ends_at(table, op, node, key) {

@@ -128,12 +128,6 @@ keeps_all_none a n = record {
   hindrances = refl;
 }
 
--- and so has a search
-pub keeps_but_search_none : (a : PassModel) (n : ℕ) → KeepsAllButSearch a a n
-keeps_but_search_none a n =
-    let all = keeps_all_none a n in
-    record { keeps = all.keeps; taken = all.taken; card = all.card; flagged = all.flagged; hindrances = all.hindrances }
-
 pub keeps_but_met_told : (a b : PassModel) (n : ℕ) (e : Told) → KeepsAllButMet a b n → IsTold a.view e → IsTold b.view e
 keeps_but_met_told a b n e w h = w.keeps.view.told e h
 
