@@ -21,6 +21,7 @@ mod peers;
 mod ranges;
 mod realtime;
 mod record;
+mod reusing;
 mod work;
 
 use ends::ends;

@@ -9,6 +9,7 @@ use crate::java::SkipList;
 use crate::library;
 use crate::one_map;
 use crate::ranges::Way;
+use crate::reusing;
 use elltree::CARDS_MAX;
 use std::array;
 use std::collections::btree_map::{BTreeMap, Entry};
@@ -320,6 +321,8 @@ fn queue_in_lock(sizes: Sizes) -> Crew<dyn Queue> {
 pub enum Peer {
     /// The handles of a tree.
     Elltree,
+    /// The handles of a tree whose cards come back.
+    Reusing,
     /// The one map that all threads share, without handles, which renews itself.
     OneMap,
     /// The handles of a tree, of the library that was built before a change.
@@ -344,6 +347,7 @@ pub enum Peer {
 impl Peer {
     pub const ALL: &[Peer] = &[
         Peer::Elltree,
+        Peer::Reusing,
         Peer::OneMap,
         #[cfg(before)]
         Peer::Before,
@@ -362,6 +366,7 @@ impl Peer {
     /// Those of which values are counters.
     pub const COUNTING: &[Peer] = &[
         Peer::Elltree,
+        Peer::Reusing,
         Peer::OneMap,
         #[cfg(before)]
         Peer::Before,
@@ -382,7 +387,7 @@ impl Peer {
     ];
 
     /// Those that are queues.
-    pub const QUEUES: &[Peer] = &[Peer::Elltree, Peer::OneMap, Peer::Mutex];
+    pub const QUEUES: &[Peer] = &[Peer::Elltree, Peer::Reusing, Peer::OneMap, Peer::Mutex];
 
     /// Those of the first screen of README.md.
     pub const FRONT: &[Peer] = &[
@@ -403,6 +408,7 @@ impl Peer {
     pub fn name(self) -> &'static str {
         match self {
             Peer::Elltree => "elltree",
+            Peer::Reusing => "elltree reusing",
             Peer::OneMap => "elltree map",
             #[cfg(before)]
             Peer::Before => "before",
@@ -480,6 +486,7 @@ impl Peer {
     pub fn crew(self, sizes: Sizes) -> Crew {
         match self {
             Peer::Elltree => library::elltree::sharing(sizes).expect("a tree"),
+            Peer::Reusing => reusing::sharing(sizes).expect("a tree"),
             Peer::OneMap => one_map::sharing(sizes).expect("a map"),
             #[cfg(before)]
             Peer::Before => library::before::sharing(sizes).expect("a tree"),
@@ -501,6 +508,7 @@ impl Peer {
     pub fn counters(self, sizes: Sizes) -> Crew<dyn Counters> {
         match self {
             Peer::Elltree => library::elltree::counters(sizes).expect("a tree"),
+            Peer::Reusing => reusing::counters(sizes).expect("a tree"),
             Peer::OneMap => one_map::counters(sizes).expect("a map"),
             #[cfg(before)]
             Peer::Before => library::before::counters(sizes).expect("a tree"),
@@ -514,6 +522,7 @@ impl Peer {
     pub fn queue(self, sizes: Sizes) -> Crew<dyn Queue> {
         match self {
             Peer::Elltree => library::queue(sizes).expect("a tree"),
+            Peer::Reusing => reusing::queue(sizes).expect("a tree"),
             Peer::OneMap => one_map::queue(sizes).expect("a map"),
             Peer::Mutex => queue_in_lock(sizes),
             _ => unreachable!("{} is no queue", self.name()),

@@ -384,11 +384,12 @@ impl Kind {
         let measured = |peer: &Peer| self.peers().contains(peer);
         let before = ours.before().filter(measured);
         let to_reference = self.reference().into_iter().flat_map(|reference| {
-            let one_map = Some(Peer::OneMap).filter(|it| *it != ours);
-            let compared = [Some(ours), before, one_map, Some(Peer::Bare)].into_iter().flatten().filter(measured);
+            let [reusing, one_map] = [Peer::Reusing, Peer::OneMap].map(|it| Some(it).filter(|it| *it != ours));
+            let compared = [Some(ours), before, reusing, one_map, Some(Peer::Bare)].into_iter().flatten().filter(measured);
             compared.map(move |peer| (peer, reference))
         });
-        to_reference.chain(before.map(|before| (ours, before))).collect()
+        let of_reuse = Some((Peer::Reusing, ours)).filter(|(reusing, _)| measured(reusing));
+        to_reference.chain(before.map(|before| (ours, before))).chain(of_reuse).collect()
     }
 
     /// What a table of this kind calls a peer.
@@ -396,6 +397,7 @@ impl Kind {
         let ours = self.ours();
         let name = match peer {
             Peer::OneMap | Peer::Ranging(Way::OneMap) => "One map",
+            Peer::Reusing => "Reusing",
             _ if peer == ours => "elltree",
             _ if Some(peer) == ours.before() => "Before",
             Peer::Ranging(Way::Array) => "Array",

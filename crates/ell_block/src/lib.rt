@@ -6,8 +6,6 @@
 
 mod branches;
 mod laws;
-#[cfg(test)]
-mod tests;
 
 pub use branches::{block_ends, branch, is_in_block};
 pub use laws::{blocks_nest, branches_are_unique, branches_fit};

@@ -5,8 +5,6 @@
 #![tactic(auto)]
 
 mod laws;
-#[cfg(test)]
-mod tests;
 
 pub use laws::{
     courses_tell, cuts_keep, links_keep, looks_find_what_was, looks_stay_true, swaps_keep,

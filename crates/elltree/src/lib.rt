@@ -16,8 +16,6 @@ mod raw_box;
 mod refusal;
 pub mod replacing;
 mod slot;
-#[cfg(test)]
-mod tests;
 pub mod texts;
 
 pub use ell_tree::Pair;

@@ -424,3 +424,28 @@ fn a_full_tree_can_be_emptied(rt: HostRuntime) {
     fill_and_empty(&rt, &tree, &mut pass);
     fill_and_empty(&rt, &tree, &mut pass);
 }
+
+// How often a pass is given up, and another one made.
+const GIVEN_UP: u64 = 60;
+
+// Has a second pass made, and given up, again and again.
+fn part_and_give_up(rt: &impl Abort, tree: &Tree<Global>, pass: Pass<Global>) -> Pass<Global>
+    requires { IsSharer tree.now pass }
+    ensures { IsSharer tree.now result }
+{
+    let mut pass = pass;
+    for _round in 0..GIVEN_UP {
+        let (first, second) = parted(rt, tree, pass, &[], &[]);
+        tree.release(second);
+        pass = first;
+    }
+    pass
+}
+
+#[test]
+fn a_pass_that_is_given_up_makes_room_for_another(rt: HostRuntime) {
+    let (tree, pass) = opened_reusing(&rt, CARDS, 2);
+    let mut pass = part_and_give_up(&rt, &tree, pass);
+    let said = answer(&rt, &tree, &mut pass, &[], Ask(Insert(7, 8)), &NoGate);
+    assert!(&rt; said == Ok(Reply::Yes));
+}

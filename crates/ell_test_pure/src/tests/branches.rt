@@ -2,7 +2,7 @@
 ghost use Rattle.std.specs.Prelude.{◌^◌, ◌-◌};
 ghost use Rattle.ell_block.specs.Blocks.{IsBranchOf, InBlockOf};
 
-use super::{branch, is_in_block};
+use ell_block::{branch, is_in_block};
 
 #[test]
 fn branches_are_as_worked_out(rt: HostRuntime) {

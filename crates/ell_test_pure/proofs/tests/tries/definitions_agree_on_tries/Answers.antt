@@ -1,5 +1,5 @@
 use Rattle.ell_trie.proofs.lemmas.SmallTrie.{small_trie, small_order, small_leaf, small_edge, greater_is_none}
-use Rattle.ell_trie.proofs.tests.definitions_agree_on_tries.Goals as goal
+use Rattle.ell_test_pure.proofs.tests.tries.definitions_agree_on_tries.Goals as goal
 
 pub returns-clause-trie : goal.returns-clause-trie
 returns-clause-trie c = small_trie

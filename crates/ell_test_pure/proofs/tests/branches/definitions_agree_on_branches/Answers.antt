@@ -1,5 +1,5 @@
 use Rattle.std.proofs.Common.{refl, arith}
-use Rattle.ell_block.proofs.tests.definitions_agree_on_branches.Goals as goal
+use Rattle.ell_test_pure.proofs.tests.branches.definitions_agree_on_branches.Goals as goal
 
 pub returns-clause-first : goal.returns-clause-first
 returns-clause-first c = record {

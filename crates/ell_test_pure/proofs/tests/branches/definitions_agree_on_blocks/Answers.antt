@@ -1,6 +1,6 @@
 use Rattle.std.proofs.Common.{refl, arith}
 use Rattle.ell_block.proofs.lemmas.Middles.{not_in_block}
-use Rattle.ell_block.proofs.tests.definitions_agree_on_blocks.Goals as goal
+use Rattle.ell_test_pure.proofs.tests.branches.definitions_agree_on_blocks.Goals as goal
 
 pub returns-clause-first : goal.returns-clause-first
 returns-clause-first c = not_in_block (record { bit = 1; place = 1 }) _ (λ inside. (let from = inside.from in let before = inside.before in omega arith))
