@@ -24,12 +24,24 @@ enum {
     MANY = 3000,
     MADE = 200,
     FEW = 3,
+    EXCHANGE_IN = 16,
+    PLACES = 200,
+    SOME = 70,
     TRIES = 1000
 };
 #define COUNTER UINT64_C(1000000)
 #define NUMBERS (UINT64_C(1) << 61)
 
 static uint64_t next(uint64_t *seed) { return *seed ^= *seed << 13, *seed ^= *seed >> 7, *seed ^= *seed << 17; }
+
+/* Exchanges the value of a key for another one and puts it back, if the key is there: whether an answer is not that of a map. */
+static long exchange_is_wrong(struct elltree_handle *one, uint64_t key, int there, uint64_t value, uint64_t other) {
+    uint64_t expected = value, told = 0;
+    const int32_t said = elltree_compare_exchange(one, key, &expected, other, TRIES);
+    if (!there)
+        return said != ELLTREE_NO;
+    return said != ELLTREE_YES || elltree_put(one, key, value, TRIES, &told) != ELLTREE_YES || told != other;
+}
 
 /* One handle alone: as many changes of a few keys as it is to make, each answered as a map answers it. */
 static long alone(uint64_t cards, uint64_t keys, uint64_t changes) {
@@ -47,6 +59,8 @@ static long alone(uint64_t cards, uint64_t keys, uint64_t changes) {
             wrong += said != (there[key] ? ELLTREE_YES : ELLTREE_NO) || (there[key] && told != value[key]);
         }
         there[key] = random & 1;
+        if ((random >> 8) % EXCHANGE_IN == 0)
+            wrong += exchange_is_wrong(&one, key, there[key], value[key], ~i);
     }
     for (uint64_t key = 0; key < KEYS; key++)
         wrong += elltree_find(&one, key, &told) != (there[key] ? ELLTREE_YES : ELLTREE_NO);
@@ -305,6 +319,21 @@ static long as_many_as_asked_for(void) {
     return wrong + (elltree_free(&all[4]) != ELLTREE_YES);
 }
 
+/* Handles in a row, as many as there is room for, then some, and then as many again. All but the first one are freed in between. */
+static long many_in_a_row(void) {
+    static struct elltree_handle all[PLACES + 1];
+    long wrong = elltree_open_reusing(&all[0], NULL, 0, 50, PLACES) != ELLTREE_YES;
+    for (int round = 0; round < 3; round++) {
+        const int count = round == 1 ? SOME : PLACES;
+        for (int i = 1; i < count; i++)
+            wrong += elltree_another(&all[0], &all[i]) != ELLTREE_YES;
+        wrong += count == PLACES && elltree_another(&all[0], &all[PLACES]) != ELLTREE_TOO_MANY_HANDLES;
+        for (int i = 1; i < count; i++)
+            wrong += elltree_free(&all[i]) != ELLTREE_YES;
+    }
+    return wrong + (elltree_free(&all[0]) != ELLTREE_YES);
+}
+
 /* Handles of one tree, which threads make of its first one, and free after a few changes. There is room for one thread fewer at a time. */
 static struct elltree_handle maker = ELLTREE_EMPTY;
 static pthread_mutex_t making = PTHREAD_MUTEX_INITIALIZER;
@@ -352,7 +381,7 @@ static long made_and_freed(uint64_t cards) {
 }
 
 int main(void) {
-    const long wrong = as_many_as_asked_for() + all_filled_and_emptied() + alone(30, KEYS, CHANGES) + alone(1000, KEYS, CHANGES) +
+    const long wrong = as_many_as_asked_for() + many_in_a_row() + all_filled_and_emptied() + alone(30, KEYS, CHANGES) + alone(1000, KEYS, CHANGES) +
                        alone(9, 2, CHANGES_BEYOND) + together(64) + together(1000) + none_is_lost() + made_and_freed(64) +
                        beside_one_that_is_stopped(100) + beside_one_that_rests();
     printf("%ld wrong\n", wrong);

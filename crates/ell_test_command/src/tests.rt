@@ -1,6 +1,17 @@
-//! What no clause says: which texts go where, in how many writes, and what a writer that cannot be flushed does. `tests/texts` has the
-//! words of the command line, what they come to, and streams that fail.
+//! What no clause says. The command: which texts go where, in how many writes, and what a writer that cannot be flushed
+//! does. Calls on an allocator that refuses them memory: in which order their faults come, and who stops. And what clauses
+//! come to, by examples that a person worked out. `tests/texts` has what the built command shows, and `tests/refusals` and
+//! `tests/hosts/refused.c` refuse each allocation of the built command and library.
+mod branches;
 mod endings;
+mod halves;
+mod lists;
+mod machine;
+mod orders;
+mod parts;
+mod refusing;
 mod reports;
 mod runs;
 mod streams;
+mod tries;
+mod words;

@@ -1,5 +1,19 @@
-//! Tables, trees and runs on one thread, on two and more that a gate holds, and by up to 64 workers; and streams that fail.
+//! Calls on shared keys that a gate holds, or has begin at once; owners beside shared keys; flat trees; and scans, which
+//! are held too, and whose steps are counted. Trees and runs on one thread, on two and more that a gate holds, and by up to
+//! 64 workers; safe numbers of the table; and streams that fail.
+mod calling;
+mod counting;
+mod edges;
+mod holding;
+mod neighbors;
+mod parting;
+mod racing;
+mod returning;
 mod runs;
+mod scanning;
 mod streams;
+mod swapping;
 mod table;
+mod telling;
 mod tree;
+mod updating;

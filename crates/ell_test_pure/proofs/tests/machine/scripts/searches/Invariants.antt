@@ -1,6 +1,0 @@
-use Rattle.std.proofs.Common.{◌≡◌}
-use Rattle.ell_test_pure.proofs.tests.machine.scripts.searches.Given as goal
-
--- as many cards as at the start
-abbrev pub invariant-loop : goal.invariant-loop
-invariant-loop l = l.world.last_card ≡ l.fn.world.last_card

@@ -1,9 +1,0 @@
-use Rattle.std.proofs.Common.{◌≡◌}
-use Rattle.ell_test_shared.specs.Sharing.{IsSharer}
-use Rattle.ell_test_shared.proofs.tests.returning.ask_a_few_times.Given as goal
-
-abbrev pub invariant-loop-call : goal.invariant-loop-call
-invariant-loop-call g l = record {
-  sharer : IsSharer l.tree l.pass;
-  same : l.tree ≡ l.fn.tree;
-}

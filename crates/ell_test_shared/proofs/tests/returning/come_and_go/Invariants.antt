@@ -1,9 +1,0 @@
-use Rattle.std.proofs.Common.{◌≡◌}
-use Rattle.ell_test_shared.specs.Sharing.{IsSharer}
-use Rattle.ell_test_shared.proofs.tests.returning.come_and_go.Given as goal
-
-abbrev pub invariant-loop-round : goal.invariant-loop-round
-invariant-loop-round g l = record {
-  sharer : IsSharer l.tree l.pass;
-  same : l.tree ≡ l.fn.tree;
-}
