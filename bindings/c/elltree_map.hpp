@@ -1,7 +1,7 @@
 /* elltree::map: elltree_map.h as a class, for C++17. Any thread may call any member at any time, except the destructor, a move and swap. A refusal
    is thrown as elltree::refused, and refused memory as std::bad_alloc.
 
-       elltree::map map;
+       elltree::map map{{1, 10}, {2, 20}}; // or empty
        .. any thread, at any time ..
        map.insert(7, 70);
        if (auto value = map.get(7))
@@ -10,7 +10,8 @@
            .. 5 is in the range, and 10 is not ..
 
    A call that reads finds no key above ELLTREE_KEY_MAX, and one that changes keys refuses such a key with ELLTREE_BAD_KEY. elltree_map.h says more
-   about each call, under the same name, except that erase is elltree_map_delete there, size elltree_map_len, and empty elltree_map_is_empty. */
+   about each call, under the same name, except that erase is elltree_map_delete there, size elltree_map_len, and empty elltree_map_is_empty. find, at,
+   count, lower_bound, upper_bound and insert_or_assign are for programs that have a std::map so far: their comments say how they differ from its. */
 #ifndef ELLTREE_MAP_HPP
 #define ELLTREE_MAP_HPP
 #if __cplusplus < 201703L
@@ -28,6 +29,23 @@
 #include <string>
 #include <utility>
 #include <vector>
+
+namespace elltree {
+
+/* A pair that an iterator shows. Its key is first, as in a std::map, and key, as in an elltree_pair; its value is second and value. It is a copy,
+   so what is assigned to it changes no map. */
+struct entry : std::pair<uint64_t, uint64_t> {
+    entry(const elltree_pair &it = {0, 0}) noexcept : std::pair<uint64_t, uint64_t>(it.key, it.value), key(it.key), value(it.value) {}
+    operator elltree_pair() const noexcept { return {key, value}; }
+
+    uint64_t key, value;
+};
+
+} // namespace elltree
+
+/* An entry can be taken apart as a pair: auto [key, value] = *it. */
+template <> struct std::tuple_size<elltree::entry> : std::tuple_size<std::pair<uint64_t, uint64_t>> {};
+template <std::size_t at> struct std::tuple_element<at, elltree::entry> : std::tuple_element<at, std::pair<uint64_t, uint64_t>> {};
 
 namespace elltree {
 
@@ -73,24 +91,26 @@ inline exchanged exchanged_by(int32_t code) {
 
 class map {
 public:
-    /* Goes over pairs in the ascending order of their keys, in one pass. It fetches some pairs at a time: each one was there at one moment since
-       the iterator was made. Other threads may change the map meanwhile, and so may the loop. An iterator must not outlive its map. */
+    /* Goes over pairs in the ascending order of their keys, in one pass, and has a copy of the pair at which it is. An iterator of begin() or of a
+       range fetches some pairs at a time: each one was there at one moment since the iterator was made. One of find, lower_bound or upper_bound
+       reads a pair when it comes to it. Other threads may change the map meanwhile, and so may the loop. An iterator must not outlive its map. */
     class const_iterator {
     public:
         using iterator_category = std::input_iterator_tag;
-        using value_type = elltree_pair;
+        using value_type = entry;
         using difference_type = std::ptrdiff_t;
-        using pointer = const elltree_pair *;
-        using reference = const elltree_pair &;
+        using pointer = const entry *;
+        using reference = const entry &;
 
         /* Makes an iterator at the end of all ranges. */
         const_iterator() noexcept = default;
 
-        reference operator*() const noexcept { return found_[at_]; }
-        pointer operator->() const noexcept { return &found_[at_]; }
+        reference operator*() const noexcept { return here_; }
+        pointer operator->() const noexcept { return &here_; }
         const_iterator &operator++() {
             if (++at_ == count_)
                 fetch();
+            here_ = found_[at_];
             return *this;
         }
         const_iterator operator++(int) {
@@ -105,27 +125,37 @@ public:
 
     private:
         friend class map;
-        const_iterator(elltree_map *map, uint64_t from, uint64_t upto) : map_(map), next_(from), upto_(upto) { fetch(); }
+        static constexpr std::size_t one_pair = 1, few_pairs = 4;
+
+        const_iterator(elltree_map *map, uint64_t from, uint64_t upto, std::size_t room) : map_(map), next_(from), upto_(upto), room_(room) {
+            fetch();
+            here_ = found_[at_];
+        }
+        /* Makes an iterator at a pair that was read, which goes on one pair at a time. */
+        const_iterator(elltree_map *map, const elltree_pair &pair) noexcept
+            : map_(map), next_(pair.key + 1), upto_(UINT64_MAX), count_(1), room_(one_pair), here_(pair) {}
 
         bool is_at_end() const noexcept { return at_ == count_; }
         void fetch() {
             at_ = count_ = 0;
             if (next_ < upto_)
                 check(elltree_map_range(map_, next_, upto_, found_.data(), room_, &count_, &next_));
-            room_ = std::min(2 * room_, found_.size());
+            if (room_ != one_pair)
+                room_ = std::min(2 * room_, found_.size());
         }
 
         elltree_map *map_ = nullptr;
         uint64_t next_ = 0, upto_ = 0;   /* the keys that nobody has asked for yet */
         std::size_t at_ = 0, count_ = 0; /* where the iterator is among the pairs that it has fetched, and how many these are */
-        std::size_t room_ = 4;           /* how many it fetches next: few at first, so that a short range is cheap */
+        std::size_t room_ = few_pairs;   /* how many it fetches next: few at first, so that a short range is cheap */
         std::array<elltree_pair, 32> found_ = {};
+        entry here_;
     };
 
     /* The pairs of a range of keys. Each begin() goes over them anew. A range must not outlive its map. */
     class key_range {
     public:
-        const_iterator begin() const { return {map_, from_, upto_}; }
+        const_iterator begin() const { return {map_, from_, upto_, const_iterator::few_pairs}; }
         const_iterator end() const noexcept { return {}; }
 
     private:
@@ -142,6 +172,12 @@ public:
     /* Makes a map with these pairs, whose keys ascend strictly. */
     explicit map(const std::vector<elltree_pair> &pairs, const elltree_map_settings &settings = {}) {
         check(elltree_map_from_sorted(&map_, pairs.data(), pairs.size(), &settings, sizeof settings));
+    }
+
+    /* Makes a map with the pairs of a list in braces, in any order. Of pairs with the same key it keeps the first, as a std::map does. */
+    map(std::initializer_list<elltree_pair> pairs, const elltree_map_settings &settings = {}) : map(std::vector<elltree_pair>(), settings) {
+        for (const auto &pair : pairs)
+            insert(pair.key, pair.value);
     }
     [[nodiscard]] static map from_sorted(const std::vector<elltree_pair> &pairs, const elltree_map_settings &settings = {}) {
         return map(pairs, settings);
@@ -169,6 +205,14 @@ public:
     }
     bool contains(uint64_t key) const { return get(key).has_value(); }
 
+    /* Returns the value of a key, or 1 if a key is present and else 0, as a std::map does, but at returns a copy and no reference to the value in
+       the map. at throws std::out_of_range if the key is absent. */
+    uint64_t at(uint64_t key) const {
+        const auto value = get(key);
+        return value ? *value : throw std::out_of_range("elltree::map::at: the key is absent");
+    }
+    size_t count(uint64_t key) const { return contains(key); }
+
     /* Adds a key that is absent, and returns whether it was. A key that is present keeps its value. */
     bool insert(uint64_t key, uint64_t value) { return check(elltree_map_insert(map_, key, value)); }
 
@@ -177,6 +221,9 @@ public:
         uint64_t was = 0;
         return told(elltree_map_put(map_, key, value, &was), was);
     }
+
+    /* Stores a value as put does, and returns whether the key was absent. A std::map returns an iterator too. */
+    bool insert_or_assign(uint64_t key, uint64_t value) { return !put(key, value); }
 
     /* Adds a key if it is absent, in one atomic step. Returns the value that the key has then, and whether it was added. */
     std::pair<uint64_t, bool> get_or_insert(uint64_t key, uint64_t value) {
@@ -233,6 +280,16 @@ public:
     key_range range(uint64_t from = 0, uint64_t upto = UINT64_MAX) const noexcept { return {map_, from, upto}; }
     const_iterator begin() const { return range().begin(); }
     const_iterator end() const noexcept { return {}; }
+
+    /* Returns an iterator at a key, or at the least key from one on, or above one, or end() if there is none. Unlike those of a std::map, it has a
+       copy of the pair, which no other thread changes, and to which nothing can be assigned. ++ goes to the next key that is present then, also if
+       its own key was removed meanwhile, and reads its value. A loop over many pairs is faster by range, which reads some at a time. */
+    const_iterator find(uint64_t key) const {
+        const auto value = get(key);
+        return value ? const_iterator(map_, {key, *value}) : end();
+    }
+    const_iterator lower_bound(uint64_t key) const { return {map_, key, UINT64_MAX, const_iterator::one_pair}; }
+    const_iterator upper_bound(uint64_t key) const { return lower_bound(key < ELLTREE_KEY_MAX ? key + 1 : UINT64_MAX); }
 
     /* Returns the pair of the least key from one on, or above one, or of the greatest key up to one, or below one. */
     std::optional<elltree_pair> next_at_least(uint64_t key) const { return found(elltree_map_next_at_least, key); }

@@ -1,5 +1,5 @@
 /* Threads of C++ over one elltree::map, which another thread renews all the time, and each member of the class. Ranges are those of a std::map,
-   and beside changes of other keys. */
+   and beside changes of other keys, and so are the members and iterators that a std::map has too. */
 #include "elltree_map.hpp"
 #include <algorithm>
 #include <atomic>
@@ -111,7 +111,8 @@ static void members() {
     other = std::move(map);
     EXPECT(other.size() == 2 && other.remove(2) == 22u && !other.remove(2) && other.erase(4) && other.empty());
     EXPECT(code_of([&] { other.put(ELLTREE_KEY_MAX + 1, 0); }) == ELLTREE_BAD_KEY);
-    EXPECT(code_of([] { elltree::map wrong_order({{2, 0}, {1, 0}}); }) == ELLTREE_BAD_START);
+    const std::vector<elltree_pair> wrong_order{{2, 0}, {1, 0}};
+    EXPECT(code_of([&] { elltree::map not_made(wrong_order); }) == ELLTREE_BAD_START);
     other.renew();
     EXPECT(std::string(elltree::refused(ELLTREE_NO_MEMORY).what()) == "out of memory");
 }
@@ -202,7 +203,82 @@ static void ranges() {
     EXPECT(map.empty());
 }
 
-/* A loop over all pairs beside a thread that changes every other key: the others are all shown, in order. */
+/* A list in braces may be in any order, and have a key twice, of which a std::map keeps the first. */
+static void lists() {
+    const elltree::map map{{3, 30}, {1, 10}, {2, 20}, {3, 31}};
+    const std::map<uint64_t, uint64_t> plain{{3, 30}, {1, 10}, {2, 20}, {3, 31}};
+    EXPECT(std::map(map.begin(), map.end()) == plain && map.size() == plain.size());
+    elltree::map other = {{7, 70}};
+    EXPECT(other.size() == 1 && other.at(7) == 70);
+    other = {{8, 80}, {9, 90}};
+    EXPECT(other.size() == 2 && !other.contains(7) && elltree::map{}.empty());
+    elltree_map_settings settings = ELLTREE_MAP_SETTINGS;
+    settings.cards = 500;
+    EXPECT(elltree::map({{2, 20}, {1, 10}}, settings).at(1) == 10);
+    EXPECT(code_of([] { elltree::map too_great{{1, 10}, {ELLTREE_KEY_MAX + 1, 0}}; }) == ELLTREE_BAD_KEY);
+}
+
+/* Whether an iterator, and those that ++ makes of it, are at the pairs of another. */
+static bool is_alike(elltree::map::const_iterator it, const elltree::map &map, std::map<uint64_t, uint64_t>::const_iterator at,
+                     const std::map<uint64_t, uint64_t> &plain) {
+    while (it != map.end() && at != plain.end() && it->first == at->first && it->second == at->second)
+        ++it, ++at;
+    return it == map.end() && at == plain.end();
+}
+
+/* Members that a std::map has too answer as its do. */
+static void as_of_a_std_map() {
+    std::map<uint64_t, uint64_t> plain;
+    elltree::map map;
+    EXPECT(is_alike(map.find(0), map, plain.find(0), plain) && is_alike(map.lower_bound(0), map, plain.lower_bound(0), plain));
+    for (uint64_t i = 0; i < 300; i++) {
+        const uint64_t key = i * 37 % 101 * 3;
+        EXPECT(map.insert_or_assign(key, i) == plain.insert_or_assign(key, i).second);
+    }
+    for (uint64_t key = 0; key < 310; key++) {
+        EXPECT(map.count(key) == plain.count(key) && is_alike(map.find(key), map, plain.find(key), plain));
+        EXPECT(is_alike(map.lower_bound(key), map, plain.lower_bound(key), plain));
+        EXPECT(is_alike(map.upper_bound(key), map, plain.upper_bound(key), plain));
+        bool is_absent = false;
+        try {
+            EXPECT(map.at(key) == plain.at(key));
+        } catch (const std::out_of_range &) {
+            is_absent = true;
+        }
+        EXPECT(is_absent == (plain.count(key) == 0));
+    }
+}
+
+/* An iterator has a copy of its pair, and ++ reads the next pair as it is then, also where the iterator's own key is gone. */
+static void positions() {
+    elltree::map map{{1, 10}, {2, 20}, {3, 30}, {4, 40}, {5, 50}};
+    auto at = map.find(1);
+    map.put(1, 11), map.put(2, 21), map.erase(3), map.erase(1), map.put(5, 51);
+    EXPECT(at->first == 1 && at->second == 10 && *at == std::make_pair(uint64_t(1), uint64_t(10)) && at == at);
+    EXPECT((++at)->second == 21 && (at++)->key == 2 && at->first == 4 && at != map.find(2) && at == map.lower_bound(3) && at == map.upper_bound(2));
+    map.put(6, 60);
+    EXPECT((++at)->value == 51 && (++at)->second == 60 && ++at == map.end() && map.find(3) == map.end());
+    if (auto it = map.find(4); it != map.end())
+        map.put(it->first, it->second + 1);
+    uint64_t sum = 0;
+    for (auto it = map.lower_bound(4); it != map.end(); ++it)
+        sum += it->second;
+    for (const auto &pair : map)
+        sum -= pair.second;
+    const auto [key, value] = *map.find(4);
+    EXPECT(sum == UINT64_MAX - 21 + 1 && key == 4 && value == 41 && map.contains(4));
+    const std::vector<elltree_pair> in_c(map.begin(), map.end());
+    EXPECT(in_c.size() == 4 && in_c.back().key == 6 && in_c.back().value == 60);
+    for (const uint64_t great : {ELLTREE_KEY_MAX, ELLTREE_KEY_MAX + 1, UINT64_MAX})
+        EXPECT(map.find(great) == map.end() && map.lower_bound(great) == map.end() && map.upper_bound(great) == map.end() && !map.count(great));
+    map.put(ELLTREE_KEY_MAX, 7);
+    EXPECT(map.lower_bound(7)->second == 7 && map.upper_bound(ELLTREE_KEY_MAX - 1)->second == 7 && map.upper_bound(ELLTREE_KEY_MAX) == map.end());
+    EXPECT(map.find(ELLTREE_KEY_MAX)->first == ELLTREE_KEY_MAX && ++map.find(ELLTREE_KEY_MAX) == map.end());
+    const elltree::map moved(std::move(map));
+    EXPECT(code_of([&] { map.find(4); }) == ELLTREE_NULL && code_of([&] { map.lower_bound(4); }) == ELLTREE_NULL && moved.at(4) == 41);
+}
+
+/* Loops over all pairs beside a thread that changes every other key: the others are all shown, in order. */
 static void range_beside_changes() {
     elltree::map map = few_cards();
     std::atomic<bool> done = false;
@@ -215,19 +291,27 @@ static void range_beside_changes() {
     });
     do {
         uint64_t steady = 0, last = 0;
-        for (auto [key, value] : map) {
+        const auto look = [&](uint64_t key, uint64_t value) {
             wrong += steady && key <= last;
             steady += key % 2 == 0 && value == key;
             last = key;
-        }
+        };
+        for (auto [key, value] : map)
+            look(key, value);
         EXPECT(steady == 1000);
+        steady = 0;
+        for (auto it = map.lower_bound(500); it != map.end(); ++it)
+            look(it->first, it->second);
+        EXPECT(steady == 750);
     } while (!done);
     other.join();
 }
 
 /* What docs/MAP.md shows. */
 static void shown() {
-    auto map = elltree::map::from_sorted({{1, 10}, {2, 20}, {5, 50}});
+    elltree::map map{{1, 10}, {2, 20}, {5, 50}};
+    if (auto it = map.find(5); it != map.end())
+        map.put(it->first, it->second + 1);
     auto [there, is_new] = map.get_or_insert(7, 70);
     for (auto [key, value] : map.range(2, 6)) // 2 is in it, and 6 is not
         map.put(key, value + 1);
@@ -244,6 +328,9 @@ int main() {
     composed();
     too_great();
     ranges();
+    lists();
+    as_of_a_std_map();
+    positions();
     range_beside_changes();
     share(4);
     share(32);
