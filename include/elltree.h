@@ -19,7 +19,8 @@
    given back: when all are given out, changes are refused with ELLTREE_SPENT. In a tree that elltree_open_reusing makes, cards come back
    while it is open. No call on a handle waits for another thread: each of them ends
    after a bounded number of steps of its own. This is proved of the functions of the library, whose names begin with elltree_slot. The calls
-   add the checks of this header, which are tested.
+   add the checks of this header, which are tested. What a thread did before it stored a value happened before what another thread does after
+   it has read that value. In a program with the thread sanitizer, the calls tell it so.
 
    A handle begins as all zeros and then holds nothing: struct elltree_handle h = ELLTREE_EMPTY. Calls on different handles may run at the
    same time. A handle is in one call at a time, and may go from one thread to another. Each call writes to its handle, so handles that
@@ -54,6 +55,16 @@
 #define ELLTREE_H
 #include "elltree_map.h"
 #include <stdbool.h>
+#if defined(__SANITIZE_THREAD__)
+#define ELLTREE_TELLS_ORDER 1
+#elif defined(__has_feature)
+#if __has_feature(thread_sanitizer)
+#define ELLTREE_TELLS_ORDER 1
+#endif
+#endif
+#ifdef ELLTREE_TELLS_ORDER
+#include <sanitizer/tsan_interface.h>
+#endif
 #ifdef __cplusplus
 extern "C" {
 #endif
@@ -109,6 +120,39 @@ static inline int32_t elltree_enter(struct elltree_handle *handle) {
 static inline int32_t elltree_leave(struct elltree_handle *handle, int32_t code) {
     __atomic_store_n(&handle->in_call, 0, __ATOMIC_SEQ_CST);
     return code;
+}
+
+/* The thread sanitizer doesn't see the order that the library makes, which is compiled without it. In a program with it, the calls below tell it:
+   `shown` that all that the thread has done so far is seen by whoever sees the key, and `seen` that this thread has seen it, or all keys. A word
+   stands for a key, and for some others. */
+#ifdef ELLTREE_TELLS_ORDER
+enum { ELLTREE_ORDERS = 64 };
+extern uint64_t elltree_orders[ELLTREE_ORDERS];
+__attribute__((weak)) uint64_t elltree_orders[ELLTREE_ORDERS] = {0};
+static inline void elltree_shown(uint64_t key) { __tsan_release(&elltree_orders[key % ELLTREE_ORDERS]); }
+static inline void elltree_seen(uint64_t key) { __tsan_acquire(&elltree_orders[key % ELLTREE_ORDERS]); }
+static inline void elltree_seen_all(void) {
+    for (uint64_t i = 0; i < ELLTREE_ORDERS; i++)
+        elltree_seen(i);
+}
+#else
+static inline void elltree_shown(uint64_t key) { (void)key; }
+static inline void elltree_seen(uint64_t key) { (void)key; }
+static inline void elltree_seen_all(void) {}
+#endif
+
+/* These begin a call that changes a key, and end one that reads or changes a key, or reads several. */
+static inline int32_t elltree_enter_change(struct elltree_handle *handle, uint64_t key) {
+    elltree_shown(key);
+    return elltree_enter(handle);
+}
+static inline int32_t elltree_leave_key(struct elltree_handle *handle, uint64_t key, int32_t code) {
+    elltree_seen(key);
+    return elltree_leave(handle, code);
+}
+static inline int32_t elltree_leave_keys(struct elltree_handle *handle, int32_t code) {
+    elltree_seen_all();
+    return elltree_leave(handle, code);
 }
 
 /* Opens a tree with these pairs, whose keys ascend strictly, and this number of cards. The handle, which holds nothing yet, is its first one. A
@@ -167,7 +211,7 @@ static inline int32_t elltree_free(struct elltree_handle *handle) {
    Refusals: ELLTREE_NULL, ELLTREE_IN_CALL, ELLTREE_CLOSED. */
 ELLTREE_MUST_USE static inline int32_t elltree_find(struct elltree_handle *handle, uint64_t key, uint64_t *value) {
     int32_t code = value ? elltree_enter(handle) : ELLTREE_NULL;
-    return code == ELLTREE_YES ? elltree_leave(handle, elltree_slot_find(&handle->slot, key, value)) : code;
+    return code == ELLTREE_YES ? elltree_leave_key(handle, key, elltree_slot_find(&handle->slot, key, value)) : code;
 }
 
 /* Finds a key as elltree_find does, by fewer steps: what it answers is what the tree had for the key at one moment of the call. In the proof a
@@ -175,7 +219,7 @@ ELLTREE_MUST_USE static inline int32_t elltree_find(struct elltree_handle *handl
    Refusals: ELLTREE_NULL, ELLTREE_IN_CALL, ELLTREE_CLOSED. */
 ELLTREE_MUST_USE static inline int32_t elltree_look(struct elltree_handle *handle, uint64_t key, uint64_t *value) {
     int32_t code = value ? elltree_enter(handle) : ELLTREE_NULL;
-    return code == ELLTREE_YES ? elltree_leave(handle, elltree_slot_look(&handle->slot, key, value)) : code;
+    return code == ELLTREE_YES ? elltree_leave_key(handle, key, elltree_slot_look(&handle->slot, key, value)) : code;
 }
 
 /* Adds a key that is absent: returns ELLTREE_YES if it has added the key, and ELLTREE_NO if the key was present, which then keeps its value. The
@@ -183,8 +227,8 @@ ELLTREE_MUST_USE static inline int32_t elltree_look(struct elltree_handle *handl
    all tries fail, the call returns ELLTREE_BUSY. An insert takes a card, and elltree_cards_left tells you how many are left.
    Refusals: ELLTREE_NULL, ELLTREE_IN_CALL, ELLTREE_CLOSED, ELLTREE_NO_TRIES, ELLTREE_BAD_KEY, ELLTREE_BUSY, ELLTREE_SPENT. */
 ELLTREE_MUST_USE static inline int32_t elltree_insert(struct elltree_handle *handle, uint64_t key, uint64_t value, uint32_t tries) {
-    int32_t code = elltree_enter(handle);
-    return code == ELLTREE_YES ? elltree_leave(handle, elltree_slot_insert(&handle->slot, key, value, tries)) : code;
+    int32_t code = elltree_enter_change(handle, key);
+    return code == ELLTREE_YES ? elltree_leave_key(handle, key, elltree_slot_insert(&handle->slot, key, value, tries)) : code;
 }
 
 /* Stores the value of a key, whether the key is present or absent, in one atomic step. Returns ELLTREE_YES and writes the value that the key
@@ -192,24 +236,24 @@ ELLTREE_MUST_USE static inline int32_t elltree_insert(struct elltree_handle *han
    since it was read. A put takes a card.
    Refusals: ELLTREE_NULL, ELLTREE_IN_CALL, ELLTREE_CLOSED, ELLTREE_NO_TRIES, ELLTREE_BAD_KEY, ELLTREE_BUSY, ELLTREE_SPENT. */
 ELLTREE_MUST_USE static inline int32_t elltree_put(struct elltree_handle *handle, uint64_t key, uint64_t value, uint32_t tries, uint64_t *was) {
-    int32_t code = was ? elltree_enter(handle) : ELLTREE_NULL;
-    return code == ELLTREE_YES ? elltree_leave(handle, elltree_slot_put(&handle->slot, key, value, tries, was)) : code;
+    int32_t code = was ? elltree_enter_change(handle, key) : ELLTREE_NULL;
+    return code == ELLTREE_YES ? elltree_leave_key(handle, key, elltree_slot_put(&handle->slot, key, value, tries, was)) : code;
 }
 
 /* Removes a key: returns ELLTREE_YES if it was present, and ELLTREE_NO if it was absent. A delete takes a card. To change the value of a key, use
    elltree_put or one of the calls after elltree_take: they need one card, and the key is never absent in between.
    Refusals: ELLTREE_NULL, ELLTREE_IN_CALL, ELLTREE_CLOSED, ELLTREE_NO_TRIES, ELLTREE_BAD_KEY, ELLTREE_BUSY, ELLTREE_SPENT. */
 ELLTREE_MUST_USE static inline int32_t elltree_delete(struct elltree_handle *handle, uint64_t key, uint32_t tries) {
-    int32_t code = elltree_enter(handle);
-    return code == ELLTREE_YES ? elltree_leave(handle, elltree_slot_delete(&handle->slot, key, tries)) : code;
+    int32_t code = elltree_enter_change(handle, key);
+    return code == ELLTREE_YES ? elltree_leave_key(handle, key, elltree_slot_delete(&handle->slot, key, tries)) : code;
 }
 
 /* Removes a key as elltree_delete does, and writes the value that it has removed. Of all threads, only this one removed that value: the key had
    it at one moment of the call, and was absent after it.
    Refusals: ELLTREE_NULL, ELLTREE_IN_CALL, ELLTREE_CLOSED, ELLTREE_NO_TRIES, ELLTREE_BAD_KEY, ELLTREE_BUSY, ELLTREE_SPENT. */
 ELLTREE_MUST_USE static inline int32_t elltree_take(struct elltree_handle *handle, uint64_t key, uint32_t tries, uint64_t *taken) {
-    int32_t code = taken ? elltree_enter(handle) : ELLTREE_NULL;
-    return code == ELLTREE_YES ? elltree_leave(handle, elltree_slot_take(&handle->slot, key, tries, taken)) : code;
+    int32_t code = taken ? elltree_enter_change(handle, key) : ELLTREE_NULL;
+    return code == ELLTREE_YES ? elltree_leave_key(handle, key, elltree_slot_take(&handle->slot, key, tries, taken)) : code;
 }
 
 /* Stores the desired value of a key if its value is the expected one, in one atomic step, like atomic_compare_exchange_strong of C11. Returns
@@ -218,10 +262,10 @@ ELLTREE_MUST_USE static inline int32_t elltree_take(struct elltree_handle *handl
    Refusals: ELLTREE_NULL, ELLTREE_IN_CALL, ELLTREE_CLOSED, ELLTREE_NO_TRIES, ELLTREE_BAD_KEY, ELLTREE_BUSY, ELLTREE_SPENT. */
 ELLTREE_MUST_USE static inline int32_t elltree_compare_exchange(struct elltree_handle *handle, uint64_t key, uint64_t *expected, uint64_t desired,
                                                                 uint32_t tries) {
-    int32_t code = expected ? elltree_enter(handle) : ELLTREE_NULL;
+    int32_t code = expected ? elltree_enter_change(handle, key) : ELLTREE_NULL;
     if (code != ELLTREE_YES)
         return code;
-    return elltree_leave(handle, elltree_slot_compare_exchange(&handle->slot, key, *expected, desired, tries, expected));
+    return elltree_leave_key(handle, key, elltree_slot_compare_exchange(&handle->slot, key, *expected, desired, tries, expected));
 }
 
 /* Removes a key if its value is the expected one, in one atomic step. Returns ELLTREE_YES if it has removed the key, ELLTREE_OTHER_VALUE if the key
@@ -229,10 +273,10 @@ ELLTREE_MUST_USE static inline int32_t elltree_compare_exchange(struct elltree_h
    value but the expected one is ever removed, whatever other threads store meanwhile. Tries and cards are those of elltree_put.
    Refusals: ELLTREE_NULL, ELLTREE_IN_CALL, ELLTREE_CLOSED, ELLTREE_NO_TRIES, ELLTREE_BAD_KEY, ELLTREE_BUSY, ELLTREE_SPENT. */
 ELLTREE_MUST_USE static inline int32_t elltree_remove_if(struct elltree_handle *handle, uint64_t key, uint64_t *expected, uint32_t tries) {
-    int32_t code = expected ? elltree_enter(handle) : ELLTREE_NULL;
+    int32_t code = expected ? elltree_enter_change(handle, key) : ELLTREE_NULL;
     if (code != ELLTREE_YES)
         return code;
-    return elltree_leave(handle, elltree_slot_remove_if(&handle->slot, key, *expected, tries, expected));
+    return elltree_leave_key(handle, key, elltree_slot_remove_if(&handle->slot, key, *expected, tries, expected));
 }
 
 /* Adds to the value of a key in one atomic step. Returns ELLTREE_YES and writes the value that the key had, or returns ELLTREE_NO if the key is
@@ -240,8 +284,8 @@ ELLTREE_MUST_USE static inline int32_t elltree_remove_if(struct elltree_handle *
    Refusals: ELLTREE_NULL, ELLTREE_IN_CALL, ELLTREE_CLOSED, ELLTREE_NO_TRIES, ELLTREE_BAD_KEY, ELLTREE_BUSY, ELLTREE_SPENT. */
 ELLTREE_MUST_USE static inline int32_t elltree_fetch_add(struct elltree_handle *handle, uint64_t key, uint64_t addend, uint32_t tries,
                                                          uint64_t *was) {
-    int32_t code = was ? elltree_enter(handle) : ELLTREE_NULL;
-    return code == ELLTREE_YES ? elltree_leave(handle, elltree_slot_fetch_add(&handle->slot, key, addend, tries, was)) : code;
+    int32_t code = was ? elltree_enter_change(handle, key) : ELLTREE_NULL;
+    return code == ELLTREE_YES ? elltree_leave_key(handle, key, elltree_slot_fetch_add(&handle->slot, key, addend, tries, was)) : code;
 }
 
 /* Writes the keys from one on and below another that are present, ascending, with their values, as many as the array has room for. Returns
@@ -256,7 +300,7 @@ ELLTREE_MUST_USE static inline int32_t elltree_range(struct elltree_handle *hand
     int32_t code = count && next && (out || !room) ? elltree_enter(handle) : ELLTREE_NULL;
     if (code != ELLTREE_YES)
         return code;
-    return elltree_leave(handle, elltree_slot_range(&handle->slot, from, upto, out ? out : &none, room, count, next));
+    return elltree_leave_keys(handle, elltree_slot_range(&handle->slot, from, upto, out ? out : &none, room, count, next));
 }
 
 /* Finds the least key from this one on that is present: returns ELLTREE_YES and writes the key and its value, and returns ELLTREE_NO if there is
@@ -264,7 +308,7 @@ ELLTREE_MUST_USE static inline int32_t elltree_range(struct elltree_handle *hand
    Refusals: ELLTREE_NULL, ELLTREE_IN_CALL, ELLTREE_CLOSED. */
 ELLTREE_MUST_USE static inline int32_t elltree_next_at_least(struct elltree_handle *handle, uint64_t key, uint64_t *found, uint64_t *value) {
     int32_t code = found && value ? elltree_enter(handle) : ELLTREE_NULL;
-    return code == ELLTREE_YES ? elltree_leave(handle, elltree_slot_next_at_least(&handle->slot, key, found, value)) : code;
+    return code == ELLTREE_YES ? elltree_leave_keys(handle, elltree_slot_next_at_least(&handle->slot, key, found, value)) : code;
 }
 
 /* Finds the greatest key up to this one that is present: returns ELLTREE_YES and writes the key and its value, and returns ELLTREE_NO if there is
@@ -272,7 +316,7 @@ ELLTREE_MUST_USE static inline int32_t elltree_next_at_least(struct elltree_hand
    Refusals: ELLTREE_NULL, ELLTREE_IN_CALL, ELLTREE_CLOSED. */
 ELLTREE_MUST_USE static inline int32_t elltree_last_at_most(struct elltree_handle *handle, uint64_t key, uint64_t *found, uint64_t *value) {
     int32_t code = found && value ? elltree_enter(handle) : ELLTREE_NULL;
-    return code == ELLTREE_YES ? elltree_leave(handle, elltree_slot_last_at_most(&handle->slot, key, found, value)) : code;
+    return code == ELLTREE_YES ? elltree_leave_keys(handle, elltree_slot_last_at_most(&handle->slot, key, found, value)) : code;
 }
 
 /* Writes how many cards of the handle's tree had not been given out at one moment of the call, 0 if all had been, and returns ELLTREE_YES. Calls on
