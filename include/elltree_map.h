@@ -98,7 +98,7 @@ enum {
 
     /* Only calls on handles (elltree.h) are refused so. */
     ELLTREE_BUSY = -1,             /* something was in the way of each try, or changed the value first: call again */
-    ELLTREE_SPENT = -2,            /* all cards of the tree are given out: calls that read still work */
+    ELLTREE_SPENT = -2,            /* no card is free for the change: calls that read still work */
     ELLTREE_NO_TRIES = -4,         /* tries is 0 */
     ELLTREE_BAD_CARDS = -5,        /* the number of cards is not 1 to ELLTREE_CARDS_MAX */
     ELLTREE_CLOSED = -10,          /* a handle holds nothing */

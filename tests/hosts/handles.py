@@ -99,7 +99,7 @@ class Handles(unittest.TestCase):
             spent.delete(1)
         self.assertIsInstance(raised.exception, elltree.Refused)
         for why, text in (
-            (raised.exception, "all cards are given out"),
+            (raised.exception, "no card is free for the change"),
             (elltree.Busy(), "something was in the way of each try"),
             (elltree.Refused(elltree.BAD_KEY), "a key is above 18446744073709551613"),
             (elltree.Refused(7), "no code of elltree"),

@@ -273,9 +273,9 @@ static void texts(void) {
         for (int32_t other = code + 1; other <= ELLTREE_OTHER_VALUE; other++)
             faults += is_code(code) && !strcmp(one, elltree_text(other, two, sizeof two));
     }
-    faults += strcmp(elltree_text(ELLTREE_SPENT, one, sizeof one), "all cards are given out") != 0;
-    faults += elltree_code_text(ELLTREE_SPENT, cut, 4) != strlen(one) || memcmp(cut, "all\0.", sizeof cut);
-    faults += *elltree_text(ELLTREE_SPENT, cut, 0) || *elltree_text(ELLTREE_SPENT, NULL, 4) || memcmp(cut, "all\0.", sizeof cut);
+    faults += strcmp(elltree_text(ELLTREE_SPENT, one, sizeof one), "no card is free for the change") != 0;
+    faults += elltree_code_text(ELLTREE_SPENT, cut, 4) != strlen(one) || memcmp(cut, "no \0.", sizeof cut);
+    faults += *elltree_text(ELLTREE_SPENT, cut, 0) || *elltree_text(ELLTREE_SPENT, NULL, 4) || memcmp(cut, "no \0.", sizeof cut);
 }
 
 int main(void) {

@@ -150,7 +150,7 @@ impl Refused {
 /// Writes the library's text of the code.
 ///
 /// ```
-/// assert_eq!(elltree::Refused::Spent.to_string(), "all cards are given out");
+/// assert_eq!(elltree::Refused::Spent.to_string(), "no card is free for the change");
 /// assert_eq!(elltree::Refused::Other(7).to_string(), "no code of elltree");
 /// ```
 impl fmt::Display for Refused {

@@ -17,7 +17,7 @@ said_other_value = pos 2
 abbrev pub said_busy : ℤ
 said_busy = negsuc 0
 
--- all cards are given out
+-- no card is free for the change
 abbrev pub said_spent : ℤ
 said_spent = negsuc 1
 

@@ -9,7 +9,7 @@ text_of code =
     if int_eq code said_yes then codes "yes" else
     if int_eq code said_other_value then codes "the key has another value" else
     if int_eq code said_busy then codes "something was in the way of each try" else
-    if int_eq code said_spent then codes "all cards are given out" else
+    if int_eq code said_spent then codes "no card is free for the change" else
     if int_eq code said_no_tries then codes "the call allows no try" else
     if int_eq code said_bad_cards then codes "cards are not 1 to 1,000,000" else
     if int_eq code said_bad_key then codes "a key is above 18446744073709551613" else

@@ -45,7 +45,7 @@ fn text_of(code: i32) -> &'static [u8]
         YES => b"yes",
         OTHER_VALUE => b"the key has another value",
         BUSY => b"something was in the way of each try",
-        SPENT => b"all cards are given out",
+        SPENT => b"no card is free for the change",
         NO_TRIES => b"the call allows no try",
         BAD_CARDS => b"cards are not 1 to 1,000,000",
         BAD_KEY => b"a key is above 18446744073709551613",
