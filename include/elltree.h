@@ -170,9 +170,12 @@ ELLTREE_MUST_USE static inline int32_t elltree_open(struct elltree_handle *handl
 /* Opens a tree as elltree_open does, whose cards come back: once what a change took out of the tree is read by no call any more, its card serves
    another change. For n keys at a time and h handles, ask for 2 n + 3 h + 5 cards, and some more for those that come free while the oldest call
    goes on, and shortly before it. A change that can take no card is refused with ELLTREE_SPENT, and may be made again. Two of the cards are for
-   deletes alone, so that a tree that inserts have filled can be emptied. A thread that stands still in a call holds cards back until it goes on,
-   and a handle in no call holds none. The tree has this number of handles at a time, its first one among them, at least one and at most
-   1,000,000, and one that is freed makes room for another. A card and a pair to start with take 104 bytes each, and a handle 64.
+   deletes alone, so that a tree that inserts have filled can be emptied: a delete there may be refused once, even if no other call is under
+   way, and is made by the next call. A thread that stands still in a call holds cards back until it goes on, and a handle in no call holds
+   none. The tree has this number of handles at a time, its first one among them, at least one and at most 1,000,000, and one that is freed
+   makes room for another. A card and a pair to start with take 104 bytes each, and a handle 64. Of 2^61 card numbers each change uses about 2^21
+   divided by the number of free cards, so a tree of 16 cards has enough for a month of 5 million changes a second. Then changes are refused
+   with ELLTREE_SPENT for good.
    Refusals: those of elltree_open. */
 ELLTREE_MUST_USE static inline int32_t elltree_open_reusing(struct elltree_handle *handle, const struct elltree_pair *start, size_t start_count,
                                                             uint64_t cards, uint32_t handles) {
@@ -224,7 +227,7 @@ ELLTREE_MUST_USE static inline int32_t elltree_look(struct elltree_handle *handl
 
 /* Adds a key that is absent: returns ELLTREE_YES if it has added the key, and ELLTREE_NO if the key was present, which then keeps its value. The
    call tries so many times, at least once. A try fails if something is in the way, as a change that another thread has begun and not ended; if
-   all tries fail, the call returns ELLTREE_BUSY. An insert takes a card, and elltree_cards_left tells you how many are left.
+   all tries fail, the call returns ELLTREE_BUSY. An insert takes a card, and where none comes back elltree_cards_left tells you how many are left.
    Refusals: ELLTREE_NULL, ELLTREE_IN_CALL, ELLTREE_CLOSED, ELLTREE_NO_TRIES, ELLTREE_BAD_KEY, ELLTREE_BUSY, ELLTREE_SPENT. */
 ELLTREE_MUST_USE static inline int32_t elltree_insert(struct elltree_handle *handle, uint64_t key, uint64_t value, uint32_t tries) {
     int32_t code = elltree_enter_change(handle, key);
@@ -320,7 +323,9 @@ ELLTREE_MUST_USE static inline int32_t elltree_last_at_most(struct elltree_handl
 }
 
 /* Writes how many cards of the handle's tree had not been given out at one moment of the call, 0 if all had been, and returns ELLTREE_YES. Calls on
-   other handles of the tree may take some meanwhile. The number never rises. The call takes one step and no card.
+   other handles of the tree may take some meanwhile. The number never rises. The call takes one step and no card. In a tree whose cards come
+   back it is no number of cards, but 2,305,843,009,213,693,951 less the card numbers that the tree has used: one for each pair to start with,
+   and some for each change.
    Refusals: ELLTREE_NULL, ELLTREE_IN_CALL, ELLTREE_CLOSED. */
 ELLTREE_MUST_USE static inline int32_t elltree_cards_left(struct elltree_handle *handle, uint64_t *left) {
     int32_t code = left ? elltree_enter(handle) : ELLTREE_NULL;

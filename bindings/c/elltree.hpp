@@ -148,7 +148,8 @@ public:
         return steps;
     }
 
-    /* Returns how many cards of the handle's tree are left, as it was at one moment of the call. */
+    /* Returns how many cards of the handle's tree are left, as it was at one moment of the call. In a tree whose cards come back it returns how many
+       card numbers are left, of 2,305,843,009,213,693,951. */
     uint64_t cards_left() {
         uint64_t left = 0;
         detail::is_yes(elltree_cards_left(&raw_, &left));

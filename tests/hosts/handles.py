@@ -63,7 +63,7 @@ class Handles(unittest.TestCase):
         self.assertEqual(text_of(self.handle.look, 1), HELD)
 
     def test_shows_what_it_has(self):
-        self.assertEqual(repr(self.handle), "<elltree.Handle: 9 cards left>")
+        self.assertEqual(repr(self.handle), "<elltree.Handle: cards_left=9>")
         self.handle.close()
         self.assertEqual(repr(self.handle), "<elltree.Handle: the handle holds nothing>")
 

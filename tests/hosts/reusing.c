@@ -1,9 +1,10 @@
 /* Trees whose cards come back. One handle changes keys long after each card was taken, and is answered as a map, and never refused, also where a tree
    of few slots has given out numbers of cards above 2^41, of which words of children have not all bits. Deletes can empty a tree that inserts have
-   filled. Four threads change keys of their own, and add to one that all share, which loses nothing; a call is made again where each card was in use. A
-   thread is stopped in the middle of changes, by a signal whose handler waits: meanwhile calls that read are answered, and changes until the cards run
-   out, and once it goes on so are all. A handle that has looked, and rests, holds no card back. And a tree has as many handles as were asked for, and
-   no more at a time: one that is freed makes room for another, also where threads make a handle for a few changes and free it. */
+   filled, and where no other call is under way each of them is refused once at most. Four threads change keys of their own, and add to one that all
+   share, which loses nothing; a call is made again where each card was in use. A thread is stopped in the middle of changes, by a signal whose
+   handler waits: meanwhile calls that read are answered, and changes until the cards run out, and once it goes on so are all. A handle that has
+   looked, and rests, holds no card back. And a tree has as many handles as were asked for, and no more at a time: one that is freed makes room for
+   another, also where threads make a handle for a few changes and free it. */
 #include "elltree.h"
 #include <pthread.h>
 #include <sched.h>
@@ -85,11 +86,52 @@ static long filled_and_emptied(uint64_t cards, uint64_t kept) {
     return wrong + (elltree_free(&one) != ELLTREE_YES);
 }
 
+/* Takes all keys, the least one first, by one handle and then the other. Where no other call is under way, each take is refused once at most. */
+static long empty(struct elltree_handle *one, struct elltree_handle *other) {
+    uint64_t key, value;
+    long wrong = 0;
+    while (elltree_next_at_least(one, 0, &key, &value) == ELLTREE_YES && !wrong) {
+        struct elltree_handle *it = key % 2 ? one : other;
+        int32_t said = elltree_take(it, key, TRIES, &value);
+        if (said == ELLTREE_SPENT)
+            said = elltree_take(it, key, TRIES, &value);
+        wrong += said != ELLTREE_YES;
+    }
+    return wrong;
+}
+
+/* Makes a change of a key, by one call or another. */
+static int32_t change(struct elltree_handle *it, uint64_t key, uint64_t value, uint64_t kind) {
+    uint64_t told;
+    if (kind % 4 == 0)
+        return elltree_insert(it, key, value, TRIES);
+    return kind % 4 == 1 ? elltree_put(it, key, value, TRIES, &told) : elltree_take(it, key, TRIES, &told);
+}
+
+/* A tree of any size, with start keys, can be emptied after any changes by two handles, behind which inserts fill it. */
+static long changed_and_emptied(uint64_t cards, uint64_t start_keys, uint64_t *seed) {
+    const struct elltree_pair start[3] = {{0, 0}, {3, 1}, {6, 2}};
+    struct elltree_handle one = ELLTREE_EMPTY, other = ELLTREE_EMPTY;
+    const uint64_t changes = next(seed) % (6 * cards + 1), keys = 2 * cards + 2;
+    long wrong = elltree_open_reusing(&one, start, start_keys, cards, 2) != ELLTREE_YES || elltree_another(&one, &other) != ELLTREE_YES;
+    for (uint64_t i = 0; i < changes + 3 * keys; i++) {
+        const uint64_t random = next(seed);
+        struct elltree_handle *it = random & 4 ? &one : &other;
+        const int32_t said = i < changes ? change(it, (random >> 20) % keys, i, random) : elltree_insert(it, i, i, TRIES);
+        wrong += said < 0 && said != ELLTREE_SPENT;
+    }
+    wrong += empty(&one, &other);
+    return wrong + (elltree_free(&one) != ELLTREE_YES) + (elltree_free(&other) != ELLTREE_YES);
+}
+
 static long all_filled_and_emptied(void) {
+    uint64_t seed = 88172645463325252u;
     long wrong = 0;
     for (uint64_t cards = 8; cards < 80; cards++)
         for (uint64_t kept = 0; kept < 3; kept++)
             wrong += filled_and_emptied(cards, kept);
+    for (uint64_t i = 0; i < 20000; i++)
+        wrong += changed_and_emptied(1 + i % 40, i / 40 % 4, &seed);
     return wrong;
 }
 

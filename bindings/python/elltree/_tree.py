@@ -77,7 +77,7 @@ class Handle(Ordered):
 
     def __repr__(self) -> str:
         try:
-            return f"<elltree.Handle: {self.cards_left()} cards left>"
+            return f"<elltree.Handle: cards_left={self.cards_left()}>"
         except Refused as why:
             return f"<elltree.Handle: {why}>"
 
@@ -123,7 +123,8 @@ class Handle(Ordered):
 
     def cards_left(self) -> int:
         """Returns how many cards of the tree are left, as it was at one moment of the call. Other handles may take some meanwhile, and the number
-        never rises."""
+        never rises. In a tree whose cards come back it is no number of cards, but tells how many card numbers are left, of 2305843009213693951. Each
+        change uses some."""
         return self._core.cards_left()
 
     def steps(self) -> int:

@@ -189,6 +189,9 @@ impl Handle {
     /// Returns how many cards of the tree had not been given out at one moment of the call. Other handles may take some meanwhile. The call takes one
     /// step and no card.
     ///
+    /// In a tree whose cards come back, it returns no number of cards, but how many card numbers are left, of 2,305,843,009,213,693,951. Each change
+    /// uses some.
+    ///
     /// # Examples
     ///
     /// ```
@@ -363,7 +366,7 @@ impl Drop for Handle {
     }
 }
 
-/// Shows how many cards of the tree are left, and the handle's steps, to which this adds one.
+/// Shows what [`Handle::cards_left`] returns, and the handle's steps, to which this adds one.
 ///
 /// ```
 /// let handle = elltree::Tree::open(&[(2, 20)], 10)?.handle()?;
