@@ -58,14 +58,17 @@ static bool are_alike(struct state one, struct state other) {
 }
 
 /* Carries a key over to the heirs: stores there what the section is taken to have of it, until the section has that after it was stored. So whoever
-   stores last has stored what the section has since then. If the heir has no card free, the heirs have failed. */
+   stores last has stored what the section has since then. If the heir has no card free, the heirs have failed, and are taken back, so nothing is
+   stored in them any more: a search for a free card takes long where there is none. */
 static void carry_over(struct heirs *heirs, struct seat *from, struct seat *into, uint64_t key, struct state state) {
     struct state stored;
     seen(&heirs->failed);
+    if (atomic_load(&heirs->failed))
+        return;
     do {
         stored = state;
         if (state.there < 0 || store(into, key, state.there, state.value) < 0) {
-            atomic_store(&heirs->failed, true);
+            atomic_store(&heirs->failed, heir_of(heirs, key));
             return;
         }
         state.there = elltree_slot_find(&from->slot, key, &state.value);
@@ -101,17 +104,17 @@ static int32_t note_differences(struct renewal *renewal) {
     return ELLTREE_YES;
 }
 
-/* Stores the differences in the heirs, each half of them before those between, so that keys in order make no list. */
+/* Stores the differences in the heirs, each half of them before those between, so that keys in order make no list, or until the heirs have failed. */
 static void store_differences(const struct barrier *barrier, struct renewal *renewal) {
     const size_t count = renewal->difference_count;
     size_t step = 1;
     while (step <= count / 2)
         step *= 2;
     for (; step; step /= 2)
-        for (size_t i = step; i <= count; i += 2 * step) {
+        for (size_t i = step; i <= count && !atomic_load(&renewal->heirs->failed); i += 2 * step) {
             const struct difference *it = &renewal->differences[i - 1];
             if (store(seat_into(barrier, renewal, it->key), it->key, it->state.there, it->state.value) < 0)
-                atomic_store(&renewal->heirs->failed, true);
+                atomic_store(&renewal->heirs->failed, heir_of(renewal->heirs, it->key));
         }
 }
 

@@ -13,6 +13,7 @@ enum {
     USES_OF_A_CARD = 32,   /* after so many changes for each card it gets more too, in a map that has few */
     CARDS_HELD = 1 << 18,  /* up to so many in all where more calls are under way than there are processors, so that many are held back */
     CARDS_CARRIED = 4096,  /* so many more get heirs to which keys come in order, for those that come while they are made */
+    RAISES_MOST = 16,      /* so often an heir is made again with twice as many */
     PATIENCE = 1000000,    /* so long such a call waits for those under way, in nanoseconds, before it sees what kind they are */
     ENDURANCE = 500000000, /* so long it waits for a renewal where cards may come back meanwhile */
     PAIRS_AT_ONCE = 4096,  /* for which an array of pairs has room at first */
@@ -69,6 +70,11 @@ enum stage {
     IS_DONE
 };
 
+/* How often heirs of a renewal had too few cards: the first or the last one of several, or another one. */
+struct failures {
+    uint32_t first, last, others;
+};
+
 /* A renewal under way. Where it would have to wait, it may be left, and another thread goes on with it. */
 struct renewal {
     struct renewal *next;        /* of those that were left */
@@ -83,9 +89,9 @@ struct renewal {
     struct pairs there, copied;  /* what was read last of the sections, and of their heirs */
     struct difference *differences;
     size_t difference_count;
-    uint64_t effort; /* what it has taken so far, in nanoseconds of a processor */
-    uint64_t pause;  /* for how long it closes the barrier next */
-    uint64_t failed; /* how many cards each heir had when they failed, or 0 */
+    uint64_t effort;          /* what it has taken so far, in nanoseconds of a processor */
+    uint64_t pause;           /* for how long it closes the barrier next */
+    struct failures failures; /* of the heirs so far */
 };
 
 #endif

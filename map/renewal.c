@@ -108,7 +108,6 @@ static int32_t begin(struct elltree_map *map, struct renewal *renewal) {
     if (code != ELLTREE_YES)
         return code;
     cards = cards_of_heirs(map, renewal, number_of_parts(&map->barrier, renewal->there.count));
-    renewal->failed = cards.each; /* if they do */
     code = make_heirs(&map->barrier, &renewal->heirs, renewal->sections[0]->first, renewal->sections[renewal->count - 1]->upto, renewal->there.items,
                       renewal->there.count, cards);
     if (code != ELLTREE_YES)
@@ -121,9 +120,12 @@ static int32_t begin(struct elltree_map *map, struct renewal *renewal) {
     return code;
 }
 
-/* Step 4: from here on the heirs have what the sections have, but for keys that calls are carrying over. */
+/* Step 4: from here on the heirs have what the sections have, but for keys that calls are carrying over. ELLTREE_BUSY if the heirs have failed before. */
 static int32_t compare(struct elltree_map *map, struct renewal *renewal) {
-    int32_t code = read_pairs(&map->barrier, &renewal->there, renewal->sections, renewal->count);
+    int32_t code;
+    if (atomic_load(&renewal->heirs->failed))
+        return ELLTREE_BUSY;
+    code = read_pairs(&map->barrier, &renewal->there, renewal->sections, renewal->count);
     if (code == ELLTREE_YES)
         code = read_pairs(&map->barrier, &renewal->copied, renewal->heirs->sections, renewal->heirs->count);
     if (code == ELLTREE_YES)
@@ -240,7 +242,17 @@ static void begin_to_take_back(struct renewal *renewal, int32_t code) {
     renewal->wait = (struct wait){0, 0};
 }
 
-/* There were too few cards for what calls have changed meanwhile, and the next heirs get more. */
+/* Counts that one of these heirs had too few cards for what calls have changed meanwhile, if it had. */
+static void note_failure(struct failures *failures, const struct heirs *heirs) {
+    const struct section *failed = atomic_load(&heirs->failed);
+    const bool is_first = heirs->count > 1 && failed == heirs->sections[0];
+    const bool is_last = heirs->count > 1 && failed == heirs->sections[heirs->count - 1];
+    failures->first += is_first;
+    failures->last += is_last;
+    failures->others += failed && !is_first && !is_last;
+}
+
+/* The next heirs are made of what the sections have then, and get more cards where those before had too few. */
 static void begin_anew(struct renewal *renewal) {
     renewal->code = ELLTREE_YES;
     renewal->stage = BEGINS;
@@ -306,6 +318,7 @@ static bool make_steps(struct elltree_map *map, struct renewal *renewal, uint64_
     default:
         if (!await_changes(map, renewal))
             return false;
+        note_failure(&renewal->failures, renewal->heirs);
         free_heirs(&map->barrier, renewal->heirs);
         renewal->heirs = NULL;
         if (renewal->code == ELLTREE_BUSY)

@@ -105,7 +105,7 @@ static int32_t make_heirs(const struct barrier *barrier, struct heirs **made, ui
     int32_t code = heirs ? ELLTREE_YES : ELLTREE_NO_MEMORY;
     if (!heirs)
         return code;
-    atomic_init(&heirs->failed, false);
+    atomic_init(&heirs->failed, NULL);
     for (heirs->count = 0; code == ELLTREE_YES && heirs->count < parts; heirs->count += code == ELLTREE_YES) {
         const size_t from = count * heirs->count / parts, end = count * (heirs->count + UINT64_C(1)) / parts;
         const uint64_t least = heirs->count ? pairs[from].key : first, behind = end < count ? pairs[end].key : upto;

@@ -37,7 +37,7 @@ struct section {
 
 /* The sections that are to replace one, or two. */
 struct heirs {
-    _Atomic bool failed; /* a key could not be carried over to them */
+    _Atomic(struct section *) failed; /* the one that a key could not be carried over to, as it had too few cards, or null */
     uint32_t count;
     struct section *sections[];
 };
