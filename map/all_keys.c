@@ -68,8 +68,8 @@ int32_t elltree_map_pairs(struct elltree_map *map, struct elltree_pair *out, siz
 /* Renews the section of this key, or waits until another thread has, and tells where the next section begins. */
 static int32_t renew_at(struct elltree_map *map, uint64_t key, uint64_t *upto) {
     struct place *place = take_place(&map->barrier, READS);
+    const uint32_t ended = atomic_load(&map->ended); /* before the directory, as this place doesn't keep the section from being replaced */
     struct section *section = section_of(directory_of(map), key);
-    const uint32_t ended = atomic_load(&map->ended);
     const bool taken = take_renewal(section);
     *upto = section->upto;
     give_back(place);
