@@ -17,8 +17,9 @@
    A map consists of sections, and each of them has a tree for a range of keys. Each change takes one of the cards of a tree, and a card comes
    back when no call reads any more what the change took out. A section is renewed when it has many keys or few: a call that changes a key makes
    new trees with the same pairs, while other calls go on, and so parts the section, joins it with a neighbor, or gives it more cards or fewer.
-   That call takes about a millisecond longer. A map whose keys stay about as many needs hardly any renewal. Whatever the order in which keys
-   come, no tree grows deep.
+   That call takes about a millisecond longer, and may take seconds if more threads can run than there are processors. A map whose keys stay the
+   same needs hardly any renewal, and a queue, whose keys move, needs many. Whatever the order in which keys come, no tree grows deep. But keys
+   that are added in order, pops, and going back by elltree_map_last_before take several times as long as with a locked tree.
 
    The calls on the trees are proved, and none of them waits for another thread. The map around the trees is tested and not proved, and some of
    its calls wait:
@@ -26,8 +27,11 @@
    - At the end of a renewal all calls that change keys pause, until those of them that are under way have ended. If one of these takes long,
      since its thread is stopped, the pause is broken off, and a later call goes on with the renewal. A thread that is stopped while it ends a
      renewal holds up all calls that change keys.
-   - A thread that is stopped in a call holds back the cards of one section. Other calls use up those that are left, and then a call that needs
-     one waits: if the thread is stopped in a change, until it goes on; if it only reads, until the section is renewed.
+   - A thread that is stopped while it changes a key holds back the cards of one section, and no renewal ends. Other calls use up the cards that
+     are left there, and new keys those of any section, and then a call that needs one waits until the thread goes on.
+   - A thread that is stopped while it reads, as in elltree_map_range, holds back the cards of one section until that is renewed, and what is
+     replaced meanwhile is not freed. Once that is more than a million cards, and more than the map has, calls that change keys may wait until the
+     thread goes on.
    - elltree_map_renew and elltree_map_pairs wait for the calls under way that change keys.
    - Any other call that only reads renews nothing, does not pause, asks for no memory, and waits for no other thread, except when more
      threads are inside calls than the settings allow.
@@ -151,7 +155,8 @@ struct elltree_map_counters {
     uint64_t longest_nanoseconds; /* the longest of these pauses */
 };
 
-/* Makes an empty map and writes it to *map. The map begins with 128 cards, and gets more as its keys become more.
+/* Makes an empty map and writes it to *map. The map begins with 128 cards, and gets more as its keys become more. It takes 70 kilobytes, and more
+   where more calls may be under way: with the usual settings 200 on a machine of 32 processors, and 1,500 on one of 256.
    Refusals: ELLTREE_NULL, ELLTREE_NO_MEMORY. */
 ELLTREE_MUST_USE int32_t elltree_map_new(struct elltree_map **map);
 
@@ -280,7 +285,9 @@ ELLTREE_MUST_USE int32_t elltree_map_extend(struct elltree_map *map, const struc
 ELLTREE_MUST_USE int32_t elltree_map_pairs(struct elltree_map *map, struct elltree_pair *out, size_t room, size_t *count);
 
 /* Renews all sections now, one after the other, and returns ELLTREE_YES. A section that has more cards than its keys need, as it had more keys once
-   or threads stood still in calls on it, gives cards back. If the call is refused, the sections of the least keys may have been renewed.
+   or threads stood still in calls on it, gives cards back: a small map keeps what a crowd of threads needed until then. A section that has fewer
+   than 2.5 for each key gets more, so that a map that was only filled takes more memory afterwards. If the call is refused, the sections of the
+   least keys may have been renewed.
    Refusals: ELLTREE_NULL, ELLTREE_NO_MEMORY, ELLTREE_FORKED. */
 ELLTREE_MUST_USE int32_t elltree_map_renew(struct elltree_map *map);
 

@@ -340,7 +340,8 @@ public:
         return out;
     }
 
-    /* Renews all sections now, one after the other: those that have more cards than their keys need give cards back. */
+    /* Renews all sections now, one after the other: those that have more cards than their keys need give cards back, and those that have few, as they
+       were only filled, get more. */
     void renew() { check(elltree_map_renew(map_)); }
 
     /* Returns what has happened to the map so far. */

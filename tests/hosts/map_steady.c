@@ -1,5 +1,5 @@
-/* A map whose keys stay about as many is renewed hardly ever, however many changes there are, and takes no more memory but for a few megabytes: its
-   trees take their cards back. One thread makes millions of changes at random and knows each answer, and then four do so, each with keys of its
+/* A map whose keys come and go in one range is renewed hardly ever, however many changes there are, and takes no more memory but for a few megabytes:
+   its trees take their cards back. One thread makes millions of changes at random and knows each answer, and then four do so, each with keys of its
    own, and then 64, for which the map may have more cards until it is renewed. Then the memory of a map of many keys that came in random order,
    when each of them has been changed many times; and how often a map is renewed while it is filled, in order or not. */
 #include "elltree_map.h"

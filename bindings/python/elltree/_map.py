@@ -61,8 +61,8 @@ class Map(Ordered, collections.abc.MutableMapping[int, int]):
 
     Any thread may make any call at any time. The calls that find or change a key answer as if they had been made one after the other. An iteration is
     not a snapshot, while pairs is: each key is shown as it was at some moment after the iteration began, and changes meanwhile are no error. The map
-    renews its trees by itself, while other calls go on; counts tells how long they had to wait. docs/BARRIER.md describes this part, which is tested
-    and not proved.
+    renews its trees by itself, while other calls go on; counts tells how long they had to wait. This part is tested and not proved. A call that
+    changes a key may wait for a thread that is stopped inside a call. Going back, by reversed, makes a search for each key.
 
     What a dict has answers as a dict does: to `in`, get, [], pop and del a key is absent that no map has, such as "1", None, -1 or 2**64, and 1.0 is
     the key 1. Calls that store a value take ints of 64 bits and what stands for one, as do the calls that no dict has: anything else raises
@@ -287,7 +287,8 @@ class Map(Ordered, collections.abc.MutableMapping[int, int]):
         return self._core.pairs()
 
     def renew(self) -> None:
-        """Renews all sections now, one after the other: those that have more cards than their keys need give cards back."""
+        """Renews all sections now, one after the other: those that have more cards than their keys need give cards back, and those that have few, as
+        they were only filled, get more."""
         self._core.renew()
 
     def counts(self) -> dict[str, int]:

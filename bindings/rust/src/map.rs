@@ -59,9 +59,14 @@ pub struct MapCounts {
 ///
 /// The map consists of sections, each with a tree for its range of keys. Each change takes one of the *cards* of a tree, and cards come back. Where
 /// a section has many keys or few, or no card is free, a change *renews* it: it makes new trees with the same pairs, while other calls go on, and
-/// takes about a millisecond longer. At the end of a renewal all changes pause, until those of them that are under way have ended, and
-/// [`Map::counts`] returns how long. A call that only reads does not pause, and waits for no other thread, unless more calls are under way than [`MapSettings::calls`] allows. `docs/BARRIER.md` describes how
-/// calls and renewals keep out of each other's way. That part is tested and not proved; the trees below it are proved.
+/// takes about a millisecond longer, or seconds if more threads can run than there are processors. At the end of a renewal all changes pause, until
+/// those of them that are under way have ended, and [`Map::counts`] returns how long. A change may wait for a thread that is stopped inside a call:
+/// for one that changes a key, and for one that only reads once a million replaced cards wait for that. A call that only reads does not pause, and
+/// waits for no other thread, unless more calls are under way than [`MapSettings::calls`] allows. How calls and renewals keep out of each other's
+/// way is tested and not proved; the trees below it are proved.
+///
+/// Keys that are added in order and pops take several times as long as in a locked `BTreeMap`, and so does a range from its back, which makes a
+/// search for each key.
 ///
 /// A key above [`KEY_MAX`] is absent to calls that read, and [`MapError::BadKey`] to calls that change keys. [`TypedMap`](crate::TypedMap) has keys
 /// and values of other types, and [`boxed_values`](crate::boxed_values) shows how a map has values of any type.
@@ -650,7 +655,8 @@ impl Map {
         }
     }
 
-    /// Renews all sections now, one after the other: those that have more cards than their keys need give cards back.
+    /// Renews all sections now, one after the other: those that have more cards than their keys need give cards back, and those that have few, as
+    /// they were only filled, get more.
     ///
     /// # Errors
     ///
