@@ -17,9 +17,9 @@
    A map consists of sections, and each of them has a tree for a range of keys. Each change takes one of the cards of a tree, and a card comes
    back when no call reads any more what the change took out. A section is renewed when it has many keys or few: a call that changes a key makes
    new trees with the same pairs, while other calls go on, and so parts the section, joins it with a neighbor, or gives it more cards or fewer.
-   That call takes about a millisecond longer, and may take seconds if more threads can run than there are processors. A map whose keys stay the
-   same needs hardly any renewal, and a queue, whose keys move, needs many. Whatever the order in which keys come, no tree grows deep. But keys
-   that are added in order, pops, and going back by elltree_map_last_before take several times as long as with a locked tree.
+   That call takes about a millisecond longer, and may take seconds if more threads can run than there are processors. A map whose keys stay
+   about as many in each range needs hardly any renewal, and a queue, whose keys move, needs many. Whatever the order in which keys come, no tree
+   grows deep. But keys that are added in order, pops, and going back by elltree_map_last_before take several times as long as with a locked tree.
 
    The calls on the trees are proved, and none of them waits for another thread. The map around the trees is tested and not proved, and some of
    its calls wait:
@@ -27,8 +27,8 @@
    - At the end of a renewal all calls that change keys pause, until those of them that are under way have ended. If one of these takes long,
      since its thread is stopped, the pause is broken off, and a later call goes on with the renewal. A thread that is stopped while it ends a
      renewal holds up all calls that change keys.
-   - A thread that is stopped while it changes a key holds back the cards of one section, and no renewal ends. Other calls use up the cards that
-     are left there, and new keys those of any section, and then a call that needs one waits until the thread goes on.
+   - A thread that is stopped while it changes a key holds back the cards of one section, and meanwhile no renewal ends. Other calls use up the
+     cards that are left there, and new keys those of any section, and then a call that needs one waits until the thread goes on.
    - A thread that is stopped while it reads, as in elltree_map_range, holds back the cards of one section until that is renewed, and what is
      replaced meanwhile is not freed. Once that is more than a million cards, and more than the map has, calls that change keys may wait until the
      thread goes on.
