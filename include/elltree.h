@@ -15,12 +15,13 @@
 
    elltree_open makes a tree and its first handle, and elltree_another a further handle of the tree, one for each thread. Any handle finds and
    changes any key. All finds and changes of a tree together answer as if they were made one after the other, each at one moment between its
-   begin and its end. A change takes one of the cards of the tree, a change that another thread hinders may take some more, and no card is
-   given back: when all are given out, changes are refused with ELLTREE_SPENT. In a tree that elltree_open_reusing makes, cards come back
-   while it is open. No call on a handle waits for another thread: each of them ends
-   after a bounded number of steps of its own. This is proved of the functions of the library, whose names begin with elltree_slot. The calls
-   add the checks of this header, which are tested. What a thread did before it stored a value happened before what another thread does after
-   it has read that value. In a program with the thread sanitizer, the calls tell it so.
+   begin and its end. A change takes one of the cards of the tree, a change that another thread hinders may take some more, and no card is given
+   back: when all are given out, changes are refused with ELLTREE_SPENT. In a tree that elltree_open_reusing makes, cards come back while it is
+   open. No call on a handle waits for another thread: each of them ends after a bounded number of steps of its own. This is proved of the
+   functions of the library, whose names begin with elltree_slot, within two limits: the one order of finds and changes is a law of all that is
+   done with a tree, and in no contract of a function; and in a tree whose cards come back, no contract counts the steps that keep account of
+   which cards are free. The calls add the checks of this header, which are tested. What a thread did before it stored a value happened before
+   what another thread does after it has read that value. In a program with the thread sanitizer, the calls tell it so.
 
    A handle begins as all zeros and then holds nothing: struct elltree_handle h = ELLTREE_EMPTY. Calls on different handles may run at the
    same time. A handle is in one call at a time, and may go from one thread to another. Each call writes to its handle, so handles that
@@ -173,9 +174,9 @@ ELLTREE_MUST_USE static inline int32_t elltree_open(struct elltree_handle *handl
    deletes alone, so that a tree that inserts have filled can be emptied: a delete there may be refused once, even if no other call is under
    way, and is made by the next call. A thread that stands still in a call holds cards back until it goes on, and a handle in no call holds
    none. The tree has this number of handles at a time, its first one among them, at least one and at most 1,000,000, and one that is freed
-   makes room for another. A card and a pair to start with take 104 bytes each, and a handle 64. Of 2^61 card numbers each change uses about 2^21
-   divided by the number of free cards, so a tree of 16 cards has enough for a month of 5 million changes a second. Then changes are refused
-   with ELLTREE_SPENT for good.
+   makes room for another. That cards and room come back is tested; that no card comes back too early is proved. A card and a pair to start
+   with take 104 bytes each, and a handle 64. Of 2^61 card numbers each change uses about 2^21 divided by the number of free cards, so a tree
+   of 16 cards has enough for a month of 5 million changes a second. Then changes are refused with ELLTREE_SPENT for good.
    Refusals: those of elltree_open. */
 ELLTREE_MUST_USE static inline int32_t elltree_open_reusing(struct elltree_handle *handle, const struct elltree_pair *start, size_t start_count,
                                                             uint64_t cards, uint32_t handles) {
@@ -332,7 +333,8 @@ ELLTREE_MUST_USE static inline int32_t elltree_cards_left(struct elltree_handle 
     return code == ELLTREE_YES ? elltree_leave(handle, elltree_slot_cards_left(&handle->slot, left)) : code;
 }
 
-/* Writes how many atomic steps were made through the handle, and returns ELLTREE_YES.
+/* Writes how many atomic steps were made through the handle, and returns ELLTREE_YES. In a tree whose cards come back, the steps that
+   keep account of which cards are free are not counted.
    Refusals: ELLTREE_NULL, ELLTREE_IN_CALL, ELLTREE_CLOSED. */
 ELLTREE_MUST_USE static inline int32_t elltree_steps(struct elltree_handle *handle, uint64_t *steps) {
     int32_t code = steps ? elltree_enter(handle) : ELLTREE_NULL;

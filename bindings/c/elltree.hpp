@@ -141,7 +141,7 @@ public:
     std::optional<elltree_pair> next_at_least(uint64_t key) { return found(elltree_next_at_least, key); }
     std::optional<elltree_pair> last_at_most(uint64_t key) { return found(elltree_last_at_most, key); }
 
-    /* Returns how many atomic steps were made through the handle. */
+    /* Returns how many atomic steps were made through the handle, as elltree_steps counts them. */
     uint64_t steps() {
         uint64_t steps = 0;
         detail::is_yes(elltree_steps(&raw_, &steps));

@@ -128,7 +128,8 @@ class Handle(Ordered):
         return self._core.cards_left()
 
     def steps(self) -> int:
-        """Returns how many atomic steps were made through the handle."""
+        """Returns how many atomic steps were made through the handle. In a tree whose cards come back, the steps that keep account of
+        which cards are free are not counted."""
         return self._core.steps()
 
     def close(self) -> None:

@@ -206,6 +206,7 @@ impl Handle {
     }
 
     /// Returns how many atomic steps were made through the handle. A new handle begins with one for each handle that its tree has made.
+    /// In a tree whose cards come back, the steps that keep account of which cards are free are not counted.
     ///
     /// # Examples
     ///
