@@ -66,6 +66,9 @@ pub mod Called
 -- what passes were answered, as of one thread, and the history of a tree
 pub use Rattle.ell_cards.specs.Accounts
 pub use Rattle.ell_cards.specs.Stories
+pub use Rattle.ell_cards.specs.Linearizing
+pub use Rattle.ell_cards.specs.Histories
+pub use Rattle.ell_cards.specs.declared.view.View
 pub use Rattle.ell_cards.specs.Stepping
 pub use Rattle.ell_cards.specs.declared.view.Deed
 -- which keys are shared, as a pass knows

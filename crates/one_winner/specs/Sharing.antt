@@ -1,15 +1,14 @@
-use Rattle.std.specs.Prelude.{◌≡◌, true, None, List, []}
+use Rattle.std.specs.Prelude.{◌≡◌, true, List, []}
 use Rattle.ell_tree.specs.Contents.{Contents, nothing}
 use Rattle.ell_tree.specs.Deed.{Deed}
 use Rattle.ell_tree.specs.Accounts.{AreOfOneThread}
 use Rattle.ell_tree.specs.Ledgers.{TreeModel}
 
--- each key of a tree is shared, it starts empty, and each of its cards has words of its own
+-- each key of a tree is shared, and it starts empty
 pub record SharesEachKey (t : TreeModel) : Type 0 where
   pub keys : t.plan.keys ≡ []
   pub start : t.plan.start ≡ []
   pub shared : t.plan.shared ≡ true
-  pub plain : t.plan.slots ≡ None
 
 -- these calls were answered as one thread is answered that makes them in some order, beginning with an empty map
 pub record AreFromNothing (deeds : List Deed) : Type 0 where

@@ -1,5 +1,6 @@
 //! Pairs of threads insert the same key, round after round: in each round exactly one is told that it added the key,
-//! and its value is found afterwards. And what one thread inserted, another finds as soon as it is told of it.
+//! and its value is found afterwards. And what one thread inserted, another finds as soon as it is told of it. Every other
+//! round is on a tree whose cards come back.
 #![tactic(auto)]
 
 mod fault;
@@ -10,6 +11,7 @@ mod telling;
 use anyhow::Result;
 use ell_tree::KEY_MAX;
 use racing::insert_by_two;
+use sharing::Kind;
 use telling::insert_and_tell;
 
 const ROUNDS: u64 = 1_000;
@@ -35,12 +37,17 @@ fn main(rt: HostRuntime) -> Result<()> {
     for round in 0..ROUNDS {
         let key = KEY_MAX - round;
         let (first, second) = (2 * round, 2 * round + 1);
-        let race = insert_by_two(&rt, rt.alloc(), key, first, second)?;
+        let kind = if round % 2 == 0 {
+            Kind::Plain
+        } else {
+            Kind::Reusing
+        };
+        let race = insert_by_two(&rt, rt.alloc(), kind, key, first, second)?;
         let winner = if race.first_added { first } else { second };
         tally.one_winner += u64::from(race.first_added != race.second_added);
         tally.winner_found += u64::from(race.there == Some(winner));
         tally.first_won += u64::from(race.first_added);
-        let told = insert_and_tell(&rt, rt.alloc(), key, first)?;
+        let told = insert_and_tell(&rt, rt.alloc(), kind, key, first)?;
         tally.told_found += u64::from(told.late == Some(first));
         tally.found_early += u64::from(told.early.is_some());
     }

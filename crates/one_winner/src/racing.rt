@@ -6,7 +6,7 @@ ghost use Rattle.ell_tree.specs.Ends.{Answers};
 ghost use Rattle.ell_tree.specs.Promises.{MayDo};
 
 use crate::fault::RaceFault;
-use crate::sharing::{CARDS, close, find, insert};
+use crate::sharing::{Kind, conclude, find, insert, open};
 use ell_tree::{Pass, Tree};
 use std::alloc::Global;
 use std::thread::{Threads, join};
@@ -22,11 +22,12 @@ pub struct Race {
     pub there: Option<u64>,
 }
 
-/// Two threads insert a key into an empty tree that they share, each with a value of its own. Returns what each was
+/// Two threads insert a key into an empty tree of a kind that they share, each with a value of its own. Returns what each was
 /// told, and the value that the pass finds which both passes were joined to. Condition: the key is at most `KEY_MAX`.
 pub fn insert_by_two<R: Threads>(
     rt: &R,
     alloc: Global,
+    kind: Kind,
     key: u64,
     first: u64,
     second: u64,
@@ -37,7 +38,7 @@ pub fn insert_by_two<R: Threads>(
     // The value of that one is found afterwards.
     ensures there { IfOk result (λ race. race.there ≡ Some (if race.first_added then first else second)) }
 {
-    let (map, pass) = Tree::reserve_shared(alloc, &[], &[], CARDS)?;
+    let (map, pass) = open(alloc, kind)?;
     let (left, right) = match map.split(pass, &[]) {
         Ok(parts) => parts,
         Err((_pass, fault)) => return Err(RaceFault::Split(fault)),
@@ -61,7 +62,7 @@ pub fn insert_by_two<R: Threads>(
         Err((_left, _right, fault)) => return Err(RaceFault::Memory(fault)),
     };
     let (both, there) = find(&map, both, key);
-    close(map, both)?;
+    conclude(&map, both);
     Ok(Race {
         first_added,
         second_added,

@@ -1,10 +1,11 @@
 //! A tree that starts empty and shares each key, and what one thread does with it.
-ghost use Rattle.std.specs.Prelude.{◌≡◌, IfOk, OnOk};
+ghost use Rattle.std.specs.Prelude.{◌≡◌, [], IfOk};
 ghost use Rattle.ell_tree.specs.Op.TheVariants.{Find, Insert};
 ghost use Rattle.ell_tree.specs.Meaning.{found, yes_if};
 ghost use Rattle.ell_tree.specs.Models.{whole_share};
 ghost use Rattle.ell_tree.specs.Ends.{Answers};
 ghost use Rattle.ell_tree.specs.Ledgers.{IsIdlePassOf};
+ghost use Rattle.ell_tree.specs.PassParts.{IsFirst};
 ghost use Rattle.ell_tree.specs.Promises.{MayDo};
 ghost use Rattle.one_winner.specs.Sharing.{AreFromNothing, SharesEachKey};
 
@@ -12,11 +13,37 @@ use crate::fault::RaceFault;
 use ell_tree::{NoGate, Pass, Tree};
 use std::alloc::Global;
 
-/// How many cards a tree is asked for.
-pub(crate) const CARDS: u64 = 1_000;
+// How many cards a tree is asked for.
+const CARDS: u64 = 1_000;
+
+// How many passes there may be at once, where cards come back.
+const PASSES: u64 = 4;
 
 // How often an insert is tried before it is `Busy`.
 const TRIES: u32 = 1_000;
+
+/// Whether the cards of a tree come back.
+#[derive(Clone, Copy, Debug, PartialEq, Eq)]
+pub enum Kind {
+    /// Each card serves once.
+    Plain,
+    /// Cards come back.
+    Reusing,
+}
+
+/// Opens an empty tree of a kind, in which each key is shared.
+pub(crate) fn open(alloc: Global, kind: Kind) -> Result<(Tree<Global>, Pass<Global>), RaceFault>
+    // Each key of the tree is shared, and it starts empty.
+    ensures shares { IfOk result (λ made. SharesEachKey made.0) }
+    // The pass has the whole share, and was answered nothing.
+    ensures first { IfOk result (λ made. IsFirst made.0 made.1) }
+    ensures called { IfOk result (λ made. made.1.view.answers ≡ []) }
+{
+    match kind {
+        Kind::Plain => Ok(Tree::reserve_shared(alloc, &[], &[], CARDS)?),
+        Kind::Reusing => Ok(Tree::reserve_reusing(alloc, &[], &[], CARDS, PASSES)?),
+    }
+}
 
 /// Inserts a key with a value. Returns the pass, and whether it was told that it added the key.
 pub(crate) fn insert(
@@ -45,16 +72,14 @@ pub(crate) fn find(map: &Tree<Global>, pass: Pass<Global>, key: u64) -> (Pass<Gl
     (pass, there)
 }
 
-/// Ends the tree, given the pass that all others were joined to.
-pub(crate) fn close(map: Tree<Global>, pass: Pass<Global>) -> Result<(), RaceFault>
-    requires may { IsIdlePassOf map pass }
-    requires shares { SharesEachKey map }
+/// Reads what was done with the tree, given the pass that all others were joined to.
+pub(crate) fn conclude(map: &Tree<Global>, pass: Pass<Global>)
+    requires may { IsIdlePassOf map.now pass }
+    requires shares { SharesEachKey map.now }
     requires whole { pass.view.share ≡ whole_share }
     // What the pass was answered is what one thread is answered that begins with an empty map.
-    ensures { OnOk result (AreFromNothing pass.view.answers) }
+    ensures { AreFromNothing pass.view.answers }
 {
-    match map.close(pass) {
-        Ok(_pairs) => Ok(()),
-        Err((_map, _pass, fault)) => Err(RaceFault::Memory(fault)),
-    }
+    let mut pass = pass;
+    map.story(&mut pass);
 }

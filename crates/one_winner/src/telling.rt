@@ -7,7 +7,7 @@ ghost use Rattle.ell_tree.specs.Promises.{MayDo};
 ghost use Rattle.one_winner.specs.Telling.{Heard, Tells};
 
 use crate::fault::RaceFault;
-use crate::sharing::{CARDS, close, find, insert};
+use crate::sharing::{Kind, conclude, find, insert, open};
 use ell_tree::{Pass, Tree};
 use std::alloc::Global;
 use std::thread::{Threads, join};
@@ -56,12 +56,13 @@ fn hear(
     }
 }
 
-/// One thread inserts a key with a value into an empty tree, while another looks for it. Then the first hands a pass to
+/// One thread inserts a key with a value into an empty tree of a kind, while another looks for it. Then the first hands a pass to
 /// the second, which joins it to its own and finds the key. Returns what the second found before and after. Condition:
 /// the key is at most `KEY_MAX`.
 pub fn insert_and_tell<R: Threads>(
     rt: &R,
     alloc: Global,
+    kind: Kind,
     key: u64,
     value: u64,
 ) -> Result<Told, RaceFault>
@@ -71,7 +72,7 @@ pub fn insert_and_tell<R: Threads>(
     // With the message, it finds the value.
     ensures late { IfOk result (λ told. told.late ≡ Some value) }
 {
-    let (map, pass) = Tree::reserve_shared(alloc, &[], &[], CARDS)?;
+    let (map, pass) = open(alloc, kind)?;
     let (first, second) = match map.split(pass, &[]) {
         Ok(parts) => parts,
         Err((_pass, fault)) => return Err(RaceFault::Split(fault)),
@@ -96,6 +97,6 @@ pub fn insert_and_tell<R: Threads>(
         Ok(both) => both,
         Err((_first, _second, fault)) => return Err(RaceFault::Memory(fault)),
     };
-    close(map, both)?;
+    conclude(&map, both);
     Ok(Told { early, late })
 }

@@ -21,5 +21,5 @@ returns g c =
     let its = second.called ∙ ap (λ (ds : List Deed). deed_of (Insert key c.args.second) (yes_if other) ds ∷ ds) (c.in-Ok.ensures.called.1 ∙ ap inherited none) in
     let both = c.in-Ok-join.ensures.called ∙ ap₂ (λ (a b : List Deed). a ++ b) mine its in
     let all = c.find-both.ensures.called ∙ ap (λ (ds : List Deed). deed_of (Find key) (found there) ds ∷ ds) both in
-    let h = has_winner key c.args.first c.args.second one other there c.find-both.result.0.view.answers all c.in_ok-close.ensures in
+    let h = has_winner key c.args.first c.args.second one other there c.find-both.result.0.view.answers all c.conclude.ensures in
     record { one = h.differ; there = h.its }

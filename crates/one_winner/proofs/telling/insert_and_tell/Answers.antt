@@ -26,5 +26,5 @@ returns g c =
     let knows = heard.joins.called ∙ ap₂ (λ (a b : List Deed). a ++ b) sought message in
     let second = heard.finds.called ∙ ap (λ (ds : List Deed). deed_of (Find key) (found late) ds ∷ ds) knows in
     let both = c.in-Ok-join.ensures.called ∙ ap₂ (λ (a b : List Deed). a ++ b) (tells.keeps.called ∙ inserts) second in
-    let h = has_told key value tells.added early late c.in-Ok-join.both.view.answers both c.in_ok-close.ensures in
+    let h = has_told key value tells.added early late c.in-Ok-join.both.view.answers both c.conclude.ensures in
     record { early = h.before; late = h.after }
