@@ -1,4 +1,4 @@
-use Rattle.std.specs.Prelude.{◌≡◌, ◌≢◌, ◌↔◌, ℕ, ◌≤◌, List, [], None, true, is_some, Some}
+use Rattle.std.specs.Prelude.{◌≡◌, ◌≢◌, ◌↔◌, ℕ, ◌≤◌, List, [], None, true, false, is_some, Some}
 use Rattle.std.specs.List.Sorted.{IsStrictlyIncreasing}
 use Rattle.atomic_table.specs.Seated.{TableId}
 use Rattle.atomic_table.specs.Table.{Me}
@@ -47,13 +47,14 @@ pub record PassFits (keys : List ℕ) (kept : Share) (words : ℕ) (v : View) : 
   pub inside : HasWords words v
 
 -- the place of a pass as its code keeps it is the one that it knows, and it has one in a table with places, and no
--- other one; it announces there what its code says; its safe number is the one that its code keeps, and without
+-- other one; it announces there what its code says, and nothing without a place; its safe number is the one that its code keeps, and without
 -- places 0; the slot that it has taken is one of the table; and it has set free the slot of each card whose flag it
 -- lost
 pub record PlaceFits (standing : Standing) (words : ℕ) (p : Period) : Type 0 where
   pub place : p.place ≡ standing.place
   pub other : p.other ≡ None
   pub announces : standing.announces ≡ is_some p.announced
+  pub quiet : standing.place ≡ None → standing.announces ≡ false
   pub safe : p.safe ≡ standing.safe
   pub none : (last : ℕ) → words ≡ table_size last → standing.place ≡ None
   pub unsafe : (last : ℕ) → words ≡ table_size last → p.safe ≡ 0

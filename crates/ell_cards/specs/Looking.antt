@@ -88,6 +88,16 @@ pub record FoundInRun (plan : TablePlan) (s : TableState) (turns : List Turn) (s
   pub began : Began plan s turns s' seat
   pub so : WasSo plan began.to (drop (suc began.first) turns) s' what
 
+-- turns have led a table with this plan to a state in which a pass that tells nodes apart knows what is shown so
+pub record IsKnownInRun (plan : TablePlan) (v : View) : Type 0 where
+  pub state : TableState
+  pub reached : IsReached plan state
+  pub seat : ℕ
+  pub knows : View
+  pub there : get_elem? state.views seat ≡ some knows
+  pub shows : shown knows ≡ v
+  pub apart : IsApart plan knows
+
 -- so it is in every run of a table with this plan, from its start to a state in which a pass that tells nodes apart
 -- knows what is shown so
 abbrev pub IsFoundInRuns : TablePlan → View → (Words → Type 0) → Type 0

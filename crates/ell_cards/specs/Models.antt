@@ -1,4 +1,4 @@
-use Rattle.std.specs.Prelude.{◌≡◌, ◌≢◌, ℕ, ◌⊎◌, ◌+◌, ◌<◌, ◌≤◌, ◌*◌, ◌==◌, ◌||◌, ◌/◌, nat_le, if◌then◌else◌, Bool, true, Option, Some, None, List, [], ◌∷◌, length, min}
+use Rattle.std.specs.Prelude.{◌≡◌, ◌≢◌, ℕ, ◌⊎◌, ◌+◌, ◌<◌, ◌≤◌, ◌*◌, ◌==◌, ◌||◌, ◌/◌, nat_le, if◌then◌else◌, Bool, true, false, Option, Some, None, is_some, List, [], ◌∷◌, length, min}
 use Rattle.atomic_table.specs.Seated.{TableId}
 use Rattle.ell_ops.specs.declared.op.Op.{Op}
 use Rattle.ell_word.specs.Node.{most_cards}
@@ -19,8 +19,9 @@ use Rattle.ell_cards.specs.declared.glance.Glance.{Glance}
 use Rattle.ell_cards.specs.declared.view.Told.{Told}
 use Rattle.ell_cards.specs.declared.view.View.{View}
 use Rattle.ell_cards.specs.declared.view.Seek.{Seek}
+use Rattle.ell_cards.specs.declared.view.Survey.{Survey}
 use Rattle.ell_cards.specs.declared.view.Slots.{Slots}
-use Rattle.ell_cards.specs.Seeking.{begun_seek, no_seek}
+use Rattle.ell_cards.specs.Seeking.{begun_seek, no_seek, no_survey}
 
 -- what a table opens with: the keys that may have owners, the start pairs, the last card, if all other keys are
 -- shared, and if the tree is flat; and, if passes have places in it, how many cards have words and how many places
@@ -52,13 +53,16 @@ pub record TableModel : Type 0 where
 
 -- the table that a pass belongs to, what is shown of what it knows, the atomic steps made through it, its label,
 -- its safe number: every pass that is in a period began it when the clock was that at least; and, if the table has
--- places, the card whose slot it has taken last, and what it has read in its last search for one
+-- places, whether it is in a period itself, what it saw when it looked at all places last, the card whose slot it has
+-- taken last, and what it has read in its last search for one
 pub record PassModel : Type 0 where
   pub table : TableId
   pub view : View
   pub steps : ℕ
   pub label : ℕ
   pub safe : ℕ
+  pub inside : Bool
+  pub surveyed : Survey
   pub slot : Option ℕ
   pub sought : Seek
 
@@ -92,16 +96,7 @@ some_more n steps = min (steps + n) 18446744073709551615
 
 -- the pass made one step that it has not counted yet, and knows this now
 abbrev pub Sees : PassModel → PassModel → View → Type 0
-Sees old new v =
-    new ≡ record {
-      table = old.table;
-      view = v;
-      steps = old.steps;
-      label = old.label;
-      safe = old.safe;
-      slot = old.slot;
-      sought = old.sought;
-    }
+Sees old new v = new ≡ record old { view = v }
 
 -- the pass counted so many steps, and made none
 abbrev pub Counts : PassModel → PassModel → ℕ → Type 0
@@ -109,33 +104,28 @@ Counts old new n = new ≡ record old { steps = some_more n old.steps }
 
 -- the pass made one step, and knows this now
 abbrev pub Steps : PassModel → PassModel → View → Type 0
-Steps old new v =
-    new ≡ record {
-      table = old.table;
-      view = v;
-      steps = one_more old.steps;
-      label = old.label;
-      safe = old.safe;
-      slot = old.slot;
-      sought = old.sought;
-    }
+Steps old new v = new ≡ record old { view = v; steps = one_more old.steps }
 
--- the pass made one step by which it began an operation, and knows this now; slots that it could not take are counted
--- anew
-abbrev pub BeginsBy : PassModel → PassModel → View → Type 0
-BeginsBy old new v =
-    new ≡ record {
-      table = old.table;
-      view = v;
-      steps = one_more old.steps;
-      label = old.label;
-      safe = old.safe;
-      slot = old.slot;
-      sought = begun_seek old.sought;
-    }
+-- the pass made one step by which it began an operation, and knows this now; if there are places, it is in a period, and
+-- slots that it could not take are counted anew
+abbrev pub BeginsBy : Option Slots → PassModel → PassModel → View → Type 0
+BeginsBy slots old new v = new ≡ record old {
+  view = v;
+  steps = one_more old.steps;
+  inside = is_some slots;
+  sought = begun_seek old.sought;
+}
 
--- the pass came from another one by a step that both count, and knows this; it has looked at no place yet, and has
--- taken and sought no slot
+-- or by which it began a look, and did not count the step
+abbrev pub LooksBy : Option Slots → PassModel → PassModel → View → Type 0
+LooksBy slots old new v = new ≡ record old { view = v; inside = is_some slots }
+
+-- or by which it ended what it had begun: it is in no period
+abbrev pub EndsBy : PassModel → PassModel → View → Type 0
+EndsBy old new v = new ≡ record old { view = v; steps = one_more old.steps; inside = false }
+
+-- the pass came from another one by a step that both count, and knows this; it is in no period, has looked at no place
+-- yet, and has taken and sought no slot
 abbrev pub StepsOut : PassModel → PassModel → View → Type 0
 StepsOut old new v =
     new ≡ record {
@@ -144,6 +134,8 @@ StepsOut old new v =
       steps = one_more old.steps;
       label = old.label;
       safe = 0;
+      inside = false;
+      surveyed = no_survey;
       slot = None;
       sought = no_seek;
     }

@@ -1,4 +1,4 @@
-use Rattle.std.specs.Prelude.{◌≡◌, ◌≢◌, ℕ, zero, suc, ◌+◌, ◌-◌, ◌*◌, ◌/◌, ◌<◌, ◌≤◌, ◌==◌, ◌++◌, ◌&&◌, max, nat_lt, nat_le, if◌then◌else◌, ◌%◌, Bool, Option, Some, None, List, [], length, replicate, slice_index, slice_set, true, false}
+use Rattle.std.specs.Prelude.{◌≡◌, ◌≢◌, ℕ, zero, suc, ◌+◌, ◌-◌, ◌*◌, ◌/◌, ◌<◌, ◌≤◌, ◌==◌, ◌++◌, ◌&&◌, ◌⊎◌, max, nat_lt, nat_le, if◌then◌else◌, ◌%◌, Bool, Option, Some, None, List, [], length, replicate, slice_index, slice_set, true, false}
 use mathlib.Core.Option.{some, none}
 use mathlib.Core.Option.{Option as Maybe}
 use lib.ListN.{get_elem?}
@@ -12,11 +12,12 @@ use Rattle.ell_cards.specs.declared.view.Known.{Known}
 use Rattle.ell_cards.specs.declared.view.Period.{Period}
 use Rattle.ell_cards.specs.declared.view.Slots.{Slots}
 use Rattle.ell_cards.specs.declared.view.Stamp.{Stamp}
+use Rattle.ell_cards.specs.declared.view.Survey.{Survey}
 use Rattle.ell_cards.specs.declared.view.Told.{Told}
 use Rattle.ell_cards.specs.declared.view.Told.TheVariants.{Met, Key}
 use Rattle.ell_cards.specs.declared.view.View.{View}
 use Rattle.ell_cards.specs.Models.{TablePlan, IsFree, IsTold}
-use Rattle.ell_cards.specs.Seeking.{could_have, could_take, found_again, is_done, missed_none, missed_one, no_seek, retires, retires_if, sought_on}
+use Rattle.ell_cards.specs.Seeking.{could_have, could_take, found_again, is_done, missed_none, missed_one, no_seek, no_survey, retires, retires_if, sought_on}
 use Rattle.ell_cards.specs.SlotWords.{slot_of, card_by, free_word, freed_by, has_slot_in}
 
 -- the state of a table, with all that its passes know
@@ -135,6 +136,10 @@ announced_by (suc (suc reading)) = Some reading
 abbrev pub last_reading : ℕ
 last_reading = 1152921504606846976
 
+-- all places were looked at anew: the clock has gone on since the last time, unless it has stopped
+abbrev pub LooksAnew : Survey → Survey → Type 0
+LooksAnew old new = (old.clock < new.clock) ⊎ (new.clock ≡ last_reading)
+
 -- what a pass without a place knows of periods: nothing
 abbrev pub no_period : Period
 no_period = record {
@@ -147,6 +152,7 @@ no_period = record {
   least = 0;
   looked = 0;
   safe = 0;
+  surveyed = no_survey;
   read = None;
   stamp = None;
   slot = None;
@@ -166,6 +172,10 @@ first_period plan = period_by plan.slots
 abbrev pub after_clock : ℕ → Period → Period
 after_clock n p = record p { reading = Some n; least = n; looked = 0 }
 
+-- the clock went on from a reading, by the pass or by another one, which is a reading of it too
+abbrev pub after_tick : ℕ → Period → Period
+after_tick n p = record p { reading = Some (n + 1) }
+
 -- a period was begun by an announcement of this reading, when the clock was that
 abbrev pub after_announce : ℕ → ℕ → Period → Period
 after_announce reading clock p = record p { announced = Some reading; began = clock }
@@ -178,12 +188,19 @@ after_retract p = record p { announced = None }
 abbrev pub settled_at : ℕ → ℕ → ℕ → ℕ → ℕ
 settled_at places looked least safe = if nat_lt looked places then safe else max least safe
 
+-- and that look is the last one at all places
+abbrev pub surveyed_at : ℕ → ℕ → Option ℕ → ℕ → Survey → Survey
+surveyed_at places looked None least seen = seen
+surveyed_at places looked (Some clock) least seen =
+    if nat_lt looked places then seen else record { clock = clock; least = least }
+
 -- the next place was looked at, and its word is this
 abbrev pub after_look_at : ℕ → ℕ → Period → Period
 after_look_at places n p = record p {
   least = least_with p.least (announced_by n);
   looked = p.looked + 1;
   safe = settled_at places (p.looked + 1) (least_with p.least (announced_by n)) p.safe;
+  surveyed = surveyed_at places (p.looked + 1) p.reading (least_with p.least (announced_by n)) p.surveyed;
 }
 
 -- the places of a pass, and what is announced there, are as they were
@@ -300,6 +317,7 @@ pub record PeriodHolds (s : Slots) (words : List ℕ) (k : Known) : Type 0 where
   pub two : (q : ℕ) → k.period.place ≡ Some q → k.period.other ≢ Some q
   pub none : k.period.place ≡ None → k.period.announced ≡ None
   pub reading : (n : ℕ) → k.period.reading ≡ Some n → n ≤ slice_index words (clock_word s)
+  pub surveyed : k.period.surveyed.clock ≤ slice_index words (clock_word s)
   pub rests : k.period.announced ≡ None → IsAtRest k.tree
   pub idle : (c : ℕ) → k.period.lost ≡ Some c → k.tree.worker.card ≡ None
   pub stays : (c : ℕ) → k.period.lost ≡ Some c → k.period.announced ≢ None

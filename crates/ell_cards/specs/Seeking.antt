@@ -5,6 +5,7 @@ use Rattle.ell_cards.specs.declared.view.Retired.{Retired}
 use Rattle.ell_cards.specs.declared.view.Seek.{Seek}
 use Rattle.ell_cards.specs.declared.view.SlotRead.{SlotRead}
 use Rattle.ell_cards.specs.declared.view.Slots.{Slots}
+use Rattle.ell_cards.specs.declared.view.Survey.{Survey}
 use Rattle.ell_cards.specs.CardNodes.{all_noted, no_nodes, nodes_of_both}
 use Rattle.ell_cards.specs.SlotWords.{has_slot_in, is_noted, slot_of, turn_in, turn_of, stamp_in}
 
@@ -32,6 +33,10 @@ could_have s for_delete c n safe = could_take n safe && may_have s for_delete c
 -- a pass that has noted nothing for its card in hand
 abbrev pub none_retired : Retired
 none_retired = record { parent = false; leaf = false; own = no_nodes }
+
+-- a pass that has not looked at the places has seen nothing: the clock is never less than 0
+abbrev pub no_survey : Survey
+no_survey = record { clock = 0; least = 0 }
 
 -- a pass that has not sought a slot has read none
 abbrev pub no_seek : Seek

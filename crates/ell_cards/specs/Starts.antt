@@ -16,7 +16,7 @@ use Rattle.ell_core.specs.acts.Wins.{InOrder}
 use Rattle.ell_cards.specs.declared.call.Call.TheVariants as call
 use Rattle.ell_cards.specs.declared.view.Slots.{Slots}
 use Rattle.ell_cards.specs.Models.{TablePlan, TableModel, PassModel}
-use Rattle.ell_cards.specs.Seeking.{no_seek}
+use Rattle.ell_cards.specs.Seeking.{no_seek, no_survey}
 use Rattle.ell_cards.specs.Changes.{first_of}
 use Rattle.ell_cards.specs.States.{TableState}
 use Rattle.ell_cards.specs.Turns.{Turn, Makes, TableTurns, TableRun}
@@ -64,8 +64,8 @@ pub record Starts (plan : TablePlan) (s : TableState) : Type 0 where
   pub words : StartWords plan s.words
   pub is : s ≡ opening s.words [] (first_of plan)
 
--- a table is opened by a plan: it has the plan, and its one pass knows what a first pass does, has made no step, and
--- looked at no place
+-- a table is opened by a plan: it has the plan, and its one pass knows what a first pass does, has made no step, is in no
+-- period, and has looked at no place
 pub record OpensBy (plan : TablePlan) (made : TableModel × PassModel) : Type 0 where
   pub table : made.0.plan ≡ plan
   pub pass : made.1
@@ -75,6 +75,8 @@ pub record OpensBy (plan : TablePlan) (made : TableModel × PassModel) : Type 0 
         steps = 0;
         label = 0;
         safe = 0;
+        inside = false;
+        surveyed = no_survey;
         slot = None;
         sought = no_seek;
       }

@@ -1,4 +1,4 @@
-use Rattle.std.specs.Prelude.{◌≡◌, ℕ, Bool, None, Some, List, [], ◌-◌}
+use Rattle.std.specs.Prelude.{◌≡◌, ℕ, Bool, Option, None, Some, is_some, List, [], ◌-◌}
 use mathlib.Core.Option.{some}
 use lib.ListN.{get_elem?}
 use Rattle.std.specs.List.Sorted.{IsStrictlyIncreasing}
@@ -118,45 +118,43 @@ KeepsPass plan v then =
     (n : ℕ) (w : View) → then n w → (ledger_keys w.worker.ledger ≡ ledger_keys v.worker.ledger) × SameShare v w
     × IsInside plan w
 
--- a pass made one step that it has not counted yet: its table, its label, its safe number,
--- its slot and its search for one are as they were
+-- a pass made one step that it has not counted yet: its table, its label, its safe number, whether it is in a period,
+-- what it saw at the places, its slot and its search for one are as they were
 pub record SeesBy (old new : PassModel) : Type 0 where
   pub table : new.table ≡ old.table
   pub steps : new.steps ≡ old.steps
   pub label : new.label ≡ old.label
   pub safe : new.safe ≡ old.safe
+  pub inside : new.inside ≡ old.inside
+  pub surveyed : new.surveyed ≡ old.surveyed
   pub slot : new.slot ≡ old.slot
   pub sought : new.sought ≡ old.sought
 
--- so it is after a step call that may begin an operation, but for the count of slots that it could not take
-pub record EntersBy (c : Call) (old new : PassModel) : Type 0 where
+-- so it is after a step call that begins an operation or a look, but that it is in a period if there are places, and
+-- for the count of slots that it could not take
+pub record EntersBy (slots : Option Slots) (c : Call) (old new : PassModel) : Type 0 where
   pub table : new.table ≡ old.table
   pub steps : new.steps ≡ old.steps
   pub label : new.label ≡ old.label
   pub safe : new.safe ≡ old.safe
+  pub inside : new.inside ≡ is_some slots
+  pub surveyed : new.surveyed ≡ old.surveyed
   pub slot : new.slot ≡ old.slot
   pub sought : new.sought ≡ entered_seek c old.sought
 
--- the pass made one step that it has not counted yet, by a call that may begin an operation, and knows this now
-abbrev pub Enters : Call → PassModel → PassModel → View → Type 0
-Enters c old new v =
-    new ≡ record {
-      table = old.table;
-      view = v;
-      steps = old.steps;
-      label = old.label;
-      safe = old.safe;
-      slot = old.slot;
-      sought = entered_seek c old.sought;
-    }
+-- the pass made one step that it has not counted yet, by a call that begins an operation or a look, and knows this now
+abbrev pub Enters : Option Slots → Call → PassModel → PassModel → View → Type 0
+Enters slots c old new v = new ≡ record old { view = v; inside = is_some slots; sought = entered_seek c old.sought }
 
--- a pass made one step: its table, its label, its safe number,
+-- a pass made one step: its table, its label, its safe number, whether it is in a period, what it saw at the places,
 -- its slot and its search for one are as they were
 pub record StepsBy (old new : PassModel) : Type 0 where
   pub table : new.table ≡ old.table
   pub steps : new.steps ≡ one_more old.steps
   pub label : new.label ≡ old.label
   pub safe : new.safe ≡ old.safe
+  pub inside : new.inside ≡ old.inside
+  pub surveyed : new.surveyed ≡ old.surveyed
   pub slot : new.slot ≡ old.slot
   pub sought : new.sought ≡ old.sought
 

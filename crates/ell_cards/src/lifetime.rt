@@ -302,16 +302,11 @@ impl<A: Allocator + Copy> CardTable<A> {
         requires right { right.table ≡ self.now.id }
         requires left_free { IsFree left.view }
         requires right_free { IsFree right.view }
-        // The pass has the keys and the shares of both, and the left one's safe number, slot and search. Its count of
-        // steps in a row is one more than the greater of the two counts.
-        ensures joined { IfOk result (λ both. both ≡ record {
-          table = left.table;
+        // The pass is the left one, with the keys and the shares of both. Its count of steps in a row is one more than
+        // the greater of the two counts.
+        ensures joined { IfOk result (λ both. both ≡ record left {
           view = joined_view left.view right.view;
           steps = one_more (max left.steps right.steps);
-          label = left.label;
-          safe = left.safe;
-          slot = left.slot;
-          sought = left.sought;
         }) }
         // If an allocation fails, both passes are returned as they were.
         ensures refused { IfErr result (λ refused. (refused.0 ≡ left) × (refused.1 ≡ right)) }

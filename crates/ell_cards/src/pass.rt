@@ -78,6 +78,7 @@ pub(crate) fn one_more(steps: u64) -> u64
 }
 
 impl<A: Allocator + Copy> Model for Pass<A> {
+    ghost use Rattle.std.specs.Prelude.{is_some};
     ghost use Rattle.ell_cards.specs.Models.{PassModel};
     ghost use Rattle.ell_cards.specs.Inside.{IsPass};
     ghost use Rattle.ell_cards.specs.Shown.{shown};
@@ -90,6 +91,8 @@ impl<A: Allocator + Copy> Model for Pass<A> {
       steps = p.steps;
       label = p.label;
       safe = p.seat.me.0.period.safe;
+      inside = is_some p.seat.me.0.period.announced;
+      surveyed = p.seat.me.0.period.surveyed;
       slot = p.seat.me.0.period.slot;
       sought = p.seat.me.0.period.sought;
     } };

@@ -7,7 +7,7 @@ ghost use Rattle.ell_word.specs.Node.{greatest_card};
 ghost use Rattle.ell_grace.specs.Grace.{least_with};
 ghost use Rattle.ell_cards.specs.Models.{last_slot_of};
 ghost use Rattle.ell_cards.specs.Inside.{PlaceFits};
-ghost use Rattle.ell_cards.specs.Periods.{IsAtRest, StandsAs, after_announce, after_retract, after_clock, after_give, after_look_at, after_release, after_take, announced_by, clock_word, last_reading, place_word, slots_size};
+ghost use Rattle.ell_cards.specs.Periods.{IsAtRest, LooksAnew, StandsAs, after_announce, after_retract, after_clock, after_give, after_look_at, after_release, after_take, after_tick, announced_by, clock_word, last_reading, place_word, slots_size};
 ghost use Rattle.ell_cards.specs.Stepping.{MayGoOn};
 ghost use Rattle.ell_cards.specs.Shown.{shown};
 
@@ -82,6 +82,17 @@ fn least_with(least: u64, word: u64) -> u64
 }
 
 impl<A: Allocator + Copy> CardTable<A> {
+    /// A law, the contract of a function that does nothing: no pass of a table without places is in a period.
+    #[inline(always)]
+    pub fn periods_have_places(&self, pass: &Pass<A>)
+        requires own { pass.now.table ≡ self.now.id }
+        // Without places, the pass is in no period.
+        ensures { self.now.plan.slots ≡ None → pass.now.inside ≡ false }
+    {
+        let _ = &self.table;
+        let _ = &pass.seat;
+    }
+
     // Loads a word of the periods.
     #[inline(always)]
     pub(crate) fn period_load<J: PeriodTelling>(
@@ -158,13 +169,15 @@ impl<A: Allocator + Copy> CardTable<A> {
         slots.place_word(place)
     }
 
-    // Reads the clock.
+    // Reads the clock, which never goes back.
     fn read_clock(&self, seat: &mut Seat<(), Known>, slots: Slots) -> u64
         requires own { seat.old.table_id ≡ self.now.id }
         requires empty { seat.old.me.1 ≡ [] }
         requires slots { self.now.plan.slots ≡ Some slots }
         ensures clock { seat.new.me.0.period ≡ after_clock result seat.old.me.0.period }
         ensures low { result ≤ last_reading }
+        ensures later { (n : ℕ) → seat.old.me.0.period.reading ≡ Some n → n ≤ result }
+        ensures since { seat.old.me.0.period.surveyed.clock ≤ result }
         ensures tree { seat.new.me.0.tree ≡ seat.old.me.0.tree }
         ensures seat { (seat.new.table_id ≡ seat.old.table_id) × (seat.new.me.1 ≡ []) }
     {
@@ -208,15 +221,17 @@ impl<A: Allocator + Copy> CardTable<A> {
         requires own { seat.old.table_id ≡ self.now.id }
         requires empty { seat.old.me.1 ≡ [] }
         requires fits { PlaceFits standing.old seat.old.table_id.words seat.old.me.0.period }
-        ensures open { (self.now.plan.slots ≡ None) ⊎ (seat.new.me.0.period.announced ≢ None) }
+        ensures inside { is_some seat.new.me.0.period.announced ≡ is_some self.now.plan.slots }
         ensures fits { PlaceFits standing.new seat.new.table_id.words seat.new.me.0.period }
         ensures safe { seat.new.me.0.period.safe ≡ seat.old.me.0.period.safe }
+        ensures surveyed { seat.new.me.0.period.surveyed ≡ seat.old.me.0.period.surveyed }
         ensures slot { seat.new.me.0.period.slot ≡ seat.old.me.0.period.slot }
         ensures sought { seat.new.me.0.period.sought ≡ seat.old.me.0.period.sought }
         ensures lost { seat.new.me.0.period.lost ≡ seat.old.me.0.period.lost }
         ensures tree { seat.new.me.0.tree ≡ seat.old.me.0.tree }
         ensures seat { (seat.new.table_id ≡ seat.old.table_id) × (seat.new.me.1 ≡ []) }
     {
+        let _ = &self.table;
         if standing.announces {
             return;
         }
@@ -233,8 +248,8 @@ impl<A: Allocator + Copy> CardTable<A> {
     pub(crate) fn withdraw(&self, pass: &mut Pass<A>)
         requires own { pass.old.table ≡ self.now.id }
         requires rest { IsAtRest pass.old.view }
-        // What the pass knows of the tree is as it was, and it has made no step that is counted.
-        ensures { pass.new ≡ pass.old }
+        // The pass is in no period. What it knows of the tree is as it was, and it has made no step that is counted.
+        ensures { pass.new ≡ record (pass.old) { inside = false } }
     {
         if !pass.standing.announces {
             return;
@@ -317,21 +332,27 @@ impl<A: Allocator + Copy> CardTable<A> {
         requires own { seat.old.table_id ≡ self.now.id }
         requires empty { seat.old.me.1 ≡ [] }
         requires slots { self.now.plan.slots ≡ Some slots }
+        requires read { seat.old.me.0.period.reading ≡ Some reading }
         requires low { reading < last_reading }
-        ensures period { seat.new.me.0.period ≡ seat.old.me.0.period }
+        ensures period { seat.new.me.0.period ≡ after_tick reading seat.old.me.0.period }
         ensures tree { seat.new.me.0.tree ≡ seat.old.me.0.tree }
         ensures seat { (seat.new.table_id ≡ seat.old.table_id) × (seat.new.me.1 ≡ []) }
     {
         self.period_exchange::<Brand>(seat, self.clock_address(slots), reading, reading + 1);
     }
 
-    // Reads the clock, and lets it go on, unless it stops there.
+    // Reads the clock, and lets it go on, unless it stops there: by then it is past what it was when the pass looked at
+    // all places last.
     pub(crate) fn advance(&self, seat: &mut Seat<(), Known>, slots: Slots)
         requires own { seat.old.table_id ≡ self.now.id }
         requires empty { seat.old.me.1 ≡ [] }
         requires slots { self.now.plan.slots ≡ Some slots }
+        ensures on { IfSome seat.new.me.0.period.reading (λ n.
+            (seat.old.me.0.period.surveyed.clock < n) ⊎ (n ≡ last_reading)) }
+        ensures read { seat.new.me.0.period.reading ≢ None }
         ensures stands { StandsAs seat.old.me.0.period seat.new.me.0.period }
         ensures safe { seat.new.me.0.period.safe ≡ seat.old.me.0.period.safe }
+        ensures surveyed { seat.new.me.0.period.surveyed ≡ seat.old.me.0.period.surveyed }
         ensures slot { seat.new.me.0.period.slot ≡ seat.old.me.0.period.slot }
         ensures sought { seat.new.me.0.period.sought ≡ seat.old.me.0.period.sought }
         ensures lost { seat.new.me.0.period.lost ≡ seat.old.me.0.period.lost }
@@ -365,6 +386,10 @@ impl<A: Allocator + Copy> CardTable<A> {
         requires empty { seat.old.me.1 ≡ [] }
         requires slots { self.now.plan.slots ≡ Some slots }
         ensures safe { seat.new.me.0.period.safe ≡ max result seat.old.me.0.period.safe }
+        ensures least { seat.new.me.0.period.surveyed.least ≡ result }
+        ensures later { (n : ℕ) → seat.old.me.0.period.reading ≡ Some n → n ≤ seat.new.me.0.period.surveyed.clock }
+        ensures since { seat.old.me.0.period.surveyed.clock ≤ seat.new.me.0.period.surveyed.clock }
+        ensures low { seat.new.me.0.period.surveyed.clock ≤ last_reading }
         ensures stands { StandsAs seat.old.me.0.period seat.new.me.0.period }
         ensures slot { seat.new.me.0.period.slot ≡ seat.old.me.0.period.slot }
         ensures sought { seat.new.me.0.period.sought ≡ seat.old.me.0.period.sought }
@@ -373,7 +398,8 @@ impl<A: Allocator + Copy> CardTable<A> {
         ensures seat { (seat.new.table_id ≡ seat.old.table_id) × (seat.new.me.1 ≡ []) }
     {
         let _ = &self.table;
-        let mut least = self.read_clock(seat, slots);
+        let clock = self.read_clock(seat, slots);
+        let mut least = clock;
         for place in 0..slots.places {
             let word = self.look_at(seat, slots, place);
             least = least_with(least, word);
@@ -387,12 +413,18 @@ impl<A: Allocator + Copy> CardTable<A> {
     /// Returns 0 if the table has no places. Its steps are not counted.
     pub fn safe_number(&self, pass: &mut Pass<A>) -> u64
         requires own { pass.old.table ≡ self.now.id }
-        // The pass has this safe number, and is otherwise unchanged: it has made no step that is counted.
-        ensures safe { pass.new ≡ record (pass.old) { safe = result } }
+        // The pass has this safe number, and has looked at the places; it is otherwise unchanged, and has made no step
+        // that is counted.
+        ensures safe { pass.new ≡ record (pass.old) { safe = result; surveyed = pass.new.surveyed } }
         // It is no less than the last one.
         ensures more { pass.old.safe ≤ result }
+        // It is the least that the pass has seen at the places, unless the last one is greater.
+        ensures least { self.now.plan.slots ≢ None → result ≡ max pass.new.surveyed.least pass.old.safe }
+        // It has looked at them in this call.
+        ensures anew { self.now.plan.slots ≢ None → LooksAnew pass.old.surveyed pass.new.surveyed }
+        ensures later { pass.old.surveyed.clock ≤ pass.new.surveyed.clock }
         // A table without places has no safe number but 0.
-        ensures none { self.now.plan.slots ≡ None → result ≡ 0 }
+        ensures none { self.now.plan.slots ≡ None → (result ≡ 0) × (pass.new ≡ pass.old) }
     {
         let _ = &pass.seat;
         let Some(slots) = self.slots else {
@@ -409,8 +441,9 @@ impl<A: Allocator + Copy> CardTable<A> {
     /// number 0.
     pub(crate) fn look_first(&self, pass: &mut Pass<A>)
         requires own { pass.old.table ≡ self.now.id }
-        ensures same { pass.new ≡ record (pass.old) { safe = pass.new.safe } }
+        ensures same { pass.new ≡ record (pass.old) { safe = pass.new.safe; surveyed = pass.new.surveyed } }
         ensures more { pass.old.safe ≤ pass.new.safe }
+        ensures later { pass.old.surveyed.clock ≤ pass.new.surveyed.clock }
     {
         if pass.standing.safe == 0 {
             self.safe_number(pass);

@@ -9,7 +9,7 @@ ghost use Rattle.ell_cards.specs.Ages.{MayStamp};
 ghost use Rattle.ell_cards.specs.CardNodes.{NotesToo, has_node, node_alone};
 ghost use Rattle.ell_cards.specs.Dead.{HasTakenOut};
 ghost use Rattle.ell_cards.specs.Guards.{MayFill};
-ghost use Rattle.ell_cards.specs.Periods.{clock_word, StandsAs, LostIs, after_freeing, after_missing, after_noting, after_noting_read, after_own, after_read, after_seek, after_stamp, after_taking, has_slot, last_reading, slot_word, spread};
+ghost use Rattle.ell_cards.specs.Periods.{clock_word, LooksAnew, StandsAs, LostIs, after_freeing, after_missing, after_noting, after_noting_read, after_own, after_read, after_seek, after_stamp, after_taking, has_slot, last_reading, slot_word, spread};
 ghost use Rattle.ell_cards.specs.Seeking.{could_take, is_found, FindsNone, FindsNoneIn, FindsOneFor, may_have, is_done, missed_none, missed_one, retires, retires_if, sought_on};
 ghost use Rattle.ell_cards.specs.Noting.{AreTakenOut, HasNoted, MayNote, MayNoteNext, MayRetire, NeverCome, retires_in};
 ghost use Rattle.ell_cards.specs.SlotWords.{card_by, has_slot_in, has_slots, is_noted, slot_of, stamp_in, turn_in, turn_of};
@@ -392,6 +392,7 @@ impl<A: Allocator + Copy> CardTable<A> {
             seat.new.me.0.period.read ≡ Some (record { slot = slot_of card; word = result }) }
         ensures next { MayNoteNext seat.old.me.0.tree taken_out card nodes word result }
         ensures safe { seat.new.me.0.period.safe ≡ seat.old.me.0.period.safe }
+        ensures surveyed { seat.new.me.0.period.surveyed ≡ seat.old.me.0.period.surveyed }
         ensures tree { seat.new.me.0.tree ≡ seat.old.me.0.tree }
         ensures seat { (seat.new.table_id ≡ seat.old.table_id) × (seat.new.me.1 ≡ []) }
     {
@@ -424,6 +425,7 @@ impl<A: Allocator + Copy> CardTable<A> {
         ensures lost { seat.new.me.0.period.lost ≡ seat.old.me.0.period.lost }
         ensures sought { seat.new.me.0.period.sought ≡ retires taken_out nodes seat.old.me.0.period.sought }
         ensures safe { seat.new.me.0.period.safe ≡ seat.old.me.0.period.safe }
+        ensures surveyed { seat.new.me.0.period.surveyed ≡ seat.old.me.0.period.surveyed }
         ensures tree { seat.new.me.0.tree ≡ seat.old.me.0.tree }
         ensures seat { (seat.new.table_id ≡ seat.old.table_id) × (seat.new.me.1 ≡ []) }
     {
@@ -471,6 +473,7 @@ impl<A: Allocator + Copy> CardTable<A> {
         ensures lost { seat.new.me.0.period.lost ≡ None }
         ensures sought { seat.new.me.0.period.sought ≡ seat.old.me.0.period.sought }
         ensures safe { seat.new.me.0.period.safe ≡ seat.old.me.0.period.safe }
+        ensures surveyed { seat.new.me.0.period.surveyed ≡ seat.old.me.0.period.surveyed }
         ensures tree { seat.new.me.0.tree ≡ seat.old.me.0.tree }
         ensures seat { (seat.new.table_id ≡ seat.old.table_id) × (seat.new.me.1 ≡ []) }
     {
@@ -595,7 +598,7 @@ impl<A: Allocator + Copy> CardTable<A> {
     // have different stamps, of which the next change can take the oldest.
     fn look_now_and_then(&self, pass: &mut Pass<A>, slots: Slots, card: u64)
         requires own { pass.old.table ≡ self.now.id }
-        ensures same { pass.new ≡ record (pass.old) { safe = pass.new.safe } }
+        ensures same { pass.new ≡ record (pass.old) { safe = pass.new.safe; surveyed = pass.new.surveyed } }
         ensures more { pass.old.safe ≤ pass.new.safe }
     {
         let numbers = pass.standing.numbers.saturating_add(1);
@@ -721,13 +724,17 @@ impl<A: Allocator + Copy> CardTable<A> {
         requires own { pass.old.table ≡ self.now.id }
         requires room { card ≤ self.now.plan.last_card }
         // What the pass knows of the tree is as it was, and it has made no step that is counted.
-        ensures same { pass.new ≡ record (pass.old) { safe = pass.new.safe; sought = pass.new.sought } }
+        ensures same { pass.new ≡
+            record (pass.old) { safe = pass.new.safe; surveyed = pass.new.surveyed; sought = pass.new.sought } }
         // If there is none, then no number of the table from this card on has a slot; or the pass has read the words
         // of all slots in a row, or of all that are left to numbers of the table, and could have taken none of them
         // for its change, by a safe number no less than that which it has now. It has made no step call since it began
         // that row.
         ensures none { result ≡ None → FindsNoneIn self.now.plan.slots self.now.plan.last_card card for_delete
             pass.old.view.made pass.new.safe pass.new.sought }
+        // It has then looked at all places, if there are some, in this call.
+        ensures looked { result ≡ None → self.now.plan.slots ≢ None →
+            LooksAnew pass.old.surveyed pass.new.surveyed }
         // No slot of a card in hand was missed by that.
         ensures missed { pass.new.sought.missed ≡ pass.old.sought.missed }
         // Only a delete gets one of the last two slots.
@@ -765,10 +772,10 @@ impl<A: Allocator + Copy> CardTable<A> {
         ensures took { result ≡ true → self.now.plan.slots ≢ None → pass.new.slot ≡ Some card }
         // What the pass knows of the tree is as it was, and it has made no step that is counted.
         ensures same { pass.new ≡
-            record (pass.old) { slot = pass.new.slot; safe = pass.new.safe; sought = pass.new.sought } }
+            record (pass.old) { slot = pass.new.slot; safe = pass.new.safe; surveyed = pass.new.surveyed; sought = pass.new.sought } }
         // If it did not take the slot, it has the slot that it had.
         ensures kept { result ≡ false →
-            pass.new ≡ record (pass.old) { safe = pass.new.safe; sought = pass.new.sought } }
+            pass.new ≡ record (pass.old) { safe = pass.new.safe; surveyed = pass.new.surveyed; sought = pass.new.sought } }
         // Slots that the pass has found, and that could not be taken, are counted, from the last one on that was taken,
         // or from where its operation began: they are no more than all slots.
         ensures missed { result ≡ false → has_slot self.now.plan.slots card ≡ true →

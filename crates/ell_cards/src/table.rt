@@ -180,7 +180,7 @@ impl<A: Allocator + Copy> CardTable<A> {
         requires keeps { KeepsPass self.now.plan pass.old.view J.then }
         requires notes { (n : ℕ) (p : Period) → J.notes n p ≡ after_entering call p }
         ensures told { J.then result pass.new.view }
-        ensures step { EntersBy call pass.old pass.new }
+        ensures step { EntersBy self.now.plan.slots call pass.old pass.new }
     {
         let _ = call;
         self.enter(&mut pass.standing, &mut pass.seat);
@@ -196,7 +196,7 @@ impl<A: Allocator + Copy> CardTable<A> {
         requires word { word ≡ place_of call }
         requires kept { MayInTable self.now.plan pass.old call }
         requires atomic { atomic_of call ≡ Load }
-        ensures step { Enters call pass.old pass.new (after call result pass.old.view) }
+        ensures step { Enters self.now.plan.slots call pass.old pass.new (after call result pass.old.view) }
         ensures tells { Tells self.now.plan call pass.old.view result }
         ensures shallow { (x : ℕ) → IsShallow (deepest self.now.plan) pass.new.view x }
     {

@@ -131,6 +131,8 @@ pub struct Period {
     pub looked: u64,
     /// Every pass that is in a period began it when the clock was this at least.
     pub safe: u64,
+    /// What it saw when it looked at all places last.
+    pub surveyed: Survey,
     /// The word of a slot that it read last.
     pub read: Option<SlotRead>,
     /// The card that it is about to set free, as its nodes are dead, or it was laid aside.
@@ -141,6 +143,15 @@ pub struct Period {
     pub lost: Option<u64>,
     /// What it has read in its last search for a slot to take.
     pub sought: Seek,
+}
+
+/// What a pass saw when it looked at all places last.
+#[derive(Clone, Copy)]
+pub struct Survey {
+    /// The reading of the clock with which it began.
+    pub clock: u64,
+    /// The least of that and of all readings that it saw announced.
+    pub least: u64,
 }
 
 /// What a pass knows of the words of slots: what it has read in its last search for a slot, a row of numbers that have slots,

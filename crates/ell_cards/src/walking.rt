@@ -8,13 +8,13 @@ ghost use Rattle.ell_layout.specs.Words.{IsLeaf};
 ghost use Rattle.ell_core.specs.statements.Effects.{AnswersAsMap};
 ghost use Rattle.ell_core.specs.acts.Searching.{MayStop};
 ghost use Rattle.ell_cards.specs.declared.view.Told.TheVariants.{Met};
-ghost use Rattle.ell_cards.specs.Models.{BeginsBy, Sees, Steps, flat_from, IsTold, InTable, EndWasUnknown, IsFree};
+ghost use Rattle.ell_cards.specs.Models.{BeginsBy, EndsBy, LooksBy, Sees, Steps, flat_from, IsTold, InTable, EndWasUnknown, IsFree};
 ghost use Rattle.ell_cards.specs.Changes.{after_begin, after_again, after_leave, after_answer, after_rest, after_upd};
 ghost use Rattle.ell_cards.specs.declared.call.Call.TheVariants as call;
 ghost use Rattle.ell_cards.specs.Guards.{MayBegin, MayAnswer, MayRead, MayGoDown, MayLookDown};
 ghost use Rattle.ell_cards.specs.Calls.{after, TellsKey, TellsLedgerValue};
 ghost use Rattle.ell_cards.specs.Stepping.{LetsGo};
-ghost use Rattle.ell_cards.specs.Looking.{KeysAreFixed, ValuesAreFixed, ReadsItsOwn, MissesItsOwn};
+ghost use Rattle.ell_cards.specs.Looking.{IsKnownInRun, KeysAreFixed, ValuesAreFixed, ReadsItsOwn, MissesItsOwn};
 
 use crate::call::Call;
 use crate::glance::{Glance, Stretch};
@@ -24,6 +24,7 @@ use crate::table::CardTable;
 use ell_ops::{Op, Reply};
 use ell_word::{Link, Update, unpack};
 use std::alloc::Allocator;
+use std::marker::Brand;
 
 impl<A: Allocator + Copy> CardTable<A> {
     /// Takes an operation on a key of the pass in hand, and stands at the root.
@@ -31,9 +32,9 @@ impl<A: Allocator + Copy> CardTable<A> {
     pub fn begin(&self, pass: &mut Pass<A>, op: Op)
         requires own { pass.old.table ≡ self.now.id }
         requires may { MayBegin pass.old.view op }
-        // It makes one step and counts it. The pass then knows exactly what this call tells, and counts slots that it
-        // could not take from here on.
-        ensures step { BeginsBy pass.old pass.new (after_begin (Some op) pass.old.view) }
+        // It makes one step and counts it. The pass then knows exactly what this call tells, is in a period if there are
+        // places, and counts slots that it could not take from here on.
+        ensures step { BeginsBy self.now.plan.slots pass.old pass.new (after_begin (Some op) pass.old.view) }
     {
         self.see_entered(pass, Call::Begin(op), root_key());
         pass.count(1);
@@ -60,8 +61,8 @@ impl<A: Allocator + Copy> CardTable<A> {
         requires may { MayStop (worker_of pass.old.view.worker) }
         // Where there are places, the pass has noted all that its card in hand made dead.
         requires noted { LetsGo self.now.plan pass.old }
-        // It makes one step and counts it. The pass then knows exactly what this call tells.
-        ensures step { Steps pass.old pass.new (after_leave pass.old.view) }
+        // It makes one step and counts it. The pass then knows exactly what this call tells, and is in no period.
+        ensures step { EndsBy pass.old pass.new (after_leave pass.old.view) }
         // The claims that the pass has tried were of cards of the table.
         ensures least { pass.old.view.next_at_least ≤ self.now.plan.last_card + 1 }
     {
@@ -76,8 +77,8 @@ impl<A: Allocator + Copy> CardTable<A> {
         requires may { MayAnswer pass.old.view said }
         // Where there are places, the pass has noted all that its card in hand made dead.
         requires noted { LetsGo self.now.plan pass.old }
-        // It makes one step and counts it. The pass then knows exactly what this call tells.
-        ensures step { Steps pass.old pass.new (after_answer said pass.old.view) }
+        // It makes one step and counts it. The pass then knows exactly what this call tells, and is in no period.
+        ensures step { EndsBy pass.old pass.new (after_answer said pass.old.view) }
         // The claims that the pass has tried were of cards of the table.
         ensures least { pass.old.view.next_at_least ≤ self.now.plan.last_card + 1 }
         // The answer on a key that the pass owns is that of the ledger, which becomes what the operation makes of it.
@@ -143,8 +144,9 @@ impl<A: Allocator + Copy> CardTable<A> {
     pub fn look(&self, pass: &mut Pass<A>) -> Link
         requires own { pass.old.table ≡ self.now.id }
         requires free { IsFree pass.old.view }
-        // It makes one step, which the caller has to count. The pass then knows exactly what this call tells.
-        ensures step { Sees pass.old pass.new (after call.Look (linked result) pass.old.view) }
+        // It makes one step, which the caller has to count. The pass then knows exactly what this call tells, and is in a
+        // period if there are places.
+        ensures step { LooksBy self.now.plan.slots pass.old pass.new (after call.Look (linked result) pass.old.view) }
         // The child is below the root, no deeper than a node of the table may be, and is one of the table; the node and
         // the tag have a word.
         ensures below { 0 < result.node }
@@ -181,11 +183,25 @@ impl<A: Allocator + Copy> CardTable<A> {
     pub fn end_look(&self, pass: &mut Pass<A>)
         requires own { pass.old.table ≡ self.now.id }
         requires free { IsFree pass.old.view }
-        // It makes one step and counts it. The pass then knows exactly what this call tells.
-        ensures step { Steps pass.old pass.new (after_rest pass.old.view) }
+        // It makes one step and counts it. The pass then knows exactly what this call tells, and is in no period.
+        ensures step { EndsBy pass.old pass.new (after_rest pass.old.view) }
+        // What the pass knew before is what turns have led to.
+        ensures known { IsKnownInRun self.now.plan pass.old.view }
     {
-        self.load(pass, Call::Rest, root_key());
+        self.forget(pass);
         self.withdraw(pass);
+    }
+
+    // The step call by which a pass forgets what a look told it, and where it had come to.
+    #[inline(always)]
+    fn forget(&self, pass: &mut Pass<A>)
+        requires own { pass.old.table ≡ self.now.id }
+        requires free { IsFree pass.old.view }
+        ensures step { Steps pass.old pass.new (after_rest pass.old.view) }
+        ensures known { IsKnownInRun self.now.plan pass.old.view }
+    {
+        self.load_as::<Brand>(pass, Call::Rest, root_key());
+        pass.count(1);
     }
 
     /// Reads the key of a node that the pass has met. For the leaf where the pass stands, it is the operation's key

@@ -20,7 +20,8 @@ use Rattle.ell_tree.specs.Called.{AnsweredLast, AnsweredNoChange, ByItsDeed, IsT
 use Rattle.ell_tree.specs.Ends.{Answers, LaidDown, NoneIsLeft, TakesValue, find_steps, slot_steps, try_steps}
 use Rattle.ell_tree.specs.Ledgers.{TreeModel, present_in, Owns, answers, IsIdle}
 
--- a pass has the keys that it had, present with their values or absent as they were, and nothing in hand
+-- a pass has the keys that it had, present with their values or absent as they were, and nothing in hand; and it is in no
+-- period if it was in none
 pub record IsUntouched (old new : PassModel) : Type 0 where
   pub table : new.table ≡ old.table
   pub label : new.label ≡ old.label
@@ -30,6 +31,7 @@ pub record IsUntouched (old new : PassModel) : Type 0 where
   pub called : AnsweredNoChange old.view.answers new.view.answers
   pub share : SameShare old.view new.view
   pub idle : IsIdle new
+  pub outside : old.inside ≡ false → new.inside ≡ false
 
 -- a call that is made of several operations has ended by this one, which was answered so, and those before it have
 -- changed nothing of what the pass has. On a key of the pass's own: as a map answers it that has the pass's keys
@@ -48,6 +50,7 @@ pub record Concludes (t : TreeModel) (op : Op) (said : Reply) (old new : PassMod
   pub called : ByItsDeed op said (λ deed. AnsweredLast deed old.view.answers new.view.answers)
   pub share : SameShare old.view new.view
   pub idle : IsIdle new
+  pub outside : new.inside ≡ false
 
 -- the key had this value, or none, at the point of a find, or of a swap of another value, which changes nothing
 abbrev pub ReadsValue : TreeModel → ℕ → Option ℕ → PassModel → PassModel → Type 0

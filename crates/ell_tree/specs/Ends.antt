@@ -35,9 +35,10 @@ pub record Answers (t : TreeModel) (op : Op) (said : Reply) (old new : PassModel
   pub called : ByItsDeed op said (λ deed. new.view.answers ≡ deed old.view.answers ∷ old.view.answers)
   pub share : SameShare old.view new.view
   pub idle : IsIdle new
+  pub outside : new.inside ≡ false
 
--- an operation was laid down without an answer: the ledger is as it was, nothing is in hand, and of an own key it would
--- change the map. Whoever may change the key, in every run of the tree in which the pass now knows this, the call
+-- an operation was laid down without an answer: the ledger is as it was, nothing is in hand, the pass is in no period,
+-- and of an own key it would change the map. Whoever may change the key, in every run of the tree in which the pass now knows this, the call
 -- changes nothing, neither before nor later
 pub record LaidDown (t : TreeModel) (op : Op) (old new : PassModel) : Type 0 where
   pub table : new.table ≡ old.table
@@ -49,6 +50,7 @@ pub record LaidDown (t : TreeModel) (op : Op) (old new : PassModel) : Type 0 whe
   pub would : Owns old (key_of op) → reply_of op (present_in old) ≡ reply_of_change op
   pub nothing : IsLaidDownInRuns t.plan new.view op
   pub idle : IsIdle new
+  pub outside : new.inside ≡ false
   pub no_card : new.view.worker.card ≡ None
 
 -- whether an operation is a delete

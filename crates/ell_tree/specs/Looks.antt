@@ -3,7 +3,7 @@ use Rattle.ell_cards.specs.declared.view.Slots.{Slots}
 use Rattle.ell_cards.specs.declared.view.View.{View}
 use Rattle.ell_cards.specs.Changes.{after_rest}
 use Rattle.ell_cards.specs.Looking.{HasThere, IsFoundInRuns}
-use Rattle.ell_cards.specs.Models.{PassModel, Steps}
+use Rattle.ell_cards.specs.Models.{EndsBy, PassModel}
 use Rattle.ell_tree.specs.Ledgers.{TreeModel}
 
 -- a pass has at most so many steps more, by both its counts, and was told more, and all else that it has and knows of
@@ -42,7 +42,7 @@ stretch_steps most = 2 * most + 2
 -- it; in any other tree it is as it was
 abbrev pub EndsLooks : Option Slots → PassModel → PassModel → Type 0
 EndsLooks None old new = new ≡ old
-EndsLooks (Some s) old new = Steps old new (after_rest old.view)
+EndsLooks (Some s) old new = EndsBy old new (after_rest old.view)
 
 -- what a look found of a key was so in one state of the tree since it began, in every run in which its pass now knows
 -- this

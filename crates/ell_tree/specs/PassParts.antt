@@ -30,6 +30,7 @@ pub record IsFirst (t : TreeModel) (p : PassModel) : Type 0 where
   pub share : p.view.share ≡ whole_share
   pub ownable : p.view.worker.shared ≡ ownable_if t.plan.shared t.plan.keys
   pub idle : IsIdle p
+  pub outside : p.inside ≡ false
 
 -- the left part of a pass: it has these keys as the pass had them, and keeps the counts and the safe number; of the
 -- steps made, the split is its own
@@ -49,8 +50,9 @@ pub record IsLeftPart (keys : List ℕ) (p part : PassModel) : Type 0 where
   pub share : part.view.share ≡ p.view.share - given_share p.view.share
   pub ownable : part.view.worker.shared ≡ p.view.worker.shared
   pub idle : IsIdle part
+  pub inside : part.inside ≡ p.inside
 
--- the right part: it has the other keys, and counts anew; it has looked at no place yet
+-- the right part: it has the other keys, and counts anew; it is in no period, and has looked at no place yet
 pub record IsRightPart (keys : List ℕ) (p part : PassModel) : Type 0 where
   pub own : part.table ≡ p.table
   pub ledger : (k : ℕ) → ledger part k ≡ (if set_of keys k then None else ledger p k)
@@ -67,6 +69,7 @@ pub record IsRightPart (keys : List ℕ) (p part : PassModel) : Type 0 where
   pub share : part.view.share ≡ given_share p.view.share
   pub ownable : part.view.worker.shared ≡ p.view.worker.shared
   pub idle : IsIdle part
+  pub outside : part.inside ≡ false
 
 -- an entry of one ledger, or else of another
 abbrev pub or_else : Option Entry → Option Entry → Option Entry
@@ -93,3 +96,4 @@ pub record IsUnion (left right both : PassModel) : Type 0 where
   pub share : both.view.share ≡ (left.view.share + right.view.share) % 2 ^ 64
   pub ownable : both.view.worker.shared ≡ option_or left.view.worker.shared right.view.worker.shared
   pub idle : IsIdle both
+  pub inside : both.inside ≡ left.inside

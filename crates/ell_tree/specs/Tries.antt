@@ -86,6 +86,7 @@ pub record Lays (op : Op) (old new : PassModel) : Type 0 where
   pub facts : new.view.worker.knows ≡ old.view.worker.knows
   pub least : new.view.next_at_least ≡ old.view.next_at_least
   pub idle : IsIdle new
+  pub outside : new.inside ≡ false
   pub no_card : new.view.worker.card ≡ None
   pub taken : TakesNoCard old new
   pub took : Took old new 1

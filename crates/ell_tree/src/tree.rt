@@ -19,6 +19,7 @@ ghost use Rattle.ell_tree.specs.Ends.{Answers, CountsTries, Ends, TakesValue, fi
 ghost use Rattle.ell_tree.specs.Milestones.{milestones_known};
 ghost use Rattle.ell_tree.specs.declared.operations.NotDone.TheVariants.{Busy};
 ghost use Rattle.ell_tree.specs.Ledgers.{IsIdlePassOf, Owns, TreeModel, present_in};
+ghost use Rattle.ell_cards.specs.Looking.{IsKnownInRun};
 ghost use Rattle.ell_tree.specs.Looks.{EndsLooks, IsFoundIn, OnlyLooks, look_steps};
 ghost use Rattle.ell_tree.specs.Scans.{AreFoundIn, AreInOrder, IsAbout, IsFoundAboutIn, IsLastIn, IsNextIn, TellsItsOwn, end_of, scan_steps, value_there, written};
 ghost use Rattle.ell_ops.specs.Contents.{contents_of};
@@ -147,10 +148,16 @@ impl<A: Allocator + Copy> Tree<A> {
         requires may { IsIdlePassOf self.now pass.old }
         // The pass knows no node any more that a look has told it; or, where no card comes back, it is as it was.
         ensures ends { EndsLooks self.now.plan.slots pass.old pass.new }
+        // It is in no period: no card is held back for it.
+        ensures outside { pass.new.inside ≡ false }
+        // What the pass knew before is what a run of the tree led to.
+        ensures known { self.now.plan.slots ≢ None → IsKnownInRun self.now.plan pass.old.view }
     {
         if self.table.has_places() {
             gate.before(pass.label(), Kind::Look);
             self.table.end_look(pass);
+        } else {
+            self.table.periods_have_places(pass);
         }
     }
 

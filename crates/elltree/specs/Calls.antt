@@ -4,6 +4,7 @@ use Rattle.ell_ops.specs.declared.op.Op.TheVariants.{Delete, Find, Insert, Swap}
 use Rattle.ell_ops.specs.declared.reply.Reply.{Reply}
 use Rattle.ell_ops.specs.Contents.{contents_of}
 use Rattle.ell_ops.specs.Meaning.{found, greatest_key, key_of}
+use Rattle.ell_cards.specs.Looking.{IsKnownInRun}
 use Rattle.ell_cards.specs.Models.{PassModel}
 use Rattle.ell_cards.specs.declared.view.View.{View}
 use Rattle.ell_tree.specs.CardsLeft.{AreLeftAtMost, ReadsCardsLeft}
@@ -33,13 +34,15 @@ pub record Finds (key : ℕ) (old new : Handle) (there : Option ℕ) : Type 0 wh
   pub tree : new.tree ≡ old.tree
 
 -- a call that only looks, once, in at most so many steps: the pass came to `looked`, and knew this by then; where cards
--- come back, it has then ended the look, by one step more, and elsewhere the handle has that pass
+-- come back, a run of the tree led there, and the pass has then ended the look, by one step more; and elsewhere the
+-- handle has that pass
 pub record HasLooked (old new : Handle) (steps : ℕ) (IsKnown : View → Type 0) : Type 0 where
   pub looked : PassModel
   pub so : IsKnown looked.view
   pub one : looked.view.looks ≡ old.pass.view.looks + 1
   pub only : OnlyLooks old.pass looked steps
   pub cards : TakesNoCard old.pass looked
+  pub known : (tree_of old).plan.slots ≢ None → IsKnownInRun (tree_of old).plan looked.view
   pub ends : EndsLooks (tree_of old).plan.slots looked new.pass
   pub tree : new.tree ≡ old.tree
 

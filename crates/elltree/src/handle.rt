@@ -1,5 +1,5 @@
 //! A tree and a pass of it.
-ghost use Rattle.std.specs.Prelude.{◌≡◌, true, []};
+ghost use Rattle.std.specs.Prelude.{◌≡◌, true, false, []};
 ghost use Rattle.std.specs.Arc.{arc_value};
 ghost use Rattle.ell_cards.specs.Changes.{ownable_if};
 ghost use Rattle.ell_tree.specs.Ledgers.{IsIdle};
@@ -55,14 +55,15 @@ impl HandlePlace {
     }
 }
 
-/// A tree in which every key up to `KEY_MAX` is shared, and a pass of it with nothing in hand. It may go from one thread
-/// to another. How many cards a change takes is promised only in a tree whose cards do not come back (`open`).
+/// A tree in which every key up to `KEY_MAX` is shared, and a pass of it with nothing in hand, which is in no period: in a
+/// tree whose cards come back, a handle in no call holds none of them back. It may go from one thread to another. How many cards a change takes is promised only in a tree whose cards do not come back (`open`).
 #[derive(Drop)]
 pub struct Handle {
     pub tree: Arc<Tree<Global>, Global>,
     pub pass: Pass<Global>,
     ghost own: { pass.table ≡ (arc_value tree).id },
     ghost idle: { IsIdle pass },
+    ghost outside: { pass.inside ≡ false },
     ghost shared: { (arc_value tree).plan.shared ≡ true },
     ghost alone: { (arc_value tree).plan.keys ≡ [] },
     ghost knows: { pass.view.worker.shared ≡ ownable_if true [] },

@@ -1,5 +1,7 @@
 -- updates and their words
 pub mod Updates
+-- what an exchange of an update word leaves of a pass, by its answer
+pub mod Outcomes
 -- words of a list and of the machine, at a field of a card
 pub mod Fields
 -- keys: which are among a list, and which are a ledger's

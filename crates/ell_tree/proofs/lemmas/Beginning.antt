@@ -1,7 +1,8 @@
 use Rattle.std.proofs.Common.{◌++◌, Option, Some, [], refl, sym, ap, subst}
 use Rattle.ell_ops.specs.declared.op.Op.{Op}
+use Rattle.ell_cards.specs.declared.view.Slots.{Slots}
 use Rattle.ell_cards.specs.declared.view.View.{View}
-use Rattle.ell_cards.specs.Models.{BeginsBy, PassModel, Steps, Does, latest}
+use Rattle.ell_cards.specs.Models.{BeginsBy, EndsBy, PassModel, Steps, Does, latest}
 use Rattle.ell_cards.specs.Changes.{after_begin, after_again, after_leave, in_the_way, tries_hindered}
 use Rattle.ell_tree.specs.Hindrances.{way_of}
 use Rattle.ell_tree.specs.Searches.{AtRoot}
@@ -11,8 +12,8 @@ use Rattle.ell_tree.proofs.lemmas.Meeting.{root_way}
 use Rattle.ell_tree.proofs.lemmas.Hindrances.{root_hindered}
 
 -- an operation that was taken in hand stands at the root
-pub begins : (old new : PassModel) (op : Op) → BeginsBy old new (after_begin (Some op) old.view) → Begins op [] old.view.hindered old new
-begins old new op s = subst (λ (m : PassModel). Begins op [] old.view.hindered old m) (sym s) (record {
+pub begins : (slots : Option Slots) (old new : PassModel) (op : Op) → BeginsBy slots old new (after_begin (Some op) old.view) → Begins op [] old.view.hindered old new
+begins slots old new op s = subst (λ (m : PassModel). Begins op [] old.view.hindered old m) (sym s) (record {
   table = refl;
   label = refl;
   ledger = refl;
@@ -73,7 +74,7 @@ begins_first p op at = record {
 }
 
 -- an operation that is laid down
-pub lays : (old new : PassModel) (op : Op) → Steps old new (after_leave old.view) → Does old.view op → Lays op old new
+pub lays : (old new : PassModel) (op : Op) → EndsBy old new (after_leave old.view) → Does old.view op → Lays op old new
 lays old new op s busy = subst (λ (m : PassModel). Lays op old m) (sym s) (record {
   laid = busy;
   table = refl;
@@ -92,7 +93,8 @@ lays old new op s busy = subst (λ (m : PassModel). Lays op old m) (sym s) (reco
   facts = refl;
   least = refl;
   idle = refl;
+  outside = refl;
   no_card = refl;
   taken = refl;
-  took = took_one old (after_leave old.view) refl;
+  took = let one = took_one old (after_leave old.view) refl in record { steps = one.steps; made = one.made };
 })

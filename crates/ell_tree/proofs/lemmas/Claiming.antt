@@ -72,7 +72,7 @@ may_claim_at plan old new c node_key op place s busy hand low at calm wants =
     (ap (λ (r : Search). r.node) at.search) at.told (ap (λ (r : Search). r.parent) at.search) (clean_word place.parent.update.state place.parent.update.card calm) wants
 
 -- a pass that takes a slot after its steps, or finds it in use, keeps what it kept
-pub keeps_slot : (plan : TablePlan) (a d e : PassModel) (n : ℕ) → KeepsIn plan a d n → e ≡ record d { slot = e.slot; safe = e.safe; sought = e.sought } → KeepsIn plan a e n
+pub keeps_slot : (plan : TablePlan) (a d e : PassModel) (n : ℕ) → KeepsIn plan a d n → e ≡ record d { slot = e.slot; safe = e.safe; surveyed = e.surveyed; sought = e.sought } → KeepsIn plan a e n
 keeps_slot plan a d e n k same = record {
   table = ap (λ (p : PassModel). p.table) same ∙ k.table;
   label = ap (λ (p : PassModel). p.label) same ∙ k.label;
@@ -83,7 +83,7 @@ keeps_slot plan a d e n k same = record {
 }
 
 -- A pass read the claim word, and then perhaps found another safe number. It may claim the next card then.
-module _ (a b e : PassModel) (first node_key : ℕ) (read : Steps a b (after_next first a.view)) (same : e ≡ record b { safe = e.safe; sought = e.sought }) (low : a.view.next_at_least ≤ first) where
+module _ (a b e : PassModel) (first node_key : ℕ) (read : Steps a b (after_next first a.view)) (same : e ≡ record b { safe = e.safe; surveyed = e.surveyed; sought = e.sought }) (low : a.view.next_at_least ≤ first) where
   pub may_claim_there : (plan : TablePlan) (op : Op) (place : Place) → Does a.view op → HoldsAside plan a → IsAt a.view place → place.parent.update.state ≡ state.Clean
       → Wants (flat_from plan) a.view op place.parent.node place.node place.key node_key → MayClaim (flat_from plan) e.view first node_key
   may_claim_there plan op place busy hand at calm wants =
@@ -165,7 +165,7 @@ module _ (a b e : PassModel) (first node_key : ℕ) (read : Steps a b (after_nex
 
     -- also once its slot is taken, and nothing was in the way
     pub taken_claims : (plan : TablePlan) (op : Op) (place : Place) (f : PassModel) → ClaimsAll true → Does a.view op → IsAt a.view place
-        → 1 ≤ first → last ≤ plan.last_card → f ≡ record d { slot = f.slot; safe = f.safe; sought = f.sought } → HasSlotOf plan last f → Claims plan op place node_key a f (claimed.Card last)
+        → 1 ≤ first → last ≤ plan.last_card → f ≡ record d { slot = f.slot; safe = f.safe; surveyed = f.surveyed; sought = f.sought } → HasSlotOf plan last f → Claims plan op place node_key a f (claimed.Card last)
     taken_claims plan op place f s busy at some room took slot =
         let view = ap (λ (p : PassModel). p.view) took in (
           subst (λ (w : View). HasCard op place (expected_tag a.view) (filling_of last node_key a.view) w last) (sym view) (has_card op place s busy at),
@@ -177,7 +177,7 @@ module _ (a b e : PassModel) (first node_key : ℕ) (read : Steps a b (after_nex
 
     -- or it may be laid aside
     pub in_vain : (plan : TablePlan) (f : PassModel) → plan.slots ≢ None → plan.flat ≡ true → ClaimsAll true → IsFresh plan e.slot true last
-        → f ≡ record d { safe = f.safe; sought = f.sought } → e.sought.missed ≡ b.sought.missed → is_found e.sought.found (slot_of last) ≡ true → f.sought ≡ missed_one (slot_of last) d.sought
+        → f ≡ record d { safe = f.safe; surveyed = f.surveyed; sought = f.sought } → e.sought.missed ≡ b.sought.missed → is_found e.sought.found (slot_of last) ≡ true → f.sought ≡ missed_one (slot_of last) d.sought
         → IfSome plan.slots (λ o. f.sought.missed ≤ o.last + 1) → ClaimsInVain plan a f
     in_vain plan f places flat s fresh kept none found missed few =
         let view = ap (λ (p : PassModel). p.view) kept in

@@ -68,12 +68,13 @@ untouched_by t op said p q leaves other h = let last = its_deed op said (λ deed
   answered = let one = h.answered in omega arith;
   share = h.share;
   idle = h.idle;
+  outside = λ was. h.outside;
 }
 
 -- so is one whose ledger is as it was
 pub untouched_still : (p q : PassModel) → q.table ≡ p.table → q.label ≡ p.label → q.view.worker.ledger ≡ p.view.worker.ledger → q.view.answers ≡ p.view.answers → SameShare p.view q.view
-    → IsIdle q → IsUntouched p q
-untouched_still p q table label ledgers said share idle = let same : ledger q ≡ ledger p = ap ledger_of ledgers in record {
+    → IsIdle q → q.inside ≡ false → IsUntouched p q
+untouched_still p q table label ledgers said share idle outside = let same : ledger q ≡ ledger p = ap ledger_of ledgers in record {
   table = table;
   label = label;
   map = λ key. ap (λ f. contents_in f key) same;
@@ -82,11 +83,12 @@ untouched_still p q table label ledgers said share idle = let same : ledger q �
   called = record { calls = []; is = said; none = tt };
   share = share;
   idle = idle;
+  outside = λ was. outside;
 }
 
 -- and one that lays an operation down
 pub untouched_laid : (t : TreeModel) (op : Op) (p q : PassModel) → LaidDown t op p q → IsUntouched p q
-untouched_laid t op p q h = untouched_still p q h.table h.label h.ledger h.called h.share h.idle
+untouched_laid t op p q h = untouched_still p q h.table h.label h.ledger h.called h.share h.idle h.outside
 
 pub untouched_trans : (p q r : PassModel) → IsUntouched p q → IsUntouched q r → IsUntouched p r
 untouched_trans p q r g h = record {
@@ -98,6 +100,7 @@ untouched_trans p q r g h = record {
   answered = let one = g.answered in let more = h.answered in omega arith;
   share = share_trans p.view q.view r.view g.share h.share;
   idle = h.idle;
+  outside = λ was. h.outside (g.outside was);
 }
 
 -- an operation after others that have changed nothing concludes a call
@@ -116,6 +119,7 @@ concludes t op said p q r g h =
       answered = let one = h.answered in let more = g.answered in omega arith;
       share = share_trans p.view q.view r.view g.share h.share;
       idle = h.idle;
+      outside = h.outside;
     }
 
 -- so does one before which others have changed nothing
@@ -134,6 +138,7 @@ concludes_after t op said p q r g h =
       answered = let one = h.answered in let more = g.answered in omega arith;
       share = share_trans p.view q.view r.view g.share h.share;
       idle = h.idle;
+      outside = h.outside;
     }
 
 pub reads_after : (t : TreeModel) (key : ℕ) (was : Option ℕ) (p q r : PassModel) → IsUntouched p q → ReadsValue t key was q r → ReadsValue t key was p r
@@ -158,6 +163,7 @@ reads_keep t op said p q leaves other h = let d = its_deed op said (λ deed. Ans
   answered = let one = h.answered in omega arith;
   share = h.share;
   idle = h.idle;
+  outside = λ was. h.outside;
 }
 
 -- a find leaves everything
@@ -209,6 +215,7 @@ untouched_self p idle = record {
   answered = omega arith;
   share = record { share = refl; ownable = refl };
   idle = idle;
+  outside = λ was. was;
 }
 
 -- where an insert of an own key answers no, the key was there

@@ -1,7 +1,8 @@
 use Rattle.std.proofs.Math.Nat.{mul-le-mul_right}
-use Rattle.std.proofs.Common.{◌≡◌, None, ℕ, ◌+◌, ◌*◌, ◌≤◌, ◌<◌, zero, suc, refl, sym, ap, ap₂, ◌∙◌, ◌-◌, arith}
+use Rattle.std.proofs.Common.{◌≡◌, Option, None, ℕ, ◌+◌, ◌*◌, ◌≤◌, ◌<◌, zero, suc, refl, sym, ap, ap₂, ◌∙◌, ◌-◌, arith}
+use Rattle.ell_cards.specs.declared.view.Slots.{Slots}
 use Rattle.ell_cards.specs.declared.view.View.{View}
-use Rattle.ell_cards.specs.Models.{TablePlan, PassModel, Counts, Sees, one_more, some_more}
+use Rattle.ell_cards.specs.Models.{TablePlan, PassModel, Counts, LooksBy, Sees, one_more, some_more}
 use Rattle.ell_tree.specs.Counts.{CountsAll, HasUncounted, Took, TookIn}
 
 -- no steps
@@ -9,16 +10,23 @@ pub took_none : (a : PassModel) (n : ℕ) → Took a a n
 took_none a n = record { steps = omega arith; made = omega arith }
 
 -- one step, to this view
-pub took_one : (a : PassModel) (v : View) → v.made ≡ a.view.made + 1 → Took a (record { table = a.table; view = v; steps = one_more a.steps; label = a.label; safe = a.safe; slot = a.slot; sought = a.sought }) 1
+pub took_one : (a : PassModel) (v : View) → v.made ≡ a.view.made + 1 → Took a (record a { view = v; steps = one_more a.steps }) 1
 took_one a v made = record { steps = omega arith; made = omega (arith, made) }
 
 -- one step to this view that is not counted yet
-pub took_unseen : (a : PassModel) (v : View) → v.made ≡ a.view.made + 1 → Took a (record { table = a.table; view = v; steps = a.steps; label = a.label; safe = a.safe; slot = a.slot; sought = a.sought }) 1
+pub took_unseen : (a : PassModel) (v : View) → v.made ≡ a.view.made + 1 → Took a (record a { view = v }) 1
 took_unseen a v made = record { steps = omega arith; made = omega (arith, made) }
 
 -- steps that are not counted yet, one after the other
 pub uncounted_one : (a b : PassModel) (v : View) → Sees a b v → v.made ≡ a.view.made + 1 → HasUncounted a b 1
 uncounted_one a b v s made = record { steps = ap (λ (m : PassModel). m.steps) s; made = ap (λ (m : PassModel). m.view.made) s ∙ made }
+
+-- so is one that begins a look
+pub look_uncounted : (slots : Option Slots) (a b : PassModel) (v : View) → LooksBy slots a b v → v.made ≡ a.view.made + 1 → HasUncounted a b 1
+look_uncounted slots a b v s more = record {
+  steps = ap (λ (m : PassModel). m.steps) s;
+  made = ap (λ (m : PassModel). m.view.made) s ∙ more;
+}
 
 pub uncounted_none : (a : PassModel) → HasUncounted a a 0
 uncounted_none a = record { steps = refl; made = omega arith }

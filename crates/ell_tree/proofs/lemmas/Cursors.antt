@@ -16,10 +16,11 @@ use Rattle.ell_cards.specs.declared.view.View.{View}
 use Rattle.ell_cards.proofs.lemmas.views.Afters.{after_look, after_look_down, after_key_of, after_value_of}
 use Rattle.ell_cards.specs.Guards.{MayLookDown, TellsOf}
 use Rattle.ell_cards.specs.Looking.{HasFound, HasFoundBetween, TellsBetween, ReadsItsOwn, MissesItsOwn}
-use Rattle.ell_cards.specs.Models.{PassModel, Counts, Sees, Has, HasCome, HasComeWhole, latest, earlier, IsTold, InTable}
+use Rattle.ell_cards.specs.declared.view.Slots.{Slots}
+use Rattle.ell_cards.specs.Models.{PassModel, Counts, Sees, Has, HasCome, HasComeWhole, latest, earlier, IsTold, InTable, LooksBy}
 use Rattle.ell_cards.proofs.lemmas.views.Steps.{view_seen}
 use Rattle.ell_tree.specs.Counts.{HasUncounted}
-use Rattle.ell_tree.proofs.lemmas.Counts.{uncounted_one}
+use Rattle.ell_tree.proofs.lemmas.Counts.{look_uncounted, uncounted_one}
 use Rattle.ell_tree.specs.declared.cursor.About.{About}
 use Rattle.ell_tree.specs.declared.cursor.Cursor.{Cursor}
 use Rattle.ell_tree.specs.Cursors.{AreKept, BeginsALook, FindsAbout, IsAmong, MayGoOnFrom, kept_at, IsLower, IsNodeKey, IsUpper, KeepsLooking, IsWithin, TellsOfLeaf}
@@ -126,16 +127,16 @@ all_on cards p q n c h k = record {
 }
 
 -- a look begins at a node to which all real keys come
-pub begins_look : (old seen new : PassModel) (n : ℕ) → Sees old seen (after_look n old.view) → Counts seen new 1 → BeginsALook old new
-begins_look old seen new n s counts = record {
-  only = only_counted old seen new 1 1 (look_only old seen n s) (uncounted_one old seen (after_look n old.view) s refl) counts;
-  one = ap (λ (m : PassModel). m.view.looks) counts ∙ ap (λ (v : View). v.looks) (view_seen old seen (after_look n old.view) s);
+pub begins_look : (slots : Option Slots) (old seen new : PassModel) (n : ℕ) → LooksBy slots old seen (after_look n old.view) → Counts seen new 1 → BeginsALook old new
+begins_look slots old seen new n s counts = let view : seen.view ≡ after_look n old.view = ap (λ (m : PassModel). m.view) s in record {
+  only = only_counted old seen new 1 1 (look_only slots old seen n s) (look_uncounted slots old seen (after_look n old.view) s refl) counts;
+  one = ap (λ (m : PassModel). m.view.looks) counts ∙ ap (λ (v : View). v.looks) view;
 }
 
-pub first_kept : (cards : ℕ) (old new : PassModel) (n child : ℕ) → (link_in n).node ≡ child → Sees old new (after_look n old.view) → 0 < child → InTable cards child
+pub first_kept : (slots : Option Slots) (cards : ℕ) (old new : PassModel) (n child : ℕ) → (link_in n).node ≡ child → LooksBy slots old new (after_look n old.view) → 0 < child → InTable cards child
     → MayGoOnFrom cards new.view (record { node = child; low = 0; high = greatest_key + 1; whole = false })
-first_kept cards old new n child says s low there =
-    let view = view_seen old new (after_look n old.view) s in
+first_kept slots cards old new n child says s low there =
+    let view : new.view ≡ after_look n old.view = ap (λ (m : PassModel). m.view) s in
     let g : Glance = record { node = (link_in n).node; low = 0; high = greatest_key + 1; whole = true } in
     record {
       come = subst (λ (v : View). HasCome v child 0 (greatest_key + 1)) (sym view)

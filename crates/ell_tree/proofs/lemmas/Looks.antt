@@ -10,7 +10,8 @@ use Rattle.ell_cards.specs.declared.view.Told.TheVariants.{Met, Key, Value}
 use Rattle.ell_cards.specs.declared.glance.Glance.{Glance}
 use Rattle.ell_cards.specs.declared.glance.Stretch.{Stretch}
 use Rattle.ell_cards.specs.declared.view.View.{View}
-use Rattle.ell_cards.specs.Models.{TablePlan, flat_from, PassModel, Counts, Sees, some_more, HasCome, HasComeWhole, latest, earlier, IsTold, InTable}
+use Rattle.ell_cards.specs.declared.view.Slots.{Slots}
+use Rattle.ell_cards.specs.Models.{TablePlan, flat_from, PassModel, Counts, Sees, some_more, HasCome, HasComeWhole, latest, earlier, IsTold, InTable, LooksBy}
 use Rattle.ell_cards.proofs.lemmas.views.Afters.{after_look, after_look_down, after_key_of, after_value_of}
 use Rattle.ell_cards.specs.Guards.{GoOnBy, MayLookDown}
 use Rattle.ell_cards.specs.Looking.{HasFound, HasFoundBetween, ReadsItsOwn, MissesItsOwn, HasMissed}
@@ -72,7 +73,7 @@ only_none_yet a = record {
 
 -- a step that moves no more than the look
 only_step : (old new : PassModel) (told : List Told) (here : Option ℕ) (glances : List Glance) (looks : ℕ)
-    → Sees old new (record (old.view) { told = told; here = here; glances = glances; looks = looks; made = old.view.made + 1 })
+    → {inside : Bool} → new ≡ record old { view = record (old.view) { told = told; here = here; glances = glances; looks = looks; made = old.view.made + 1 }; inside = inside }
     → OnlyLooks old new 1
 only_step old new told here glances looks s = subst (λ (m : PassModel). OnlyLooks old m 1) (sym s) (record {
   table = refl;
@@ -121,8 +122,8 @@ only_counted a b c n k h u s =
     })
 
 -- the steps of a look
-pub look_only : (old new : PassModel) (n : ℕ) → Sees old new (after_look n old.view) → OnlyLooks old new 1
-look_only old new n s = only_step old new _ _ _ _ s
+pub look_only : (slots : Option Slots) (old new : PassModel) (n : ℕ) → LooksBy slots old new (after_look n old.view) → OnlyLooks old new 1
+look_only slots old new n s = only_step old new _ _ _ _ s
 
 pub down_only : (old new : PassModel) (from : Glance) (to : Stretch) (right : Bool) (n : ℕ) → Sees old new (after_look_down from to right n old.view)
     → OnlyLooks old new 1
@@ -156,15 +157,15 @@ pub record Comes (plan : TablePlan) (old new : PassModel) (key : ℕ) (here : Gl
   pub there : InTable plan.last_card here.node
   pub one : new.view.looks ≡ old.view.looks + 1
 
-pub comes_first : (plan : TablePlan) (old new : PassModel) (key n child : ℕ) → (link_in n).node ≡ child → key ≤ greatest_key → Sees old new (after_look n old.view)
+pub comes_first : (plan : TablePlan) (old new : PassModel) (key n child : ℕ) → (link_in n).node ≡ child → key ≤ greatest_key → LooksBy plan.slots old new (after_look n old.view)
     → IsShallow (deepest plan) new.view child → InTable plan.last_card child
     → Comes plan old new key (record { node = child; low = 0; high = greatest_key + 1; whole = true })
 comes_first plan old new key n child says real s shallow there =
-    let view = view_seen old new (after_look n old.view) s in
+    let view : new.view ≡ after_look n old.view = ap (λ (m : PassModel). m.view) s in
     let glance : Glance = record { node = (link_in n).node; low = 0; high = greatest_key + 1; whole = true } in
     record {
       count = 1;
-      only = look_only old new n s;
+      only = look_only plan.slots old new n s;
       few = (let deep = went_deeper (record (old.view) { told = forgotten }) new.view (after_look n old.view) 0 (link_in n).node child view says refl in omega arith);
       shallow = shallow;
       come = subst (λ (v : View). HasCome v child 0 (greatest_key + 1)) (sym view)

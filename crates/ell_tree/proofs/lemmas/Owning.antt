@@ -55,6 +55,7 @@ answers_before t op said p q r table label same count share h =
       called = subst (λ (l : List Deed). ByItsDeed op said (λ deed. r.view.answers ≡ deed l ∷ l)) count h.called;
       share = share_trans p.view q.view r.view share h.share;
       idle = h.idle;
+      outside = h.outside;
     }
 
 -- so is the value that a change added or took

@@ -67,6 +67,7 @@ halts_laid t op p q r s n begins halts lays = record {
   would = would_before op p q begins.ledger halts.would;
   nothing = laid_down_last_changes_nothing t.plan s.view op lays.laid;
   idle = lays.idle;
+  outside = lays.outside;
   no_card = lays.no_card;
 }
 

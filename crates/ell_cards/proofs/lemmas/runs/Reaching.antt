@@ -18,7 +18,7 @@ use Rattle.ell_cards.specs.States.{TableState}
 use Rattle.ell_cards.specs.Machines.{HasMachine}
 use Rattle.ell_cards.specs.Turns.{Turn, Makes, TableTurns, TableRun, found_by, view_after, state_after}
 use Rattle.ell_cards.specs.Starts.{MayStart, Starts, IsReached, RunFromStart}
-use Rattle.ell_cards.specs.Looking.{KeysAreFixed, ValuesAreFixed}
+use Rattle.ell_cards.specs.Looking.{IsKnownInRun, KeysAreFixed, ValuesAreFixed}
 use Rattle.ell_cards.specs.Shown.{cut_by, shown, shown_call, IsNoClaim}
 use Rattle.ell_cards.specs.Naming.{IsPlaced}
 use Rattle.ell_cards.specs.Stepping.{MayTell, IsTaken}
@@ -51,6 +51,10 @@ pub led_kept : (plan : TablePlan) (first : TableState) → Starts plan first →
     → TableRun plan first turns s → HasMachine plan s
 led_kept plan first starts turns s run =
     (runs_are_lawful plan first (starts_are_kept plan first starts).kept turns s run).kept
+
+-- what a call that ends a look may tell
+abbrev pub TellsKnown : TablePlan → View → ℕ → View → Type 0
+TellsKnown plan v n w = IsTaken plan call.Rest v n w × IsKnownInRun plan v
 
 module _ (plan : TablePlan) where
   module _ (s : TableState) (h : IsReached plan s) where
@@ -128,6 +132,13 @@ module _ (plan : TablePlan) where
       subst (λ (d : Call). IsTaken plan d v (cut_by whole n) (shown now)) same
       (subst (λ (u : View). IsTaken plan (shown_call whole) u (cut_by whole n) (shown now)) is
       (takings_are_shown plan whole w n now (plain_whole whole (subst IsNoClaim (sym same) plain)) apart later may can (calls_leave whole w may s h id here placed)))
+
+  -- the call that ends a look tells that turns have led to what the pass knew before
+  pub tells_known : (v : View) → MayTell plan call.Rest v (TellsKnown plan v)
+  tells_known v s h id w here is apart whole same may can placed later = (
+    calls_tell call.Rest v tt s h id w here is apart whole same may can placed later,
+    record { state = s; reached = h; seat = id; knows = w; there = here; shows = is; apart = apart },
+  )
 
   -- a fill tells nothing of what it found
   pub fill_tells : (c : ℕ) (f : Field) (value : ℕ) (v : View)

@@ -11,6 +11,7 @@ use Rattle.ell_layout.specs.Layout.{address, table_size}
 use Rattle.ell_layout.proofs.lemmas.Listed.{place_small}
 use Rattle.ell_cards.specs.declared.call.Call.{Call}
 use Rattle.ell_cards.specs.declared.call.Call.TheVariants as call
+use Rattle.ell_cards.specs.declared.view.Slots.{Slots}
 use Rattle.ell_cards.specs.declared.view.View.{View}
 use Rattle.ell_cards.specs.declared.view.Told.TheVariants.{Met, Info}
 use Rattle.ell_cards.specs.Models.{KnowsCard, PassModel, Sees, Steps}
@@ -133,12 +134,12 @@ word_fits plan _ v may last named = omega arith
 
 -- a pass after one step that took this call, before it counts the step
 pub sees_by : (old new : PassModel) (v : View) → SeesBy old new → new.view ≡ v → Sees old new v
-sees_by old new v by known = λ t. record { table = by.table t; view = known t; steps = by.steps t; label = by.label t; safe = by.safe t; slot = by.slot t; sought = by.sought t }
+sees_by old new v by known = λ t. record { table = by.table t; view = known t; steps = by.steps t; label = by.label t; safe = by.safe t; inside = by.inside t; surveyed = by.surveyed t; slot = by.slot t; sought = by.sought t }
 
 -- so it is after one that may have begun an operation
-pub enters_by : (c : Call) (old new : PassModel) (v : View) → EntersBy c old new → new.view ≡ v → Enters c old new v
-enters_by c old new v by known = λ t. record { table = by.table t; view = known t; steps = by.steps t; label = by.label t; safe = by.safe t; slot = by.slot t; sought = by.sought t }
+pub enters_by : (slots : Option Slots) (c : Call) (old new : PassModel) (v : View) → EntersBy slots c old new → new.view ≡ v → Enters slots c old new v
+enters_by slots c old new v by known = λ t. record { table = by.table t; view = known t; steps = by.steps t; label = by.label t; safe = by.safe t; inside = by.inside t; surveyed = by.surveyed t; slot = by.slot t; sought = by.sought t }
 
 -- a pass after one step that took this call
 pub steps_by : (old new : PassModel) (v : View) → StepsBy old new → new.view ≡ v → Steps old new v
-steps_by old new v by known = λ t. record { table = by.table t; view = known t; steps = by.steps t; label = by.label t; safe = by.safe t; slot = by.slot t; sought = by.sought t }
+steps_by old new v by known = λ t. record { table = by.table t; view = known t; steps = by.steps t; label = by.label t; safe = by.safe t; inside = by.inside t; surveyed = by.surveyed t; slot = by.slot t; sought = by.sought t }

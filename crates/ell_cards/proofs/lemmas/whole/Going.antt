@@ -17,7 +17,7 @@ use Rattle.ell_cards.specs.declared.view.Seek.{Seek}
 use Rattle.ell_cards.specs.declared.view.Slots.{Slots}
 use Rattle.ell_cards.specs.Ages.{IsOut, HasPeriods}
 use Rattle.ell_cards.specs.Models.{TablePlan}
-use Rattle.ell_cards.specs.Periods.{WholeState, clock_word, place_word, slot_word, slots_size, last_reading, after_clock, after_announce, after_retract, after_look_at, after_take, after_give, after_release, own, IsAtRest, PeriodsAreSound, settled_at}
+use Rattle.ell_cards.specs.Periods.{WholeState, clock_word, place_word, slot_word, slots_size, last_reading, after_clock, after_announce, after_retract, after_look_at, after_take, after_tick, after_give, after_release, own, IsAtRest, PeriodsAreSound, settled_at}
 use Rattle.ell_cards.specs.Shown.{shown}
 use Rattle.ell_cards.specs.SlotWords.{is_noted}
 use Rattle.ell_cards.specs.Starts.{IsReached}
@@ -38,6 +38,7 @@ use Rattle.ell_cards.proofs.lemmas.whole.Searches.{row_of, searches_begin, searc
 use Rattle.ell_cards.proofs.lemmas.whole.Takings.{takings_noted, takings_same}
 use Rattle.ell_cards.proofs.lemmas.whole.Seats.{before_clock, lie_same}
 use Rattle.ell_cards.proofs.lemmas.whole.Steps.{word_again, periods_sought, periods_read, periods_ticked, periods_seen, periods_announced, periods_retracted, periods_taken, periods_given, periods_released}
+use Rattle.ell_cards.proofs.lemmas.whole.Slots.{clock_known}
 use Rattle.ell_cards.proofs.lemmas.whole.Trees.{tree_at}
 use Rattle.std.proofs.Math.Nat.{le-max_right}
 
@@ -185,6 +186,13 @@ settled_more places looked least safe = by (nat_lt looked places)
     by true = omega arith
     by false = le-max_right least safe
 
+-- what a load of the clock tells: it has never gone back
+pub record TellsClock (was : Period) (n : ℕ) (p : Period) : Type 0 where
+  pub is : p ≡ after_clock n was
+  pub low : n ≤ last_reading
+  pub later : (m : ℕ) → was.reading ≡ Some m → m ≤ n
+  pub since : was.surveyed.clock ≤ n
+
 -- a step on the words of the periods is one of the table
 module _ (plan : TablePlan) (s : Slots) (placed : plan.slots ≡ Some s) where
   pub goes_on_counted : (k : Known) (i : ℕ) (f : ℕ → ℕ) (told : ℕ → Period → Type 0) (p : WholeState → Period)
@@ -235,10 +243,10 @@ module _ (plan : TablePlan) (s : Slots) (placed : plan.slots ≡ Some s) where
   goes_on k i f told p step = goes_on_there k i f told p (λ tree t id reached here there. step tree t id here)
 
   -- a pass reads the clock
-  pub read_clock_goes_on : (k : Known) → MayGoOn plan k (clock_word s) (λ n. n) (λ n p. (p ≡ after_clock n k.period) × (n ≤ last_reading))
+  pub read_clock_goes_on : (k : Known) → MayGoOn plan k (clock_word s) (λ n. n) (TellsClock k.period)
   read_clock_goes_on k =
-      goes_on k (clock_word s) (λ n. n) (λ n p. (p ≡ after_clock n k.period) × (n ≤ last_reading)) (λ t. after_clock (get_or t.words (clock_word s) 0) k.period)
-      (λ tree t id here h size. (going plan s tree t id k here h (after_clock (get_or t.words (clock_word s) 0) k.period) (clock_word s) (get_or t.words (clock_word s) 0) (λ q a at an. (at, an)) refl refl refl refl refl (λ a an. an) refl (omega arith) (past_again plan s tree t id k here h size (clock_word s) (omega arith)) (behind plan s tree t id k here h (clock_word s) (get_or t.words (clock_word s) 0) (omega arith)) (λ slot. get_or-set_other t.words (clock_word s) (slot_word s slot) (get_or t.words (clock_word s) 0) 0 (λ e. omega arith)) (periods_read s t id k here h.lie h.dead h.began h.was_dead h.periods size), (refl, h.periods.low)))
+      goes_on k (clock_word s) (λ n. n) (TellsClock k.period) (λ t. after_clock (get_or t.words (clock_word s) 0) k.period)
+      (λ tree t id here h size. (going plan s tree t id k here h (after_clock (get_or t.words (clock_word s) 0) k.period) (clock_word s) (get_or t.words (clock_word s) 0) (λ q a at an. (at, an)) refl refl refl refl refl (λ a an. an) refl (omega arith) (past_again plan s tree t id k here h size (clock_word s) (omega arith)) (behind plan s tree t id k here h (clock_word s) (get_or t.words (clock_word s) 0) (omega arith)) (λ slot. get_or-set_other t.words (clock_word s) (slot_word s slot) (get_or t.words (clock_word s) 0) 0 (λ e. omega arith)) (periods_read s t id k here h.lie h.dead h.began h.was_dead h.periods size), record { is = refl; low = h.periods.low; later = (h.periods.each id k here).reading; since = (h.periods.each id k here).surveyed }))
 
   -- it announces a reading of the clock, if it announces nothing
   pub announces : (k : Known) (q reading : ℕ) → k.period.place ≡ Some q → k.period.announced ≡ None → k.period.reading ≡ Some reading
@@ -306,14 +314,14 @@ module _ (plan : TablePlan) (s : Slots) (placed : plan.slots ≡ Some s) where
       (λ tree t id here h size. (going plan s tree t id k here h (after_release k.period) (place_word s q) 0 (λ r a at an. absurd (some_not_none at refl)) refl refl refl refl refl (λ a an. an) refl (omega arith) (past_place plan s tree t id k here h q 0 ((h.periods.each id k here).place q has).0) (behind plan s tree t id k here h (place_word s q) 0 (omega arith)) (λ slot. get_or-set_other t.words (place_word s q) (slot_word s slot) 0 0 (λ e. omega arith)) (periods_released s t id k here h.lie h.dead h.began h.was_dead h.periods size q has quiet), refl))
 
   -- it lets the clock go on, if that is as it was read
-  pub tick_goes_on : (k : Known) (reading : ℕ) → reading < last_reading
-      → MayGoOn plan k (clock_word s) (λ n. either (n == reading) (reading + 1) n) (λ n p. p ≡ k.period)
-  tick_goes_on k reading low =
-      goes_on k (clock_word s) (λ n. either (n == reading) (reading + 1) n) (λ n p. p ≡ k.period) (λ t. k.period)
+  pub tick_goes_on : (k : Known) (reading : ℕ) → k.period.reading ≡ Some reading → reading < last_reading
+      → MayGoOn plan k (clock_word s) (λ n. either (n == reading) (reading + 1) n) (λ n p. p ≡ after_tick reading k.period)
+  tick_goes_on k reading was low =
+      goes_on k (clock_word s) (λ n. either (n == reading) (reading + 1) n) (λ n p. p ≡ after_tick reading k.period) (λ t. after_tick reading k.period)
       (λ tree t id here h size. (by tree t id here h size (cases_eq (get_or t.words (clock_word s) 0) reading), refl))
     where
       on : (tree : TableState) (t : WholeState) → HasPeriods plan s tree t → ℕ → ℕ → Type 0
-      on tree t h id n = GoesTo plan s tree t h (turned_to t id k k.period (clock_word s) n)
+      on tree t h id n = GoesTo plan s tree t h (turned_to t id k (after_tick reading k.period) (clock_word s) n)
 
       by : (tree : TableState) (t : WholeState) (id : ℕ) → get_elem? t.views id ≡ some k → (h : HasPeriods plan s tree t) → length t.words ≡ slots_size s
           → (get_or t.words (clock_word s) 0 ≡ reading) ⊎ (get_or t.words (clock_word s) 0 ≢ reading)
@@ -321,12 +329,18 @@ module _ (plan : TablePlan) (s : Slots) (placed : plan.slots ≡ Some s) where
       by tree t id here h size (inl is) =
           subst (on tree t h id)
           (ap (λ n. n + 1) is ∙ sym (ap (λ n. either (n == reading) (reading + 1) n) is ∙ ap (λ b. either b (reading + 1) reading) (eq-eqb reading reading refl)))
-          (going plan s tree t id k here h k.period (clock_word s) (get_or t.words (clock_word s) 0 + 1) (λ q a at an. (at, an)) refl refl refl refl refl (λ a an. an) refl (omega arith) (let now = get_or-set_same t.words (clock_word s) (get_or t.words (clock_word s) 0 + 1) 0 (omega arith) in omega arith) (behind plan s tree t id k here h (clock_word s) (get_or t.words (clock_word s) 0 + 1) (omega arith)) (λ slot. get_or-set_other t.words (clock_word s) (slot_word s slot) (get_or t.words (clock_word s) 0 + 1) 0 (λ e. omega arith))
-          (periods_ticked s t id k here h.lie h.dead h.began h.was_dead h.periods size (omega arith)))
+          (going plan s tree t id k here h (after_tick reading k.period) (clock_word s) (get_or t.words (clock_word s) 0 + 1) (λ q a at an. (at, an)) refl refl refl refl refl (λ a an. an) refl (omega arith) (let now = get_or-set_same t.words (clock_word s) (get_or t.words (clock_word s) 0 + 1) 0 (omega arith) in omega arith) (behind plan s tree t id k here h (clock_word s) (get_or t.words (clock_word s) 0 + 1) (omega arith)) (λ slot. get_or-set_other t.words (clock_word s) (slot_word s slot) (get_or t.words (clock_word s) 0 + 1) 0 (λ e. omega arith))
+          (clock_known s (record { words = set t.words (clock_word s) (get_or t.words (clock_word s) 0 + 1); homes = t.homes; views = t.views }) id k here h.lie h.dead h.began h.was_dead
+          (periods_ticked s t id k here h.lie h.dead h.began h.was_dead h.periods size (omega arith)) (length-set t.words (clock_word s) (get_or t.words (clock_word s) 0 + 1) ∙ size)
+          (set t.words (clock_word s) (get_or t.words (clock_word s) 0 + 1)) (λ j. refl) (reading + 1)
+          (let now = get_or-set_same t.words (clock_word s) (get_or t.words (clock_word s) 0 + 1) 0 (omega arith) in omega arith)))
       by tree t id here h size (inr other) =
           subst (on tree t h id)
           (sym (ap (λ b. either b (reading + 1) (get_or t.words (clock_word s) 0)) (ne_eqb (get_or t.words (clock_word s) 0) reading other)))
-          (stays plan s tree t id k here h size (clock_word s) (omega arith))
+          (going plan s tree t id k here h (after_tick reading k.period) (clock_word s) (get_or t.words (clock_word s) 0) (λ q a at an. (at, an)) refl refl refl refl refl (λ a an. an) refl (omega arith)
+          (past_again plan s tree t id k here h size (clock_word s) (omega arith)) (behind plan s tree t id k here h (clock_word s) (get_or t.words (clock_word s) 0) (omega arith)) (same_again plan s tree t id k here h size (clock_word s) (omega arith))
+          (clock_known s t id k here h.lie h.dead h.began h.was_dead h.periods size (set t.words (clock_word s) (get_or t.words (clock_word s) 0)) (word_again t.words (clock_word s) (omega arith)) (reading + 1)
+          (let low = (h.periods.each id k here).reading reading was in omega arith)))
 
   -- it looks at the next place
   pub looks_at : (k : Known) (q : ℕ) → q ≡ k.period.looked → q < s.places

@@ -67,6 +67,7 @@ module _ (sl : Slots) (t : WholeState) (id : ℕ) (k : Known) (here : get_elem? 
     two = λ q is other. some_not_none other refl;
     none = holds.none;
     reading = holds.reading;
+    surveyed = holds.surveyed;
     rests = λ is. left_rests;
     idle = λ c is. left_rests.empty;
     stays = holds.stays;
@@ -79,6 +80,7 @@ module _ (sl : Slots) (t : WholeState) (id : ℕ) (k : Known) (here : get_elem? 
     two = λ q is other. some_not_none other refl;
     none = λ is. refl;
     reading = λ n is. absurd (some_not_none is refl);
+    surveyed = omega arith;
     rests = λ is. right_rests;
     idle = λ c is. right_rests.empty;
     stays = λ c is. absurd (some_not_none is refl);
@@ -260,6 +262,7 @@ module _ (sl : Slots) (t : WholeState) (id other : ℕ) (k l : Known) (here : ge
         two = λ q is has. aside (sym (h.apart id other q k l here there (own is) (own has)));
         none = mine.none;
         reading = mine.reading;
+        surveyed = mine.surveyed;
         rests = λ is. is_at_rest (joined_view k.tree l.tree) refl refl refl refl refl;
         idle = λ c is. refl;
         stays = mine.stays;
@@ -272,6 +275,7 @@ module _ (sl : Slots) (t : WholeState) (id other : ℕ) (k l : Known) (here : ge
     two = λ q is has. some_not_none has refl;
     none = λ is. refl;
     reading = λ n is. absurd (some_not_none is refl);
+    surveyed = omega arith;
     rests = λ is. is_at_rest spent_view refl refl refl refl refl;
     idle = λ c is. refl;
     stays = λ c is. absurd (some_not_none is refl);

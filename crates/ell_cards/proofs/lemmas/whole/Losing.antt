@@ -81,6 +81,7 @@ module _ (plan : TablePlan) (s : Slots) (tree : TableState) (t : WholeState) (id
     two = was.two;
     none = was.none;
     reading = was.reading;
+    surveyed = was.surveyed;
     rests = was.rests;
     idle = idle;
     stays = stays_in;

@@ -234,6 +234,7 @@ module _ (s : Slots) (given : ℕ) (cards all : List ℕ) (size : length cards �
       two = λ q is other. some_not_none other refl;
       none = λ is. refl;
       reading = λ n is. absurd (some_not_none is refl);
+      surveyed = omega arith;
       rests = λ is. rest;
       idle = λ c is. absurd (some_not_none is refl);
       stays = λ c is. absurd (some_not_none is refl);

@@ -19,6 +19,7 @@ sought_place standing words words' p p' k same is fits = same_place standing wor
   place = fits.place;
   other = fits.other;
   announces = fits.announces;
+  quiet = fits.quiet;
   safe = fits.safe;
   none = fits.none;
   unsafe = fits.unsafe;
@@ -43,6 +44,7 @@ still_place standing words words' p p' same stands safe slot lost fits = record 
   place = stands.place ∙ fits.place;
   other = stands.other ∙ fits.other;
   announces = fits.announces ∙ ap is_some (sym stands.announced);
+  quiet = fits.quiet;
   none = λ last e. fits.none last (sym same ∙ e);
   unsafe = λ last e. safe ∙ fits.unsafe last (sym same ∙ e);
   some = λ s e. fits.some s (sym same ∙ e);
@@ -99,6 +101,7 @@ first_place_fits None last words is = record {
   place = refl;
   other = refl;
   announces = refl;
+  quiet = λ none. refl;
   safe = refl;
   none = λ other e. refl;
   unsafe = λ other e. refl;
@@ -110,6 +113,7 @@ first_place_fits (Some s) last words is = record {
   place = refl;
   other = refl;
   announces = refl;
+  quiet = λ none. refl;
   safe = refl;
   none = λ other e. absurd (no_places words other s is e);
   unsafe = λ other e. refl;
@@ -117,6 +121,21 @@ first_place_fits (Some s) last words is = record {
   slot = λ c is. absurd (some_not_none is refl);
   lost = refl;
 }
+
+-- a pass that announces something is in a period, in a table that has places
+pub inside_by : (plan : TablePlan) (standing : Standing) (words : ℕ) (p : Period) → words ≡ whole_size plan → PlaceFits standing words p → standing.announces ≡ true
+    → is_some p.announced ≡ is_some plan.slots
+inside_by plan standing words p size fits on = by plan.slots size
+  where
+    by : (o : Option Slots) → words ≡ size_by o plan.last_card → is_some p.announced ≡ is_some o
+    by None is = absurd (true≢false (sym on ∙ fits.quiet (fits.none plan.last_card is)))
+    by (Some s) is = sym fits.announces ∙ on
+
+-- in a table without places a pass announces nothing
+pub outside_by : (plan : TablePlan) (standing : Standing) (words : ℕ) (p : Period) → words ≡ whole_size plan → PlaceFits standing words p → plan.slots ≡ None
+    → is_some p.announced ≡ false
+outside_by plan standing words p size fits none =
+    sym fits.announces ∙ fits.quiet (fits.none plan.last_card (size ∙ ap (λ o. size_by o plan.last_card) none))
 
 -- what a pass knows of periods after it looked for a place, and found this one, or none
 pub record Found (o : Option Slots) (result : Option ℕ) (old new : Period) : Type 0 where
@@ -160,6 +179,7 @@ left_place_fits was standing words words' o result old new same found kept fits 
   place = found.place ∙ (fits.place ∙ sym kept.0);
   other = refl;
   announces = kept.1 ∙ (fits.announces ∙ ap is_some (sym found.announced));
+  quiet = λ none. kept.1 ∙ fits.quiet (sym kept.0 ∙ none);
   safe = found.safe ∙ (fits.safe ∙ sym kept.2);
   none = λ last e. kept.0 ∙ fits.none last (sym same ∙ e);
   unsafe = λ last e. found.safe ∙ fits.unsafe last (sym same ∙ e);
@@ -174,6 +194,7 @@ right_place_fits standing o last words result old new size found each given = re
   place = found.other ∙ sym given.0;
   other = refl;
   announces = given.1;
+  quiet = λ none. given.1;
   safe = sym given.2;
   none = λ other e. given.0 ∙ by o result size found.placed other e;
   unsafe = λ other e. refl;
@@ -194,6 +215,7 @@ joined_place_fits standing words words' (Some q) p other new same is now fits = 
   place = fits.place;
   other = refl;
   announces = fits.announces;
+  quiet = fits.quiet;
   safe = fits.safe;
   none = λ last e. fits.none last (sym same ∙ e);
   unsafe = λ last e. fits.unsafe last (sym same ∙ e);
@@ -205,6 +227,7 @@ joined_place_fits standing words words' None p other new same is now fits = subs
   place = fits.place;
   other = is;
   announces = fits.announces;
+  quiet = fits.quiet;
   safe = fits.safe;
   none = λ last e. fits.none last (sym same ∙ e);
   unsafe = λ last e. fits.unsafe last (sym same ∙ e);

@@ -91,6 +91,7 @@ holds_on s words words' u same later h = record {
   two = h.two;
   none = h.none;
   reading = λ n is. (let low = h.reading n is in omega arith);
+  surveyed = (let low = h.surveyed in omega arith);
   rests = h.rests;
   idle = h.idle;
   stays = h.stays;
@@ -107,6 +108,7 @@ holds_of s words k l same rests idle h = record {
   two = λ q is other. h.two q (sym (ap (λ (p : Period). p.place) same) ∙ is) (sym (ap (λ (p : Period). p.other) same) ∙ other);
   none = λ is. ap (λ (p : Period). p.announced) same ∙ h.none (sym (ap (λ (p : Period). p.place) same) ∙ is);
   reading = λ n is. h.reading n (sym (ap (λ (p : Period). p.reading) same) ∙ is);
+  surveyed = (let low = h.surveyed in let now = ap (λ (p : Period). p.surveyed.clock) same in omega arith);
   rests = λ is. rests (sym (ap (λ (p : Period). p.announced) same) ∙ is);
   idle = λ c is. idle c (sym (ap (λ (p : Period). p.lost) same) ∙ is);
   stays = λ c is quiet. h.stays c (sym (ap (λ (p : Period). p.lost) same) ∙ is) (sym (ap (λ (p : Period). p.announced) same) ∙ quiet);

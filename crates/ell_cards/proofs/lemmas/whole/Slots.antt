@@ -1,4 +1,5 @@
 use Rattle.std.proofs.Common.{◌≡◌, ◌≢◌, ℕ, ◌+◌, ◌*◌, ◌%◌, ◌^◌, ◌<◌, ◌≤◌, ◌==◌, ◌&&◌, nat_lt, nat_le, if◌then◌else◌, Bool, true, false, Option, Some, None, List, length, get_or, set, inl, inr, ◌⊎◌, refl, sym, ap, ◌∙◌, subst, arith, ne_eqb, eq-eqb, get_or-set_same, get_or-set_other}
+use Rattle.std.proofs.lemmas.Option.{same_Some}
 use Rattle.std.proofs.lemmas.Bool.{cases_eq}
 use Rattle.std.proofs.lemmas.Bool.Decides.{nat_tests}
 use mathlib.Core.Option.{some}
@@ -76,7 +77,8 @@ stamp_there s lie words c slot n inside lies has =
 -- The periods of a table where words of slots became others and a pass knows something else of those, if the clock and the
 -- places say the same.
 module _ (s : Slots) (t : WholeState) (id : ℕ) (k : Known) (here : get_elem? t.views id ≡ some k) (lie : ℕ → ℕ) (dead : ℕ → Bool) (began : ℕ → ℕ) (was_dead : ℕ → ℕ → Bool)
-    (h : PeriodsAreSound s t lie dead began was_dead) (words : List ℕ) (p : Period) (stands : StandsAs k.period p) (began_so : p.began ≡ k.period.began) (reading : p.reading ≡ k.period.reading)
+    (h : PeriodsAreSound s t lie dead began was_dead) (words : List ℕ) (p : Period) (stands : StandsAs k.period p) (began_so : p.began ≡ k.period.began) (reading : (n : ℕ) → p.reading ≡ Some n → n ≤ get_or t.words (clock_word s) 0)
+    (surveyed : p.surveyed.clock ≤ get_or t.words (clock_word s) 0)
     (least : p.least ≡ k.period.least) (looked : p.looked ≡ k.period.looked) (safe : p.safe ≡ k.period.safe) (lost : p.lost ≡ k.period.lost)
     (clock : get_or words (clock_word s) 0 ≡ get_or t.words (clock_word s) 0) (places : (q : ℕ) → get_or words (place_word s q) 0 ≡ get_or t.words (place_word s q) 0) where
   abbrev now : Known
@@ -96,7 +98,8 @@ module _ (s : Slots) (t : WholeState) (id : ℕ) (k : Known) (here : get_elem? t
         other = λ q is. (let at = was.other q (sym stands.other ∙ is) in (at.0, at.1 ∙ ap place_says (sym stands.other_says)));
         two = λ q is other. was.two q (sym stands.place ∙ is) (sym stands.other ∙ other);
         none = λ is. stands.announced ∙ was.none (sym stands.place ∙ is);
-        reading = λ n is. was.reading n (sym reading ∙ is);
+        reading = λ n is. (let low = reading n is in let same = clock in omega arith);
+        surveyed = (let low = surveyed in let same = clock in omega arith);
         rests = λ is. was.rests (sym stands.announced ∙ is);
         idle = λ c is. was.idle c (sym lost ∙ is);
         stays = λ c is quiet. was.stays c (sym lost ∙ is) (sym stands.announced ∙ quiet);
@@ -148,7 +151,7 @@ module _ (s : Slots) (t : WholeState) (id : ℕ) (k : Known) (here : get_elem? t
         lie (put dead c true) began was_dead
     card_stamped =
         slots_after s t id k here lie dead began was_dead h (set t.words (clock_word s) (get_or t.words (clock_word s) 0)) (after_stamp c reading_now k.period)
-        (record { place = refl; other = refl; other_says = refl; announced = refl }) refl refl refl refl refl refl (again (clock_word s)) (λ q. again (place_word s q))
+        (record { place = refl; other = refl; other_says = refl; announced = refl }) refl (h.each id k here).reading (h.each id k here).surveyed refl refl refl refl (again (clock_word s)) (λ q. again (place_word s q))
         lie (put dead c true) (put was.pending id (Some (c, was.clock))) was.free
         (grace_goes_on s.places died pends (grace_goes_on s.places was died h.sound (dies c refl)) (stamps id c (put_same was.gone c true) refl))
         (part_put t.views id k here stamped (λ p. pending_by p.stamp))
@@ -156,6 +159,16 @@ module _ (s : Slots) (t : WholeState) (id : ℕ) (k : Known) (here : get_elem? t
       where
         again : (j : ℕ) → get_or (set t.words (clock_word s) (get_or t.words (clock_word s) 0)) j 0 ≡ get_or t.words j 0
         again = word_again t.words (clock_word s) (omega arith)
+
+  -- it knows another reading of the clock, where the words say the same
+  pub clock_known : (words : List ℕ) → ((j : ℕ) → get_or words j 0 ≡ get_or t.words j 0) → (n : ℕ) → n ≤ get_or t.words (clock_word s) 0
+      → PeriodsAreSound s (record { words = words; homes = t.homes; views = set t.views id (record { tree = k.tree; period = record (k.period) { reading = Some n } }) }) lie dead began was_dead
+  clock_known words again n low =
+      slots_after s t id k here lie dead began was_dead h words (record (k.period) { reading = Some n })
+      (record { place = refl; other = refl; other_says = refl; announced = refl }) refl (λ m is. (let same = same_Some n m is in omega arith)) (h.each id k here).surveyed refl refl refl refl (again (clock_word s)) (λ q. again (place_word s q))
+      lie dead was.pending was.free h.sound
+      (part_same t.views id k here (record { tree = k.tree; period = record (k.period) { reading = Some n } }) (λ p. pending_by p.stamp) refl)
+      (stamps_same s lie t.words words (λ slot inside. again (slot_word s slot)))
 
   -- the word of a slot
   module _ (slot : ℕ) (inside : slot ≤ s.last) where
@@ -168,7 +181,7 @@ module _ (s : Slots) (t : WholeState) (id : ℕ) (k : Known) (here : get_elem? t
         lie dead began was_dead
     slot_read sought =
         slots_after s t id k here lie dead began was_dead h (set t.words (slot_word s slot) (get_or t.words (slot_word s slot) 0)) (record (after_read slot found k.period) { sought = sought })
-        (record { place = refl; other = refl; other_says = refl; announced = refl }) refl refl refl refl refl refl (again (clock_word s)) (λ q. again (place_word s q))
+        (record { place = refl; other = refl; other_says = refl; announced = refl }) refl (h.each id k here).reading (h.each id k here).surveyed refl refl refl refl (again (clock_word s)) (λ q. again (place_word s q))
         lie dead was.pending was.free h.sound
         (part_same t.views id k here (record { tree = k.tree; period = record (after_read slot found k.period) { sought = sought } }) (λ p. pending_by p.stamp) refl)
         (stamps_same s lie t.words (set t.words (slot_word s slot) (get_or t.words (slot_word s slot) 0)) (λ x low. again (slot_word s x)))
@@ -208,7 +221,7 @@ module _ (s : Slots) (t : WholeState) (id : ℕ) (k : Known) (here : get_elem? t
         → PeriodsAreSound s (record { words = set t.words (slot_word s slot) n'; homes = t.homes; views = set t.views id (record { tree = k.tree; period = record (k.period) { sought = sought } }) }) lie dead began was_dead
     slot_noted sought n' some_bit some_bit' =
         slots_after s t id k here lie dead began was_dead h (turned n') (record (k.period) { sought = sought })
-        (record { place = refl; other = refl; other_says = refl; announced = refl }) refl refl refl refl refl refl (turned_clock n') (turned_place n')
+        (record { place = refl; other = refl; other_says = refl; announced = refl }) refl (h.each id k here).reading (h.each id k here).surveyed refl refl refl refl (turned_clock n') (turned_place n')
         lie dead was.pending was.free h.sound
         (part_same t.views id k here (record { tree = k.tree; period = record (k.period) { sought = sought } }) (λ p. pending_by p.stamp) refl)
         stays
@@ -224,7 +237,7 @@ module _ (s : Slots) (t : WholeState) (id : ℕ) (k : Known) (here : get_elem? t
         → PeriodsAreSound s (record { words = set t.words (slot_word s slot) (free_word reading); homes = t.homes; views = set t.views id (record { tree = k.tree; period = record (k.period) { sought = sought } }) }) lie dead began was_dead
     slot_freed sought reading home has =
         slots_after s t id k here lie dead began was_dead h (turned n') (record (k.period) { sought = sought })
-        (record { place = refl; other = refl; other_says = refl; announced = refl }) refl refl refl refl refl refl (turned_clock n') (turned_place n')
+        (record { place = refl; other = refl; other_says = refl; announced = refl }) refl (h.each id k here).reading (h.each id k here).surveyed refl refl refl refl (turned_clock n') (turned_place n')
         lie dead was.pending (put was.free card (Some reading))
         (grace_goes_on s.places was (record was { free = put was.free card (Some reading) }) h.sound (frees id card reading pending refl))
         (part_same t.views id k here (record { tree = k.tree; period = record (k.period) { sought = sought } }) (λ p. pending_by p.stamp) refl)
@@ -290,7 +303,7 @@ module _ (s : Slots) (t : WholeState) (id : ℕ) (k : Known) (here : get_elem? t
           → PeriodsAreSound s (record { words = set t.words (slot_word s slot) (8 * turn); homes = t.homes; views = set t.views id (record { tree = k.tree; period = after_taking next k.period }) }) (put lie slot next) dead began was_dead
       slot_taken turn next at =
           slots_after s t id k here lie dead began was_dead h (turned n') (after_taking next k.period)
-          (record { place = refl; other = refl; other_says = refl; announced = refl }) refl refl refl refl refl refl (turned_clock n') (turned_place n')
+          (record { place = refl; other = refl; other_says = refl; announced = refl }) refl (h.each id k here).reading (h.each id k here).surveyed refl refl refl refl (turned_clock n') (turned_place n')
           lie' dead was.pending (put was.free card None)
           (grace_goes_on s.places was (record was { free = put was.free card None }) h.sound (takes id card (stamp_in found) card_free card_past refl))
           (part_same t.views id k here (record { tree = k.tree; period = after_taking next k.period }) (λ p. pending_by p.stamp) refl)

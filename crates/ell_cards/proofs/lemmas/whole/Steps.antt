@@ -16,7 +16,8 @@ use Rattle.ell_cards.specs.declared.view.Known.{Known}
 use Rattle.ell_cards.specs.declared.view.Period.{Period}
 use Rattle.ell_cards.specs.declared.view.Seek.{Seek}
 use Rattle.ell_cards.specs.declared.view.Slots.{Slots}
-use Rattle.ell_cards.specs.Periods.{WholeState, clock_word, place_word, slot_word, slots_size, stamp_at, pending_by, period_in, word_at_place, announced_by, place_says, last_reading, after_clock, after_announce, after_retract, after_look_at, after_take, after_give, after_release, settled_at, HasPlace, own, spare, IsAtRest, PeriodHolds, PeriodsAreSound, grace_of}
+use Rattle.ell_cards.specs.declared.view.Survey.{Survey}
+use Rattle.ell_cards.specs.Periods.{WholeState, clock_word, place_word, slot_word, slots_size, stamp_at, pending_by, period_in, word_at_place, announced_by, place_says, last_reading, after_clock, after_announce, after_retract, after_look_at, after_take, after_give, after_release, settled_at, surveyed_at, HasPlace, own, spare, IsAtRest, PeriodHolds, PeriodsAreSound, grace_of}
 use Rattle.ell_cards.proofs.lemmas.whole.Seats.{places_apart, before_slots, clock_before_slots, stamps_same, period_was, part_put, part_same, holds_on}
 use Rattle.ell_cards.proofs.lemmas.whole.Trees.{grace_same}
 
@@ -24,6 +25,16 @@ use Rattle.ell_cards.proofs.lemmas.whole.Trees.{grace_same}
 says_something : (o : Option ℕ) → 1 ≤ place_says o
 says_something None = omega arith
 says_something (Some a) = omega arith
+
+-- the last look at all places began when the clock was no more than it is, if each reading of it was no more
+surveyed_low : (places looked : ℕ) (reading : Option ℕ) (least : ℕ) (was : Survey) (clock : ℕ) → ((n : ℕ) → reading ≡ Some n → n ≤ clock) → was.clock ≤ clock
+    → (surveyed_at places looked reading least was).clock ≤ clock
+surveyed_low places looked None least was clock low before = before
+surveyed_low places looked (Some n) least was clock low before = by (nat_lt looked places)
+  where
+    by : (b : Bool) → (if b then was else record { clock = n; least = least }).clock ≤ clock
+    by true = before
+    by false = low n refl
 
 -- a word of a place says which reading is announced there
 pub announced_again : (reading : ℕ) → announced_by (reading + 2) ≡ Some reading
@@ -142,6 +153,7 @@ module _ (s : Slots) (t : WholeState) (id : ℕ) (k : Known) (here : get_elem? t
         two = same_holds.two;
         none = same_holds.none;
         reading = same_holds.reading;
+        surveyed = same_holds.surveyed;
         rests = same_holds.rests;
         idle = same_holds.idle;
         stays = same_holds.stays;
@@ -186,6 +198,7 @@ module _ (s : Slots) (t : WholeState) (id : ℕ) (k : Known) (here : get_elem? t
     two = now.two;
     none = now.none;
     reading = λ n is. (let same = same_Some reading_now n is in let clock = same_at (clock_word s) (omega arith) (clock_word s) in omega arith);
+    surveyed = now.surveyed;
     rests = now.rests;
     idle = now.idle;
     stays = now.stays;
@@ -232,8 +245,8 @@ module _ (s : Slots) (t : WholeState) (id : ℕ) (k : Known) (here : get_elem? t
     abbrev gone_on : Grace
     gone_on = record was { clock = was.clock + 1 }
 
-    periods_later : PeriodsAreSound s (record { words = later; homes = t.homes; views = t.views }) lie dead began was_dead
-    periods_later = record {
+    pub periods_ticked : PeriodsAreSound s (record { words = set t.words (clock_word s) (get_or t.words (clock_word s) 0 + 1); homes = t.homes; views = t.views }) lie dead began was_dead
+    periods_ticked = record {
       sound = grace_same s.places gone_on (grace_of s (record { words = later; homes = t.homes; views = t.views }) lie dead began was_dead)
           later_clock (λ c. refl) (λ q. ap (λ x. if nat_lt q s.places then announced_by x else None) (later_place q))
           (λ q. refl) (λ q c. refl) (λ j. refl) (λ j. refl) (λ j q. refl) (λ j. refl) later_stamps
@@ -243,9 +256,6 @@ module _ (s : Slots) (t : WholeState) (id : ℕ) (k : Known) (here : get_elem? t
       since = h.since;
       apart = h.apart;
     }
-
-    pub periods_ticked : PeriodsAreSound s (record { words = set t.words (clock_word s) (reading_now + 1); homes = t.homes; views = set t.views id (record { tree = k.tree; period = k.period }) }) lie dead began was_dead
-    periods_ticked = subst (λ l. PeriodsAreSound s (record { words = later; homes = t.homes; views = l }) lie dead began was_dead) (sym (set_again t.views id k here)) periods_later
 
   -- the pass looks at the word of the next place
   module _ (q : ℕ) (next : q ≡ k.period.looked) (below : q < s.places) where
@@ -348,6 +358,7 @@ module _ (s : Slots) (t : WholeState) (id : ℕ) (k : Known) (here : get_elem? t
       two = now.two;
       none = now.none;
       reading = now.reading;
+      surveyed = surveyed_low s.places (k.period.looked + 1) k.period.reading _ k.period.surveyed _ now.reading now.surveyed;
       rests = now.rests;
       idle = now.idle;
       stays = now.stays;
@@ -468,6 +479,7 @@ module _ (s : Slots) (t : WholeState) (id : ℕ) (k : Known) (here : get_elem? t
         two = mine.two;
         none = λ is. absurd (some_not_none placed is);
         reading = λ n is. (let same = turned_clock q (reading + 2) below in let low = mine.reading n is in omega arith);
+        surveyed = (let same = turned_clock q (reading + 2) below in let low = mine.surveyed in omega arith);
         rests = λ is. absurd (some_not_none refl is);
         idle = mine.idle;
         stays = λ c is quiet. some_not_none refl quiet;
@@ -495,6 +507,7 @@ module _ (s : Slots) (t : WholeState) (id : ℕ) (k : Known) (here : get_elem? t
         two = mine.two;
         none = λ is. refl;
         reading = λ n is. (let same = turned_clock q 1 below in let low = mine.reading n is in omega arith);
+        surveyed = (let same = turned_clock q 1 below in let low = mine.surveyed in omega arith);
         rests = λ is. rest;
         idle = mine.idle;
         stays = λ c is. absurd (some_not_none is unlost);
@@ -522,6 +535,7 @@ module _ (s : Slots) (t : WholeState) (id : ℕ) (k : Known) (here : get_elem? t
         two = λ r is other. nobody id k here (subst (HasPlace k.period) (sym (same_Some q r other)) (own is));
         none = mine.none;
         reading = λ n is. (let same = turned_clock q 1 below in let low = mine.reading n is in omega arith);
+        surveyed = (let same = turned_clock q 1 below in let low = mine.surveyed in omega arith);
         rests = mine.rests;
         idle = mine.idle;
         stays = mine.stays;
@@ -549,6 +563,7 @@ module _ (s : Slots) (t : WholeState) (id : ℕ) (k : Known) (here : get_elem? t
         two = λ r is other. some_not_none other refl;
         none = mine.none;
         reading = λ n is. (let same = turned_clock q 0 below in let low = mine.reading n is in omega arith);
+        surveyed = (let same = turned_clock q 0 below in let low = mine.surveyed in omega arith);
         rests = mine.rests;
         idle = mine.idle;
         stays = mine.stays;
@@ -576,6 +591,7 @@ module _ (s : Slots) (t : WholeState) (id : ℕ) (k : Known) (here : get_elem? t
         two = λ r is other. some_not_none is refl;
         none = λ is. quiet;
         reading = λ n is. (let same = turned_clock q 0 below in let low = mine.reading n is in omega arith);
+        surveyed = (let same = turned_clock q 0 below in let low = mine.surveyed in omega arith);
         rests = mine.rests;
         idle = mine.idle;
         stays = mine.stays;

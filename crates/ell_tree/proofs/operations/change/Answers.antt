@@ -217,6 +217,7 @@ returns-in-Spent-clause-ends g c =
         would = would_before op c.args.pass.now c.restart.new.pass (begins.ledger ∙ i.ledger) halts.would;
         nothing = laid_down_last_changes_nothing c.args.table.now.plan c.leave.new.pass.view op lays.laid;
         idle = lays.idle;
+        outside = lays.outside;
         no_card = lays.no_card;
       },
       still_none c.args.table.now.plan op c.try_once.new.pass c.leave.new.pass lays.next lays.sought lays.safe lays.took c.in-Spent.ensures.ends.1,
@@ -242,6 +243,7 @@ returns-clause-ends g c =
         would = i.would (omega (arith, all, c.requires.tries));
         nothing = laid_down_last_changes_nothing c.args.table.now.plan c.leave-2.new.pass.view op lays.laid;
         idle = lays.idle;
+        outside = lays.outside;
         no_card = lays.no_card;
       },
       omega (arith, all, n, i.hindrances),

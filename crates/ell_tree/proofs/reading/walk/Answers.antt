@@ -3,7 +3,7 @@ use Rattle.ell_word.specs.Link.{linked}
 use Rattle.ell_word.specs.Node.{IsInternal}
 use Rattle.ell_layout.specs.Words.{IsLeaf}
 use Rattle.ell_cards.proofs.lemmas.views.Afters.{after_look, after_key_of, after_value_of}
-use Rattle.ell_tree.proofs.lemmas.Counts.{uncounted_one, uncounted_trans}
+use Rattle.ell_tree.proofs.lemmas.Counts.{look_uncounted, uncounted_one, uncounted_trans}
 use Rattle.ell_tree.proofs.lemmas.Looks.{comes_alone, comes_first, met_still, may_down, comes_down, down_deeper, found_none, only_none, found_some, only_some, one_none, one_some, key_only, reads_mine}
 use Rattle.ell_tree.proofs.lemmas.Links.{node_same}
 use Rattle.ell_ops.specs.Meaning.{greatest_key}
@@ -37,7 +37,7 @@ loop-pass-init g c =
       comes = comes_alone c.args.table.now.plan c.args.pass.now f.new.pass c.args.key f.result.node 0 (greatest_key + 1) true
           (comes_first c.args.table.now.plan c.args.pass.now f.new.pass c.args.key (linked f.result) f.result.node
           (node_same f.result f.ensures.word) c.requires.real f.ensures.step f.ensures.shallow f.ensures.there);
-      uncounted = uncounted_one c.args.pass.now f.new.pass (after_look (linked f.result) c.args.pass.now.view) f.ensures.step refl;
+      uncounted = look_uncounted c.args.table.now.plan.slots c.args.pass.now f.new.pass (after_look (linked f.result) c.args.pass.now.view) f.ensures.step refl;
     }
 
 pub key_of-node_key-requires-clause-own : goal.key_of-node_key-requires-clause-own

@@ -7,7 +7,7 @@ use Rattle.ell_cards.specs.declared.glance.Glance.{Glance}
 use Rattle.ell_cards.specs.Models.{flat_from}
 use Rattle.ell_cards.specs.Looking.{HasFoundBetween}
 use Rattle.ell_cards.proofs.lemmas.views.Afters.{after_look, after_key_of}
-use Rattle.ell_tree.proofs.lemmas.Counts.{uncounted_one, uncounted_trans}
+use Rattle.ell_tree.proofs.lemmas.Counts.{look_uncounted, uncounted_one, uncounted_trans}
 use Rattle.ell_tree.proofs.lemmas.Links.{node_same}
 use Rattle.ell_tree.proofs.lemmas.Cursors.{come_on, found_between}
 use Rattle.ell_tree.proofs.lemmas.Looks.{Comes, comes_first, comes_down, found_beside, may_down, only_none}
@@ -21,7 +21,7 @@ loop-pass-init g c =
       comes = comes_first c.args.table.now.plan c.args.pass.now f.new.pass c.args.key (linked f.result) f.result.node
           (node_same f.result f.ensures.word) c.requires.real f.ensures.step f.ensures.shallow f.ensures.there;
       whole = refl;
-      uncounted = uncounted_one c.args.pass.now f.new.pass (after_look (linked f.result) c.args.pass.now.view) f.ensures.step refl;
+      uncounted = look_uncounted c.args.table.now.plan.slots c.args.pass.now f.new.pass (after_look (linked f.result) c.args.pass.now.view) f.ensures.step refl;
     }
 
 pub returns-then-not-is_in_block-clause-found : goal.returns-then-not-is_in_block-clause-found

@@ -47,7 +47,7 @@ returns-then-not-is_value-clause-removes g c =
     let other : is_value c.args.was (there_at s.result c.args.key) ≡ false = search rules in (
       untouched_still a new (lays.table ∙ (keeps.table ∙ begins.table)) (lays.label ∙ (keeps.label ∙ begins.label))
           (lays.ledger ∙ (keeps.view.ledger ∙ begins.ledger)) (lays.answers ∙ (keeps.view.answers ∙ begins.answers))
-          (share_trans a.view s.new.pass.view new.view (share_trans a.view c.begin.new.pass.view s.new.pass.view begins.share keeps.view.share) lays.share) lays.idle,
+          (share_trans a.view s.new.pass.view new.view (share_trans a.view c.begin.new.pass.view s.new.pass.view begins.share keeps.view.share) lays.share) lays.idle lays.outside,
       not_at c.args.table.now.plan a s.new.pass s.result c.args.key c.args.was (keeps.view.ledger ∙ begins.ledger) s.ensures.ends other,
     )
 

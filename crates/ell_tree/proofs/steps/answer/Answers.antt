@@ -39,4 +39,5 @@ returns-clause-answers g c op busy =
       answered = let more = ap (λ l. length (own_calls l)) called in omega arith;
       called = of_taken op old.view.worker.card c.args.said old.view.told (λ deed. new.view.answers ≡ deed old.view.answers ∷ old.view.answers) called;
       idle = search rules;
+      outside = search rules;
     }

@@ -1,4 +1,4 @@
-use Rattle.std.proofs.Common.{◌∙◌, refl, ap, sym, subst, ⊎_elim}
+use Rattle.std.proofs.Common.{◌∙◌, refl, ap, is_some, sym, subst}
 use Rattle.ell_cards.specs.Calls.{Load}
 use Rattle.ell_cards.specs.Shown.{shown}
 use Rattle.ell_cards.specs.Inside.{PassFits}
@@ -6,7 +6,7 @@ use Rattle.ell_cards.specs.Models.{PassModel}
 use Rattle.ell_cards.proofs.lemmas.seats.Opened.{owed, stepped}
 use Rattle.ell_cards.proofs.lemmas.whole.Calling.{Notes, load_notes, load_does, load_stores}
 use Rattle.ell_cards.proofs.lemmas.whole.Lifts.{stores_word, plain_shown}
-use Rattle.ell_cards.proofs.lemmas.whole.Places.{sought_place}
+use Rattle.ell_cards.proofs.lemmas.whole.Places.{none_is, sought_place}
 use Rattle.ell_cards.proofs.table.CardTable.load_entered_as.Goals as goal
 
 pub load-requires : goal.load-requires
@@ -14,14 +14,14 @@ load-requires g c =
     let seat = c.enter.new.seat in
     let inside = c.pass.inside in
     let is = c.enter.ensures in
-    let old : PassModel = record { table = inside.seat.table_id; view = shown inside.seat.me.0.tree; steps = inside.steps; label = inside.label; safe = inside.seat.me.0.period.safe; slot = inside.seat.me.0.period.slot; sought = inside.seat.me.0.period.sought } in
-    let now : PassModel = record { table = seat.table_id; view = shown seat.me.0.tree; steps = inside.steps; label = inside.label; safe = seat.me.0.period.safe; slot = seat.me.0.period.slot; sought = seat.me.0.period.sought } in
-    let same = (λ t. record { table = is.seat.0 t; view = shown (is.tree t); steps = inside.steps; label = inside.label; safe = is.safe t; slot = is.slot t; sought = is.sought t }) ∙ c.pass.view_is in
-    let fits = subst (λ (m : PassModel). PassFits inside.keys.items inside.share m.table.words m.view) (sym (λ t. record { table = is.seat.0 t; view = shown (is.tree t); steps = inside.steps; label = inside.label; safe = is.safe t; slot = is.slot t; sought = is.sought t })) c.pass.invariant.0 in
+    let old : PassModel = record { table = inside.seat.table_id; view = shown inside.seat.me.0.tree; steps = inside.steps; label = inside.label; safe = inside.seat.me.0.period.safe; inside = is_some inside.seat.me.0.period.announced; surveyed = inside.seat.me.0.period.surveyed; slot = inside.seat.me.0.period.slot; sought = inside.seat.me.0.period.sought } in
+    let now : PassModel = record { table = seat.table_id; view = shown seat.me.0.tree; steps = inside.steps; label = inside.label; safe = seat.me.0.period.safe; inside = is_some inside.seat.me.0.period.announced; surveyed = seat.me.0.period.surveyed; slot = seat.me.0.period.slot; sought = seat.me.0.period.sought } in
+    let same = (λ t. record { table = is.seat.0 t; view = shown (is.tree t); steps = inside.steps; label = inside.label; safe = is.safe t; inside = is_some inside.seat.me.0.period.announced; surveyed = is.surveyed t; slot = is.slot t; sought = is.sought t }) ∙ c.pass.view_is in
+    let fits = subst (λ (m : PassModel). PassFits inside.keys.items inside.share m.table.words m.view) (sym (λ t. record { table = is.seat.0 t; view = shown (is.tree t); steps = inside.steps; label = inside.label; safe = is.safe t; inside = is_some inside.seat.me.0.period.announced; surveyed = is.surveyed t; slot = is.slot t; sought = is.sought t })) c.pass.invariant.0 in
     owed _ _ now _ c.self.view_is same c.requires.own c.self.invariant.0 c.self.invariant.8 seat.me.0.tree refl seat.id seat.me.0.period refl refl seat.me.1 inside.keys.items inside.share c.enter.new.standing c.args.word
     (λ n. n) g.J.Noting.then (λ n. g.J.Noting.notes n seat.me.0.period) c.args.call c.self.invariant.1 is.seat.1 fits is.fits (stores_word c.args.call Load c.requires.atomic tt (plain_shown c.args.call (load_stores c.args.call c.requires.atomic))) c.requires.word c.requires.may
     c.requires.kept (load_does c.args.self.now.plan c.args.call c.requires.atomic)
-    (λ placed none. absurd (⊎_elim (λ without. placed without) (λ opened. opened none) is.open)) (λ fill. absurd (load_stores c.args.call c.requires.atomic fill)) c.requires.tells (λ n small. subst (Notes c.args.self.now.plan.slots c.args.call n seat.me.0.period) (sym (c.requires.notes n seat.me.0.period))
+    (λ placed none. absurd (placed (none_is c.args.self.now.plan.slots (sym is.inside ∙ ap is_some none)))) (λ fill. absurd (load_stores c.args.call c.requires.atomic fill)) c.requires.tells (λ n small. subst (Notes c.args.self.now.plan.slots c.args.call n seat.me.0.period) (sym (c.requires.notes n seat.me.0.period))
     (load_notes c.args.call c.args.self.now.plan.slots n seat.me.0.period c.requires.atomic))
 
 pub invariant_of-pass : goal.invariant_of-pass
@@ -30,9 +30,9 @@ invariant_of-pass g c =
     let inside = c.pass.inside in
     let is = c.enter.ensures in
     let now = c.load.ensures in
-    let model : PassModel = record { table = seat.table_id; view = shown seat.me.0.tree; steps = inside.steps; label = inside.label; safe = seat.me.0.period.safe; slot = seat.me.0.period.slot; sought = seat.me.0.period.sought } in
-    let same = (λ t. record { table = is.seat.0 t; view = shown (is.tree t); steps = inside.steps; label = inside.label; safe = is.safe t; slot = is.slot t; sought = is.sought t }) ∙ c.pass.view_is in
-    let fits = subst (λ (m : PassModel). PassFits inside.keys.items inside.share m.table.words m.view) (sym (λ t. record { table = is.seat.0 t; view = shown (is.tree t); steps = inside.steps; label = inside.label; safe = is.safe t; slot = is.slot t; sought = is.sought t })) c.pass.invariant.0 in (
+    let model : PassModel = record { table = seat.table_id; view = shown seat.me.0.tree; steps = inside.steps; label = inside.label; safe = seat.me.0.period.safe; inside = is_some inside.seat.me.0.period.announced; surveyed = seat.me.0.period.surveyed; slot = seat.me.0.period.slot; sought = seat.me.0.period.sought } in
+    let same = (λ t. record { table = is.seat.0 t; view = shown (is.tree t); steps = inside.steps; label = inside.label; safe = is.safe t; inside = is_some inside.seat.me.0.period.announced; surveyed = is.surveyed t; slot = is.slot t; sought = is.sought t }) ∙ c.pass.view_is in
+    let fits = subst (λ (m : PassModel). PassFits inside.keys.items inside.share m.table.words m.view) (sym (λ t. record { table = is.seat.0 t; view = shown (is.tree t); steps = inside.steps; label = inside.label; safe = is.safe t; inside = is_some inside.seat.me.0.period.announced; surveyed = is.surveyed t; slot = is.slot t; sought = is.sought t })) c.pass.invariant.0 in (
       stepped _ _ model _ c.self.view_is same c.requires.own c.self.invariant.0 c.self.invariant.8 inside.keys.items inside.share _ _ _ g.J.Noting.then
           c.self.invariant.2 fits (ap (λ i. i.words) now.0) c.requires.keeps now.2.0,
       now.2.2 ∙ is.seat.1,

@@ -19,5 +19,6 @@ invariant-loop g l = record {
   may : is_done l.fn.taken_out l.fn.card l.fn.nodes l.word ≡ false → MayNote l.fn.seat.me.0.tree l.fn.taken_out l.fn.card l.fn.nodes l.word;
   more : is_done l.fn.taken_out l.fn.card l.fn.nodes l.word ≡ false → l.counter ≤ how_many_noted l.word;
   safe : l.seat.me.0.period.safe ≡ l.fn.seat.me.0.period.safe;
+  surveyed : l.seat.me.0.period.surveyed ≡ l.fn.seat.me.0.period.surveyed;
   tree : l.seat.me.0.tree ≡ l.fn.seat.me.0.tree;
 }

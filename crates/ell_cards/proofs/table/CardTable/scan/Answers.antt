@@ -16,5 +16,10 @@ loop-place-init g c =
       looked = search rules;
       least = search rules;
       unsettled = search rules;
+      reading = search rules;
+      later = search rules;
+      since = search rules;
+      low = search rules;
+      surveyed = λ none. absurd (omega arith);
       safe = λ none. absurd (omega arith);
     }

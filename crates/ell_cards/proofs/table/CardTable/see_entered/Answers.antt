@@ -10,7 +10,7 @@ pub load_entered_as-requires-clause-keeps : goal.load_entered_as-requires-clause
 load_entered_as-requires-clause-keeps g c = taken_keeps c.args.self.now.plan c.args.call c.args.pass.now.view
 
 pub returns-clause-step : goal.returns-clause-step
-returns-clause-step g c = enters_by c.args.call c.args.pass.now c.load_entered_as.new.pass _ c.load_entered_as.ensures.step c.load_entered_as.ensures.told.view
+returns-clause-step g c = enters_by c.args.self.now.plan.slots c.args.call c.args.pass.now c.load_entered_as.new.pass _ c.load_entered_as.ensures.step c.load_entered_as.ensures.told.view
 
 pub returns-clause-tells : goal.returns-clause-tells
 returns-clause-tells g c = c.load_entered_as.ensures.told.tells

@@ -10,5 +10,5 @@ returns-clause-joined g c =
     let left = c.args.left in
     let right = c.args.right in
     if_ok
-    (λ (both : PassModel). both ≡ record { table = left.table; view = joined_view left.view right.view; steps = one_more (max left.steps right.steps); label = left.label; safe = left.safe; slot = left.slot; sought = left.sought })
+    (λ (both : PassModel). both ≡ record left { view = joined_view left.view right.view; steps = one_more (max left.steps right.steps) })
     (IsUnion left right) c.join.result (λ both e. union left right both e) c.join.ensures.joined

@@ -18,6 +18,7 @@ returns c =
       one = said.ensures.one;
       only = search rules;
       cards = said.ensures.cards;
+      known = search rules;
       ends = search rules;
       tree = search rules;
     }

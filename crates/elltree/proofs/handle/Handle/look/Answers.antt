@@ -14,6 +14,7 @@ returns c =
         one = c.look-there.ensures.one;
         only = search rules;
         cards = c.look-there.ensures.cards;
+        known = search rules;
         ends = search rules;
         tree = search rules;
       };
