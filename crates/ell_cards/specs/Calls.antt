@@ -49,56 +49,62 @@ key_address x = address (card x) (key_field (x % 4))
 abbrev pub value_address : ℕ → ℕ
 value_address x = address (card x) (value_field (x % 4))
 
--- the word that a call touches: of a call that only notes something it is the key of the root, which never changes
+-- where a call acts: on the claim word, or on this field of the root's card, of a node's card, or of a card
+pub data Where : Type 0 where
+  OnClaim : Where
+  OnRoot : Field → Where
+  OnNode : ℕ → Field → Where
+  OnCard : ℕ → Field → Where
+
+-- where each call acts: one that only notes something acts on the key of the root, which never changes
+abbrev pub where_of : Call → Where
+where_of (call.Upd x) = OnNode x field.Update
+where_of (call.Down x right) = OnNode x (child_field right)
+where_of call.Next = OnClaim
+where_of (call.KeyOf x) = OnNode x (key_field (x % 4))
+where_of (call.ValueOf x) = OnNode x (value_field (x % 4))
+where_of (call.Info c f) = OnCard c f
+where_of (call.FrozenChild c p right) = OnNode p (child_field right)
+where_of call.Look = OnRoot (child_field false)
+where_of (call.LookDown from to right) = OnNode from.node (child_field right)
+where_of (call.Claim c node_key) = OnClaim
+where_of (call.Fill c f value) = OnCard c f
+where_of (call.IFlag c p from) = OnNode p field.Update
+where_of (call.IChild c p l replaces right) = OnNode p (child_field right)
+where_of (call.IUnflag c p) = OnNode p field.Update
+where_of (call.DFlag c gp from) = OnNode gp field.Update
+where_of (call.Mark c p was) = OnNode p field.Update
+where_of (call.DChild c gp p s right) = OnNode gp (child_field right)
+where_of (call.DUnflag c gp) = OnNode gp field.Update
+where_of (call.Backtrack c gp) = OnNode gp field.Update
+where_of _ = OnRoot (key_field 0)
+
+-- the word there, in a tree that has words for each card
+abbrev pub word_at : Where → ℕ
+word_at OnClaim = 0
+word_at (OnRoot f) = address 0 f
+word_at (OnNode x f) = address (card x) f
+word_at (OnCard c f) = address c f
+
+-- the word that a call touches
 abbrev pub word_of : Call → ℕ
-word_of (call.Upd x) = update_address x
-word_of (call.Down x right) = child_address x right
-word_of call.Next = 0
-word_of (call.KeyOf x) = key_address x
-word_of (call.ValueOf x) = value_address x
-word_of (call.Info c f) = address c f
-word_of (call.FrozenChild c p right) = child_address p right
-word_of call.Look = child_address 0 false
-word_of (call.LookDown from to right) = child_address from.node right
-word_of (call.Claim c node_key) = 0
-word_of (call.Fill c f value) = address c f
-word_of (call.IFlag c p from) = update_address p
-word_of (call.IChild c p l replaces right) = child_address p right
-word_of (call.IUnflag c p) = update_address p
-word_of (call.DFlag c gp from) = update_address gp
-word_of (call.Mark c p was) = update_address p
-word_of (call.DChild c gp p s right) = child_address gp right
-word_of (call.DUnflag c gp) = update_address gp
-word_of (call.Backtrack c gp) = update_address gp
-word_of _ = key_address 0
+word_of c = word_at (where_of c)
 
 -- The memory of a table has words for slots. A field of a card stands at that field of the card's slot; without places
 -- each card has a slot of its own.
 abbrev pub slot_address : ℕ → Field → ℕ
 slot_address c f = address (slot_of c) f
 
+-- the word there, in the memory of a table
+abbrev pub place_at : Where → ℕ
+place_at OnClaim = 0
+place_at (OnRoot f) = slot_address 0 f
+place_at (OnNode x f) = slot_address (card x) f
+place_at (OnCard c f) = slot_address c f
+
 -- so the word that a call touches stands here
 abbrev pub place_of : Call → ℕ
-place_of (call.Upd x) = slot_address (card x) field.Update
-place_of (call.Down x right) = slot_address (card x) (child_field right)
-place_of call.Next = 0
-place_of (call.KeyOf x) = slot_address (card x) (key_field (x % 4))
-place_of (call.ValueOf x) = slot_address (card x) (value_field (x % 4))
-place_of (call.Info c f) = slot_address c f
-place_of (call.FrozenChild c p right) = slot_address (card p) (child_field right)
-place_of call.Look = slot_address 0 (child_field false)
-place_of (call.LookDown from to right) = slot_address (card from.node) (child_field right)
-place_of (call.Claim c node_key) = 0
-place_of (call.Fill c f value) = slot_address c f
-place_of (call.IFlag c p from) = slot_address (card p) field.Update
-place_of (call.IChild c p l replaces right) = slot_address (card p) (child_field right)
-place_of (call.IUnflag c p) = slot_address (card p) field.Update
-place_of (call.DFlag c gp from) = slot_address (card gp) field.Update
-place_of (call.Mark c p was) = slot_address (card p) field.Update
-place_of (call.DChild c gp p s right) = slot_address (card gp) (child_field right)
-place_of (call.DUnflag c gp) = slot_address (card gp) field.Update
-place_of (call.Backtrack c gp) = slot_address (card gp) field.Update
-place_of _ = slot_address 0 (key_field 0)
+place_of c = place_at (where_of c)
 
 -- what an atomic step does to its word: it loads it, stores a value, or exchanges an expected value for another
 pub data Atomic : Type 0 where

@@ -16,7 +16,7 @@ use Rattle.ell_cards.specs.declared.view.View.{View}
 use Rattle.ell_cards.specs.declared.view.Told.TheVariants.{Info}
 use Rattle.ell_cards.specs.Apart.{NamesMet, LeafIsChild}
 use Rattle.ell_cards.specs.Models.{TablePlan, IsTold, Knows}
-use Rattle.ell_cards.specs.Calls.{May, word_of}
+use Rattle.ell_cards.specs.Calls.{OnCard, OnNode, Where, where_of, May, word_of}
 use Rattle.ell_cards.specs.States.{TableState}
 use Rattle.ell_cards.specs.Machines.{HasMachine}
 use Rattle.ell_cards.specs.Periods.{IsAtRest}
@@ -40,24 +40,13 @@ pub data Touched : Type 0 where
   OfCard : ℕ → Touched
   AtRoot : Touched
 
+abbrev pub touched_at : Where → Touched
+touched_at (OnNode x f) = AtNode x
+touched_at (OnCard c f) = OfCard c
+touched_at _ = AtRoot
+
 abbrev pub touched_by : Call → Touched
-touched_by (call.Upd x) = AtNode x
-touched_by (call.Down x right) = AtNode x
-touched_by (call.KeyOf x) = AtNode x
-touched_by (call.ValueOf x) = AtNode x
-touched_by (call.Info c f) = OfCard c
-touched_by (call.FrozenChild c p right) = AtNode p
-touched_by (call.LookDown from to right) = AtNode from.node
-touched_by (call.Fill c f value) = OfCard c
-touched_by (call.IFlag c p from) = AtNode p
-touched_by (call.IChild c p l replaces right) = AtNode p
-touched_by (call.IUnflag c p) = AtNode p
-touched_by (call.DFlag c gp from) = AtNode gp
-touched_by (call.Mark c p was) = AtNode p
-touched_by (call.DChild c gp p s right) = AtNode gp
-touched_by (call.DUnflag c gp) = AtNode gp
-touched_by (call.Backtrack c gp) = AtNode gp
-touched_by _ = AtRoot
+touched_by c = touched_at (where_of c)
 
 -- a word is one of these
 abbrev pub IsWordOf : Touched → ℕ → Type 0
