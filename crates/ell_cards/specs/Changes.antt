@@ -133,10 +133,6 @@ exchanged wins n v = record v { found = Some n; won = wins ++ v.won; made = v.ma
 abbrev pub update_outcome : ℕ → ℕ → Result (Unit {0}) Update
 update_outcome expected found = if found == expected then Ok tt else Err (unpacked found)
 
--- what an exchange of a child word that found this answers
-abbrev pub child_outcome : ℕ → ℕ → Result (Unit {0}) Link
-child_outcome expected found = if found == expected then Ok tt else Err (link_in found)
-
 -- the update that an exchange found, by its answer: the expected one where it was won
 abbrev pub found_update : Update → Result (Unit {0}) Update → Update
 found_update expected (Ok won) = expected
@@ -146,11 +142,6 @@ found_update expected (Err found) = found
 abbrev pub found_word : ℕ → Result (Unit {0}) Update → ℕ
 found_word expected (Ok won) = expected
 found_word expected (Err found) = packed found
-
--- the child word that an exchange found, by its answer
-abbrev pub child_found : ℕ → Result (Unit {0}) Link → ℕ
-child_found expected (Ok won) = expected
-child_found expected (Err found) = linked found
 
 -- all that was told is forgotten, but that the root is met
 abbrev pub forgotten : List Told

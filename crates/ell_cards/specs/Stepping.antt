@@ -11,7 +11,7 @@ use Rattle.ell_cards.specs.declared.view.Period.{Period}
 use Rattle.ell_cards.specs.declared.view.Seek.{Seek}
 use Rattle.ell_cards.specs.declared.view.Slots.{Slots}
 use Rattle.ell_cards.specs.declared.view.View.{View}
-use Rattle.ell_cards.specs.Models.{flat_from, last_slot, TablePlan, PassModel, IsFree, MayPart, one_more, given_share}
+use Rattle.ell_cards.specs.Models.{Steps, flat_from, last_slot, TablePlan, PassModel, IsFree, MayPart, one_more, given_share}
 use Rattle.ell_cards.specs.Changes.{ledger_keys}
 use Rattle.ell_cards.specs.Depths.{deepest, IsShallow}
 use Rattle.ell_cards.specs.Naming.{IsNamed, IsPlaced}
@@ -157,6 +157,10 @@ pub record StepsBy (old new : PassModel) : Type 0 where
   pub surveyed : new.surveyed ≡ old.surveyed
   pub slot : new.slot ≡ old.slot
   pub sought : new.sought ≡ old.sought
+
+-- a pass made one step by a call, and knows what the call tells by some word that it found
+abbrev pub StepsBySome : PassModel → PassModel → Call → Type 0
+StepsBySome old new c = (n : ℕ) × Steps old new (after c n old.view)
 
 -- what a step call that found this word leaves of a pass: what it knows is as the call says, and what the call
 -- tells is so; what a look has found of its own keys is what its ledger has; it was told no two keys of one node,

@@ -5,18 +5,19 @@ ghost use Rattle.ell_word.specs.Word.{packed, unpacked};
 ghost use Rattle.ell_word.specs.Link.{linked, IsLink};
 ghost use Rattle.ell_word.specs.declared.link.Link.{Link};
 ghost use Rattle.ell_core.specs.declared.exchange.Exchange.TheVariants as exchange;
-ghost use Rattle.ell_core.specs.declared.fact.Fact.TheVariants.{IChanged, IOver, Marked, Unmarkable, Cut, DOver, Backed};
+ghost use Rattle.ell_core.specs.declared.fact.Fact.TheVariants.{IChanged, Marked, Unmarkable, Cut};
 ghost use Rattle.ell_cards.specs.Depths.{IsShallow, deepest};
 ghost use Rattle.ell_layout.specs.declared.field.Field.TheVariants.{Gp, P};
-ghost use Rattle.ell_layout.specs.Cards.{iflag, dflag, says_by};
+ghost use Rattle.ell_layout.specs.Cards.{says_by};
 ghost use Rattle.ell_cards.specs.Models.{Steps, InTable};
-ghost use Rattle.ell_cards.specs.Changes.{after_mark, with_fact, if_won, exchanged, found_update, found_word, child_found};
+ghost use Rattle.ell_cards.specs.Changes.{after_mark, if_won, exchanged, found_update, found_word};
 ghost use Rattle.ell_cards.specs.declared.call.Call.TheVariants as call;
 ghost use Rattle.ell_cards.specs.Guards.{KnowsPlace, MayAsk, MayDChild, MayIChild, MayMark};
 ghost use Rattle.ell_cards.specs.Calls.{after, TellsNode};
+ghost use Rattle.ell_cards.specs.Stepping.{StepsBySome};
 
 use crate::call::Call;
-use crate::outcomes::{child_outcome, update_outcome};
+use crate::outcomes::update_outcome;
 use crate::pass::Pass;
 use crate::places::{child_address, field_address, update_address};
 use crate::table::CardTable;
@@ -61,10 +62,9 @@ impl<A: Allocator + Copy> CardTable<A> {
         Link::of(self.load(pass, call, child_address(parent, right)))
     }
 
-    /// Exchanges the child word of an insert's parent, from the leaf with the tag that the card expects to the node that
-    /// the card brings, with the next tag. That node is the card's right leaf if it replaces a leaf, else its internal
-    /// node. If the exchange fails, the error is the child word that was found. Either way, the pass then knows that the
-    /// card is changed.
+    /// Exchanges the child word of an insert's parent, from the leaf with the tag that the card expects to the node
+    /// that the card brings, with the next tag. That node is the card's right leaf if it replaces a leaf, else its
+    /// internal node. Whether the exchange succeeds or fails, the pass then knows that the card is changed.
     #[inline(always)]
     pub fn ichild(
         &self,
@@ -74,41 +74,32 @@ impl<A: Allocator + Copy> CardTable<A> {
         leaf: Link,
         replaces: bool,
         right: bool,
-    ) -> Result<(), Link>
+    )
         requires own { pass.old.table ≡ self.now.id }
         requires may { MayIChild pass.old.view card parent leaf replaces right }
-        // It makes one step and counts it. The pass then knows exactly what this call tells.
-        ensures step { Steps pass.old pass.new (exchanged (if_won (is_ok result) exchange.IChild card)
-            (child_found (linked leaf) result) (with_fact (IChanged card) pass.old.view)) }
-        // If the exchange is lost, it found a word other than the expected one.
-        ensures lost { IfErr result (λ found. found ≢ leaf) }
+        // It makes one step and counts it. The pass then knows what this call tells by the word that it found.
+        ensures step { StepsBySome pass.old pass.new (call.IChild card parent leaf replaces right) }
     {
         self.names(pass);
         let call = Call::IChild(card, parent, leaf, replaces, right);
         let word = child_address(parent, right);
         let node = brought_node(card, replaces);
-        let found = self.exchange_child(pass, call, word, leaf, node);
-        child_outcome(leaf.word(), found)
+        self.exchange_child(pass, call, word, leaf, node);
     }
 
-    /// Takes an insert's flag away. If that fails, the error is the update that was found. Either way, the pass then
-    /// knows that the card is over.
+    /// Takes an insert's flag away. Whether that succeeds or fails, the pass then knows that the card is over.
     #[inline(always)]
-    pub fn iunflag(&self, pass: &mut Pass<A>, card: u64, parent: u64) -> Result<(), Update>
+    pub fn iunflag(&self, pass: &mut Pass<A>, card: u64, parent: u64)
         requires own { pass.old.table ≡ self.now.id }
         requires may { KnowsPlace pass.old.view (IChanged card) card P parent }
-        // It makes one step and counts it. The pass then knows exactly what this call tells.
-        ensures step { Steps pass.old pass.new (exchanged (if_won (is_ok result) exchange.IUnflag card)
-            (found_word (iflag card) result) (with_fact (IOver card) pass.old.view)) }
-        // If the exchange is lost, it found a word other than the expected one.
-        ensures lost { IfErr result (λ found. packed found ≢ iflag card) }
+        // It makes one step and counts it. The pass then knows what this call tells by the word that it found.
+        ensures step { StepsBySome pass.old pass.new (call.IUnflag card parent) }
     {
         self.names(pass);
         let flag = update_word(State::IFlag, card);
         let clean = update_word(State::Clean, card);
         let call = Call::IUnflag(card, parent);
-        let found = self.exchange(pass, call, update_address(parent), flag, clean);
-        update_outcome(flag, found)
+        self.exchange(pass, call, update_address(parent), flag, clean);
     }
 
     /// Marks the parent of a delete: exchanges the word that its search read there for the card's mark. If that fails,
@@ -134,8 +125,7 @@ impl<A: Allocator + Copy> CardTable<A> {
     }
 
     /// Exchanges the child word of a delete's grandparent, from the parent with the tag that the card expects to the
-    /// sibling of the leaf, with the next tag. If that fails, the error is the child word that was found. Either way, the
-    /// pass then knows that the card is cut.
+    /// sibling of the leaf, with the next tag. Whether it succeeds or fails, the pass then knows that the card is cut.
     #[inline(always)]
     pub fn dchild(
         &self,
@@ -145,59 +135,47 @@ impl<A: Allocator + Copy> CardTable<A> {
         parent: Link,
         sibling: u64,
         right: bool,
-    ) -> Result<(), Link>
+    )
         requires own { pass.old.table ≡ self.now.id }
         requires may { MayDChild pass.old.view card grandparent parent sibling right }
-        // It makes one step and counts it. The pass then knows exactly what this call tells.
-        ensures step { Steps pass.old pass.new (exchanged (if_won (is_ok result) exchange.DChild card)
-            (child_found (linked parent) result) (with_fact (Cut card) pass.old.view)) }
-        // If the exchange is lost, it found a word other than the expected one.
-        ensures lost { IfErr result (λ found. found ≢ parent) }
+        // It makes one step and counts it. The pass then knows what this call tells by the word that it found.
+        ensures step { StepsBySome pass.old pass.new (call.DChild card grandparent parent sibling right) }
     {
         self.names(pass);
         let call = Call::DChild(card, grandparent, parent, sibling, right);
         let word = child_address(grandparent, right);
-        let found = self.exchange_child(pass, call, word, parent, sibling);
-        child_outcome(parent.word(), found)
+        self.exchange_child(pass, call, word, parent, sibling);
     }
 
-    /// Takes a delete's flag away after its child exchange. If that fails, the error is the update that was found.
-    /// Either way, the pass then knows that the card is over.
+    /// Takes a delete's flag away after its child exchange. Whether that succeeds or fails, the pass then knows that
+    /// the card is over.
     #[inline(always)]
-    pub fn dunflag(&self, pass: &mut Pass<A>, card: u64, grandparent: u64) -> Result<(), Update>
+    pub fn dunflag(&self, pass: &mut Pass<A>, card: u64, grandparent: u64)
         requires own { pass.old.table ≡ self.now.id }
         requires may { KnowsPlace pass.old.view (Cut card) card Gp grandparent }
-        // It makes one step and counts it. The pass then knows exactly what this call tells.
-        ensures step { Steps pass.old pass.new (exchanged (if_won (is_ok result) exchange.DUnflag card)
-            (found_word (dflag card) result) (with_fact (DOver card) pass.old.view)) }
-        // If the exchange is lost, it found a word other than the expected one.
-        ensures lost { IfErr result (λ found. packed found ≢ dflag card) }
+        // It makes one step and counts it. The pass then knows what this call tells by the word that it found.
+        ensures step { StepsBySome pass.old pass.new (call.DUnflag card grandparent) }
     {
         self.names(pass);
         let flag = update_word(State::DFlag, card);
         let clean = update_word(State::Clean, card);
         let call = Call::DUnflag(card, grandparent);
-        let found = self.exchange(pass, call, update_address(grandparent), flag, clean);
-        update_outcome(flag, found)
+        self.exchange(pass, call, update_address(grandparent), flag, clean);
     }
 
-    /// Takes a delete's flag away after its lost mark. If that fails, the error is the update that was found. Either
-    /// way, the pass then knows that the card is backed.
+    /// Takes a delete's flag away after its lost mark. Whether that succeeds or fails, the pass then knows that the card
+    /// is backed.
     #[inline(always)]
-    pub fn backtrack(&self, pass: &mut Pass<A>, card: u64, grandparent: u64) -> Result<(), Update>
+    pub fn backtrack(&self, pass: &mut Pass<A>, card: u64, grandparent: u64)
         requires own { pass.old.table ≡ self.now.id }
         requires may { KnowsPlace pass.old.view (Unmarkable card) card Gp grandparent }
-        // It makes one step and counts it. The pass then knows exactly what this call tells.
-        ensures step { Steps pass.old pass.new (exchanged (if_won (is_ok result) exchange.Backtrack card)
-            (found_word (dflag card) result) (with_fact (Backed card) pass.old.view)) }
-        // If the exchange is lost, it found a word other than the expected one.
-        ensures lost { IfErr result (λ found. packed found ≢ dflag card) }
+        // It makes one step and counts it. The pass then knows what this call tells by the word that it found.
+        ensures step { StepsBySome pass.old pass.new (call.Backtrack card grandparent) }
     {
         self.names(pass);
         let flag = update_word(State::DFlag, card);
         let clean = update_word(State::Clean, card);
         let call = Call::Backtrack(card, grandparent);
-        let found = self.exchange(pass, call, update_address(grandparent), flag, clean);
-        update_outcome(flag, found)
+        self.exchange(pass, call, update_address(grandparent), flag, clean);
     }
 }

@@ -221,7 +221,7 @@ pub(crate) fn change_child<A: Allocator + Copy, G: StepGate>(
     gate.before(pass.label(), Kind::Exchange(Exchange::IChild));
     let replaces = left_key == right_key;
     let right = parent.key <= right_key;
-    let _ = table.ichild(pass, card, parent.node, leaf, replaces, right);
+    table.ichild(pass, card, parent.node, leaf, replaces, right);
 }
 
 /// Takes the flag of an insert away.
@@ -239,7 +239,7 @@ pub(crate) fn clear_insert<A: Allocator + Copy, G: StepGate>(
     ensures over { Knows pass.new.view (fact.IOver card) }
 {
     gate.before(pass.label(), Kind::Exchange(Exchange::IUnflag));
-    let _ = table.iunflag(pass, card, parent);
+    table.iunflag(pass, card, parent);
 }
 
 /// Marks the parent of a delete. Returns `None` if its mark stands now, and otherwise the update that was found in its
@@ -306,7 +306,7 @@ pub(crate) fn cut_parent<A: Allocator + Copy, G: StepGate>(
 {
     gate.before(pass.label(), Kind::Exchange(Exchange::DChild));
     let right = grandparent.key <= sibling.key;
-    let _ = table.dchild(pass, card, grandparent.node, parent, sibling.node, right);
+    table.dchild(pass, card, grandparent.node, parent, sibling.node, right);
 }
 
 /// Takes the flag of a delete away after its child exchange.
@@ -324,7 +324,7 @@ pub(crate) fn clear_delete<A: Allocator + Copy, G: StepGate>(
     ensures over { Knows pass.new.view (fact.DOver card) }
 {
     gate.before(pass.label(), Kind::Exchange(Exchange::DUnflag));
-    let _ = table.dunflag(pass, card, grandparent);
+    table.dunflag(pass, card, grandparent);
 }
 
 /// Takes the flag of a delete away after its lost mark.
@@ -342,5 +342,5 @@ pub(crate) fn go_back<A: Allocator + Copy, G: StepGate>(
     ensures backed { Knows pass.new.view (fact.Backed card) }
 {
     gate.before(pass.label(), Kind::Exchange(Exchange::Backtrack));
-    let _ = table.backtrack(pass, card, grandparent);
+    table.backtrack(pass, card, grandparent);
 }
