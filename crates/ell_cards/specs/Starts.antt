@@ -39,7 +39,7 @@ abbrev pub SlotsFit : TablePlan → Option Slots → Type 0
 SlotsFit plan None = plan.last_card ≤ greatest_card
 SlotsFit plan (Some s) =
     (1 ≤ s.places) × (s.places ≤ most_places) × (plan.last_card ≡ greatest_number) × (length plan.start ≤ s.last)
-    × (s.last ≤ greatest_card)
+    × (s.last ≤ greatest_card) × (plan.flat ≡ true)
 
 -- what a table may open with: real keys, ascending; start keys, ascending, each of them or shared; and cards for these,
 -- not more than there are numbers for

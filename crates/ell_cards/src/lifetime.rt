@@ -45,7 +45,7 @@ impl<A: Allocator + Copy> CardTable<A> {
     /// claimed. `BadCards` is returned exactly if the number of cards asked for is not 1 to `CARDS_MAX`, and
     /// `NoMemory` if an allocation fails. Conditions: the keys are strictly ascending, and at most `KEY_MAX`; the
     /// start keys are strictly ascending, at most `START_MAX`, and each is among the keys or shared; there are at
-    /// most 1,000,000 places.
+    /// most 1,000,000 places, and a tree with places is flat.
     pub fn reserve(
         alloc: A,
         start: &[(u64, u64)],
@@ -59,6 +59,7 @@ impl<A: Allocator + Copy> CardTable<A> {
         requires given { All (λ k. (set_of keys.now k ≡ true) ⊎ ((kind.shared ≡ true) × (k ≤ greatest_key))) (keys_of start.now) }
         requires few { length start.now ≤ most_start }
         requires places { kind.places ≤ most_places }
+        requires flat { kind.places ≢ 0 → kind.flat ≡ true }
         // It succeeds only with 1 to 1,000,000 cards.
         ensures cards { OnOk result (IsCardCount cards) }
         // The table has this plan, and the pass knows what a first pass does: it owns the keys, of which the start keys

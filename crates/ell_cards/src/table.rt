@@ -1,5 +1,5 @@
 //! The table, and its one atomic step of each kind.
-ghost use Rattle.std.specs.Prelude.{◌==◌, ◌≡◌, ◌≢◌, ℕ, ◌<◌, ◌≤◌, ◌+◌, ◌%◌, None, Some};
+ghost use Rattle.std.specs.Prelude.{◌==◌, ◌≡◌, ◌≢◌, ℕ, ◌<◌, ◌≤◌, ◌+◌, ◌%◌, None, Some, true};
 ghost use prog.Atomic.{either};
 ghost use Rattle.ell_core.specs.declared.fact.Fact.{Fact};
 ghost use Rattle.ell_core.specs.state.Facts.{card_of_fact};
@@ -89,6 +89,15 @@ impl<A: Allocator + Copy> CardTable<A> {
         ensures shallow { self.now.plan.slots ≡ None → deepest self.now.plan ≤ greatest_card + 64 }
     {
         self.names(pass);
+    }
+
+    /// A law, as the ones before: the tree of a table with places is flat.
+    #[inline(always)]
+    pub fn places_are_in_flat_trees(&self)
+        // Where there are places, the tree is flat.
+        ensures { self.now.plan.slots ≢ None → self.now.plan.flat ≡ true }
+    {
+        let _ = &self.table;
     }
 
     // What the pass names is in the table, and lies in slots that have words; and each tag that it was told has a word.

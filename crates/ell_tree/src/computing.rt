@@ -1,5 +1,5 @@
 //! Calls that compute what becomes of a key from what the tree has for it, and make that change in one atomic step.
-ghost use Rattle.std.specs.Prelude.{true, ◌≡◌, ◌≢◌, ◌<◌, ◌≤◌, ◌*◌, None, Err, IfOk, IfErr};
+ghost use Rattle.std.specs.Prelude.{◌≡◌, ◌≢◌, ◌<◌, ◌≤◌, ◌*◌, None, Err, IfOk, IfErr};
 ghost use Rattle.ell_tree.specs.Computing.{update_steps_in, round_steps_in, AreTried, Computes, IsNotDone, Replaces, round_steps, update_steps, whether_done, whether_made};
 ghost use Rattle.ell_tree.specs.Counts.{TookIn, Took};
 ghost use Rattle.ell_tree.specs.Ends.{CountsTries};
@@ -41,7 +41,6 @@ pub(crate) fn compute<A: Allocator + Copy, G: StepGate, F: Fn(Option<u64>) -> Op
     tries: u32,
     gate: &G,
 ) -> Result<Computed, NotDone>
-    requires flat { table.now.plan.slots ≢ None → table.now.plan.flat ≡ true }
     requires may { MayDo table.now key pass.old }
     requires tries { 1 ≤ tries }
     requires make { F.IsAlwaysCallable make }
@@ -87,7 +86,6 @@ fn replace<A: Allocator + Copy, G: StepGate>(
     value: u64,
     gate: &G,
 ) -> Result<Replaced, NotDone>
-    requires flat { table.now.plan.slots ≢ None → table.now.plan.flat ≡ true }
     requires may { MayDo table.now key pass.old }
     ensures replaces { Replaces table.now key was value pass.old pass.new result }
     ensures others { result ≡ Err Busy → IsOthersDoing table.now 1 pass.old pass.new }
@@ -114,7 +112,6 @@ fn add<A: Allocator + Copy, G: StepGate>(
     value: u64,
     gate: &G,
 ) -> Result<Replaced, NotDone>
-    requires flat { table.now.plan.slots ≢ None → table.now.plan.flat ≡ true }
     requires may { MayDo table.now key pass.old }
     ensures replaces { Replaces table.now key None value pass.old pass.new result }
     ensures others { result ≡ Err Busy → IsOthersDoing table.now 1 pass.old pass.new }

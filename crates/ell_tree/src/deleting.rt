@@ -41,7 +41,6 @@ pub(crate) fn try_delete<A: Allocator + Copy, G: StepGate>(
     key: u64,
     gate: &G,
 ) -> Tried
-    requires flat { table.now.plan.slots ≢ None → table.now.plan.flat ≡ true }
     requires own { pass.old.table ≡ table.now.id }
     requires root { AtRoot (Delete key) pass.old.view }
     ensures steps { pass.new.steps + 1 ≤ pass.old.steps + try_steps_in table.now.plan }
@@ -69,7 +68,6 @@ pub(crate) fn delete_at<A: Allocator + Copy, G: StepGate>(
     place: Place,
     gate: &G,
 ) -> Tried
-    requires flat { table.now.plan.slots ≢ None → table.now.plan.flat ≡ true }
     requires own { pass.old.table ≡ table.now.id }
     requires searched { HasSearched table.now.plan (Delete key) place pass.old.view }
     requires key { place.key ≡ key }

@@ -1,5 +1,5 @@
 //! Inserts (paper of 2010, figure 8: Insert), and swaps, which work the same way.
-ghost use Rattle.std.specs.Prelude.{[], ◌∷◌, true, ◌≢◌, ◌≡◌, ◌≤◌, ◌+◌, Some, None};
+ghost use Rattle.std.specs.Prelude.{[], ◌∷◌, ◌≢◌, ◌≡◌, ◌≤◌, ◌+◌, Some, None};
 ghost use Rattle.ell_word.specs.Link.{greatest_tag};
 ghost use Rattle.ell_word.specs.Node.{greatest_number};
 ghost use Rattle.ell_core.specs.acts.Searching.{put_of};
@@ -36,7 +36,6 @@ pub(crate) fn try_put<A: Allocator + Copy, G: StepGate>(
     what: Put,
     gate: &G,
 ) -> Tried
-    requires flat { table.now.plan.slots ≢ None → table.now.plan.flat ≡ true }
     requires own { pass.old.table ≡ table.now.id }
     requires puts { put_of op ≡ Some what }
     requires root { AtRoot op pass.old.view }

@@ -75,7 +75,6 @@ pub(crate) fn change<A: Allocator + Copy, G: StepGate>(
     tries: u32,
     gate: &G,
 ) -> Result<Option<u64>, NotDone>
-    requires flat { table.now.plan.slots ≢ None → table.now.plan.flat ≡ true }
     requires may { MayDo table.now (key_of op) pass.old }
     requires change { IsChange op }
     requires tries { 1 ≤ tries }
@@ -137,7 +136,6 @@ fn try_once<A: Allocator + Copy, G: StepGate>(
     op: Op,
     gate: &G,
 ) -> Tried
-    requires flat { table.now.plan.slots ≢ None → table.now.plan.flat ≡ true }
     requires own { pass.old.table ≡ table.now.id }
     requires change { IsChange op }
     requires root { AtRoot op pass.old.view }

@@ -30,7 +30,6 @@ pub(crate) fn remove_if<A: Allocator + Copy, G: StepGate>(
     tries: u32,
     gate: &G,
 ) -> Result<Option<u64>, NotDone>
-    requires flat { table.now.plan.slots ≢ None → table.now.plan.flat ≡ true }
     requires may { MayDo table.now key pass.old }
     requires tries { 1 ≤ tries }
     ensures removes { IfOk result (RemovesIf table.now key was pass.old pass.new) }
@@ -80,7 +79,6 @@ fn remove_or_read<A: Allocator + Copy, G: StepGate>(
     was: u64,
     gate: &G,
 ) -> Result<Replaced, NotDone>
-    requires flat { table.now.plan.slots ≢ None → table.now.plan.flat ≡ true }
     requires may { MayDo table.now key pass.old }
     ensures removes { RemovesOrReads table.now key was pass.old pass.new result }
     ensures others { result ≡ Err Busy → IsOthersDoing table.now 1 pass.old pass.new }
@@ -104,7 +102,6 @@ fn remove_once<A: Allocator + Copy, G: StepGate>(
     was: u64,
     gate: &G,
 ) -> Result<bool, NotDone>
-    requires flat { table.now.plan.slots ≢ None → table.now.plan.flat ≡ true }
     requires may { MayDo table.now key pass.old }
     ensures removes { RemovesOnce table.now key was pass.old pass.new result }
     ensures others { result ≡ Err Busy → IsOthersDoing table.now 1 pass.old pass.new }

@@ -1,5 +1,5 @@
 //! The tree.
-ghost use Rattle.std.specs.Prelude.{◌≡◌, ◌≢◌, ◌<◌, ◌≤◌, ◌+◌, ◌*◌, ◌++◌, [], true, false, length, None, Err, Ok, IfOk, IfErr, IfSome, OnOk, drop};
+ghost use Rattle.std.specs.Prelude.{◌≡◌, ◌≢◌, ◌<◌, ◌≤◌, ◌+◌, ◌*◌, ◌++◌, [], false, length, None, Err, Ok, IfOk, IfErr, IfSome, OnOk, drop};
 ghost use Rattle.std.specs.List.{All};
 ghost use Rattle.std.specs.List.Sorted.{IsStrictlyIncreasing};
 ghost use Rattle.std.specs.Map.{keys_of};
@@ -56,8 +56,6 @@ impl<A: Allocator + Copy> Model for Tree<A> {
     ghost Value = { TreeModel };
 
     ghost view = { λ t. t.table };
-
-    ghost invariant = { λ t. t.table.plan.slots ≢ None → t.table.plan.flat ≡ true };
 }
 
 impl<A: Allocator + Copy> Tree<A> {

@@ -1,5 +1,5 @@
 //! One try of an insert, a delete or a swap: how it ends, and its card.
-ghost use Rattle.std.specs.Prelude.{true, ◌≢◌, ◌≡◌, ◌≤◌, None};
+ghost use Rattle.std.specs.Prelude.{◌≡◌, ◌≤◌, None};
 ghost use Rattle.ell_word.specs.declared.update.State.TheVariants.{Clean};
 ghost use Rattle.ell_word.specs.Node.{greatest_number};
 ghost use Rattle.ell_cards.specs.Models.{Does, Steps, flat_from};
@@ -68,7 +68,6 @@ pub(crate) fn take_card<A: Allocator + Copy, G: StepGate>(
     node_key: u64,
     gate: &G,
 ) -> Claimed
-    requires flat { table.now.plan.slots ≢ None → table.now.plan.flat ≡ true }
     requires own { pass.old.table ≡ table.now.id }
     requires busy { Does pass.old.view op }
     requires no_card { pass.old.view.worker.card ≡ None }
@@ -102,7 +101,6 @@ fn claim_next<A: Allocator + Copy, G: StepGate>(
     node_key: u64,
     gate: &G,
 ) -> Next
-    requires flat { table.now.plan.slots ≢ None → table.now.plan.flat ≡ true }
     requires own { pass.old.table ≡ table.now.id }
     requires busy { Does pass.old.view op }
     requires hand { HoldsAside table.now.plan pass.old }
@@ -114,6 +112,7 @@ fn claim_next<A: Allocator + Copy, G: StepGate>(
     ensures taken { table.now.plan.slots ≡ None → NextTakes pass.old pass.new result }
     ensures limit { table.now.plan.last_card ≤ greatest_number }
 {
+    table.places_are_in_flat_trees();
     let label = pass.label();
     gate.before(label, Kind::Look);
     let first = table.next(pass);
@@ -150,7 +149,6 @@ fn claim_up_to<A: Allocator + Copy>(
     card: u64,
     node_key: u64,
 ) -> bool
-    requires flat { table.now.plan.slots ≢ None → table.now.plan.flat ≡ true }
     requires own { pass.old.table ≡ table.now.id }
     requires may { MayClaim (flat_from table.now.plan) pass.old.view first node_key }
     requires order { first ≤ card }
@@ -160,6 +158,7 @@ fn claim_up_to<A: Allocator + Copy>(
     ensures step { Steps pass.old pass.new (after_claimed_row result first card node_key pass.old.view) }
     ensures fresh { IsFresh table.now.plan pass.old.slot result card }
 {
+    table.places_are_in_flat_trees();
     if card == first {
         table.claim(pass, first, node_key)
     } else {

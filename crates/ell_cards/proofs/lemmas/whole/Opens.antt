@@ -298,15 +298,15 @@ whole_length plan may cards words size are = by plan.slots size are
 
 -- the cards and places of a table fit its plan
 pub slots_fit : (plan : TablePlan) (last places : ℕ) → plan.slots ≡ slots_of last places → plan.last_card ≡ last_for last places → places ≤ most_places → length plan.start ≤ last → last ≤ greatest_card
-    → SlotsFit plan plan.slots
-slots_fit plan last places slots number few room most = subst (SlotsFit plan) (sym slots) (by (places == 0) refl)
+    → (places ≢ 0 → plan.flat ≡ true) → SlotsFit plan plan.slots
+slots_fit plan last places slots number few room most flat = subst (SlotsFit plan) (sym slots) (by (places == 0) refl)
   where
     by : (b : Bool) → (places == 0) ≡ b → SlotsFit plan (if b then None else Some (record { last = last; places = places }))
     by true none = let is : plan.last_card ≡ last = number ∙ ap (λ b. if b then last else greatest_number) none in omega arith
     by false other =
         let some_place : places ≢ 0 = λ e. true≢false (sym (eq-eqb places 0 e) ∙ other) in
         let is : plan.last_card ≡ greatest_number = number ∙ ap (λ b. if b then last else greatest_number) other in
-        (omega arith, few, is, room, most)
+        (omega arith, few, is, room, most, flat some_place)
 
 -- and its cards are as many as there are numbers for, and enough for the start keys
 pub last_fits : (last places start : ℕ) → start ≤ last → last ≤ greatest_card → (start ≤ last_for last places) × (last_for last places ≤ greatest_number)

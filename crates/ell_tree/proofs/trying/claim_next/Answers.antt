@@ -51,7 +51,7 @@ pub returns-else-take_slot-clause-claims : goal.returns-else-take_slot-clause-cl
 returns-else-take_slot-clause-claims g c =
     let places : c.args.table.now.plan.slots ≢ None = λ none. search rules in
     in_vain c.args.pass.now c.next-first.new.pass c.next_takeable.new.pass c.next-first.result c.args.node_key c.next-first.ensures.step c.next_takeable.ensures.same c.next-first.ensures.least
-    c.claim_up_to.new.pass c.in-Some.card c.in-Some.ensures.found.0 c.args.table.now.plan c.take_slot.new.pass places (c.requires.flat places) c.if-not-claim_up_to.ensures.step
+    c.claim_up_to.new.pass c.in-Some.card c.in-Some.ensures.found.0 c.args.table.now.plan c.take_slot.new.pass places (c.places_are_in_flat_trees.ensures places) c.if-not-claim_up_to.ensures.step
     c.if-not-claim_up_to.ensures.fresh (c.take_slot.ensures.kept c.if-take_slot.false) c.next_takeable.ensures.missed (c.in-Some.ensures.sought places)
     (c.take_slot.ensures.missed c.if-take_slot.false c.in-Some.ensures.found.2) (c.take_slot.ensures.few c.if-take_slot.false c.in-Some.ensures.found.2)
 

@@ -50,4 +50,4 @@ open-requires-clause-may g c =
     asked.ascending asked.real asked.start_ascending asked.given
     (subst (λ n. length c.args.start.now ≤ n) (sym c.last_for.ensures) room.0) (omega arith) (subst (λ n. n ≤ greatest_number) (sym c.last_for.ensures) room.1)
     (slots_fit (record { keys = c.in_ok-copied.field-0.items; start = start; last_card = c.last_for.result; shared = c.args.kind.shared; flat = c.args.kind.flat; slots = c.slots_for-slots.result })
-    last c.args.kind.places c.slots_for-slots.ensures c.last_for.ensures asked.places (omega arith) (omega arith))
+    last c.args.kind.places c.slots_for-slots.ensures c.last_for.ensures asked.places (omega arith) (omega arith) asked.flat)
