@@ -63,7 +63,7 @@ pub record PlaceFits (standing : Standing) (words : ℕ) (p : Period) : Type 0 w
   pub lost : p.lost ≡ None
 
 -- a pass fits by what is shown of what its seat knows, and its seat holds no slot
-abbrev pub IsPass : {A : Type 0} → Inside A → Type 0
+abbrev pub IsPass : {A B C : Type 0} → Inside A B C → Type 0
 IsPass p =
     PassFits p.keys.items p.share p.seat.table_id.words (shown p.seat.me.0.tree) × (p.seat.me.1 ≡ [])
     × PlaceFits p.standing p.seat.table_id.words p.seat.me.0.period

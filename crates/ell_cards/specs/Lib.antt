@@ -6,6 +6,8 @@ pub mod SlotWords
 pub mod Seeking
 pub mod Searches
 pub mod Takings
+-- what contracts see of a memory and of a seat
+pub mod Memories
 -- what contracts see of a table and of a pass
 pub mod Models
 -- how each step call changes what a pass knows

@@ -9,6 +9,8 @@ ghost use Rattle.ell_core.specs.state.Machine.{ledger_of};
 ghost use Rattle.ell_cards.specs.Models.{IsFree, last_slot, whole_share};
 ghost use Rattle.ell_cards.specs.Closed.{ClosedModel, TableEnds};
 
+use crate::fixed::FixedMemory;
+use crate::memory::Seat;
 use crate::pass::Pass;
 use crate::period::last_slot;
 use crate::table::CardTable;
@@ -36,10 +38,10 @@ impl<A: Allocator + Copy> Model for Closed<A> {
         × (c.last_card ≤ greatest_card) };
 }
 
-impl<A: Allocator + Copy> CardTable<A> {
+impl<A: Allocator + Copy> CardTable<FixedMemory<A>> {
     /// Ends the table with a pass that has nothing in hand, owns each of the keys that may have owners, and, if the
     /// other keys are shared, has the whole share. Nothing is said of what a table with places leaves.
-    pub fn close(self, pass: Pass<A>) -> Closed<A>
+    pub fn close(self, pass: Pass<FixedMemory<A>>) -> Closed<A>
         requires own { pass.table ≡ self.id }
         requires free { IsFree pass.view }
         requires whole { self.plan.shared ≡ true → pass.view.share ≡ whole_share }
@@ -66,6 +68,8 @@ impl<A: Allocator + Copy> CardTable<A> {
             standing: _,
             seat,
         } = pass;
+        let FixedMemory { table } = table;
+        let Seat { seat } = seat;
         Closed {
             closed: table.close_with(seat),
             last_card: last_slot(slots, last_card),

@@ -17,20 +17,20 @@ ghost use Rattle.ell_cards.specs.Calls.{after, TellsNode};
 ghost use Rattle.ell_cards.specs.Stepping.{StepsBySome};
 
 use crate::call::Call;
+use crate::memory::Memory;
 use crate::outcomes::update_outcome;
 use crate::pass::Pass;
 use crate::places::{child_address, field_address, update_address};
 use crate::table::CardTable;
 use ell_layout::{Field, brought_node, update_word};
 use ell_word::{Link, State, Update};
-use std::alloc::Allocator;
 
-impl<A: Allocator + Copy> CardTable<A> {
+impl<M: Memory> CardTable<M> {
     /// Reads a word of a card that the pass knows flagged or marked: parent or leaf; of a delete's card also the
     /// grandparent, or the word that was read; and of another one a key. Nodes are of the table, ever deeper. The
     /// leaf's word has the tag that the card expects with it.
     #[inline(always)]
-    pub fn info(&self, pass: &mut Pass<A>, card: u64, field: Field) -> u64
+    pub fn info(&self, pass: &mut Pass<M>, card: u64, field: Field) -> u64
         requires own { pass.old.table ≡ self.now.id }
         requires may { MayAsk pass.old.view card field }
         // It makes one step and counts it. The pass then knows exactly what this call tells.
@@ -46,7 +46,7 @@ impl<A: Allocator + Copy> CardTable<A> {
 
     /// Reads a child of the parent of a card that the pass knows marked. It never changes.
     #[inline(always)]
-    pub fn frozen_child(&self, pass: &mut Pass<A>, card: u64, parent: u64, right: bool) -> Link
+    pub fn frozen_child(&self, pass: &mut Pass<M>, card: u64, parent: u64, right: bool) -> Link
         requires own { pass.old.table ≡ self.now.id }
         requires may { KnowsPlace pass.old.view (Marked card) card P parent }
         // It makes one step and counts it. The pass then knows exactly what this call tells.
@@ -68,7 +68,7 @@ impl<A: Allocator + Copy> CardTable<A> {
     #[inline(always)]
     pub fn ichild(
         &self,
-        pass: &mut Pass<A>,
+        pass: &mut Pass<M>,
         card: u64,
         parent: u64,
         leaf: Link,
@@ -89,7 +89,7 @@ impl<A: Allocator + Copy> CardTable<A> {
 
     /// Takes an insert's flag away. Whether that succeeds or fails, the pass then knows that the card is over.
     #[inline(always)]
-    pub fn iunflag(&self, pass: &mut Pass<A>, card: u64, parent: u64)
+    pub fn iunflag(&self, pass: &mut Pass<M>, card: u64, parent: u64)
         requires own { pass.old.table ≡ self.now.id }
         requires may { KnowsPlace pass.old.view (IChanged card) card P parent }
         // It makes one step and counts it. The pass then knows what this call tells by the word that it found.
@@ -106,7 +106,7 @@ impl<A: Allocator + Copy> CardTable<A> {
     /// the error is the update that was found: the card's own mark, or another one, and then the card can no longer be
     /// marked.
     #[inline(always)]
-    pub fn mark(&self, pass: &mut Pass<A>, card: u64, parent: u64, was: u64) -> Result<(), Update>
+    pub fn mark(&self, pass: &mut Pass<M>, card: u64, parent: u64, was: u64) -> Result<(), Update>
         requires own { pass.old.table ≡ self.now.id }
         requires may { MayMark pass.old.view card parent was }
         // It makes one step and counts it. The pass then knows exactly what this call tells.
@@ -129,7 +129,7 @@ impl<A: Allocator + Copy> CardTable<A> {
     #[inline(always)]
     pub fn dchild(
         &self,
-        pass: &mut Pass<A>,
+        pass: &mut Pass<M>,
         card: u64,
         grandparent: u64,
         parent: Link,
@@ -150,7 +150,7 @@ impl<A: Allocator + Copy> CardTable<A> {
     /// Takes a delete's flag away after its child exchange. Whether that succeeds or fails, the pass then knows that
     /// the card is over.
     #[inline(always)]
-    pub fn dunflag(&self, pass: &mut Pass<A>, card: u64, grandparent: u64)
+    pub fn dunflag(&self, pass: &mut Pass<M>, card: u64, grandparent: u64)
         requires own { pass.old.table ≡ self.now.id }
         requires may { KnowsPlace pass.old.view (Cut card) card Gp grandparent }
         // It makes one step and counts it. The pass then knows what this call tells by the word that it found.
@@ -166,7 +166,7 @@ impl<A: Allocator + Copy> CardTable<A> {
     /// Takes a delete's flag away after its lost mark. Whether that succeeds or fails, the pass then knows that the card
     /// is backed.
     #[inline(always)]
-    pub fn backtrack(&self, pass: &mut Pass<A>, card: u64, grandparent: u64)
+    pub fn backtrack(&self, pass: &mut Pass<M>, card: u64, grandparent: u64)
         requires own { pass.old.table ≡ self.now.id }
         requires may { KnowsPlace pass.old.view (Unmarkable card) card Gp grandparent }
         // It makes one step and counts it. The pass then knows what this call tells by the word that it found.

@@ -5,10 +5,12 @@ mod call;
 mod card_nodes;
 mod closed;
 mod fault;
+mod fixed;
 mod glance;
 mod helping;
 mod laws;
 mod lifetime;
+mod memory;
 mod outcomes;
 mod own_card;
 mod pass;
@@ -26,6 +28,7 @@ pub use call::Call;
 pub use card_nodes::CardNodes;
 pub use closed::Closed;
 pub use fault::{CardFault, SplitFault};
+pub use fixed::FixedMemory;
 pub use glance::{Glance, Stretch};
 pub use laws::{
     calls_have_their_point, calls_touch_nothing_gone, histories_are_linearizable,
@@ -37,6 +40,7 @@ pub use laws::{
     table_wins_are_in_order, tables_are_sound, tables_start, whole_accounts_are_of_one_thread,
 };
 pub use lifetime::is_card_count;
+pub use memory::Memory;
 pub use pass::Pass;
 pub use table::CardTable;
-pub use view::{Answered, Deed, Hindrance, Plan, TableKind, Told, View};
+pub use view::{Answered, Deed, Hindrance, Known, Plan, TableKind, Told, View};

@@ -22,21 +22,23 @@ ghost use Rattle.ell_cards.specs.Whole.{IsWhole, first_known};
 ghost use Rattle.atomic_table.specs.Table.{opening};
 
 use crate::fault::{CardFault, SplitFault};
+use crate::fixed::FixedMemory;
+use crate::memory::{Memory, Seat, join_seat};
 use crate::pass::{Pass, Standing};
 use crate::period::last_slot;
-use crate::rule::{CardRule, Joined, PartedBy, SplitBy};
+use crate::rule::{Joined, PartedBy, SplitBy};
 use crate::share::{Share, WHOLE_SHARE};
 use crate::slots::FREE_FROM_START;
 use crate::table::CardTable;
-use crate::view::{Known, Plan, Slots, TableKind};
-use atomic_table::{Seat, Table};
+use crate::view::{Plan, Slots, TableKind};
+use atomic_table::Table;
 use ell_layout::{table_size, write_opening};
 use ell_ops::{NoMemory, united_keys};
 use ell_word::{CARDS_MAX, NUMBER_MAX, card_of};
 use std::alloc::{AllocError, Allocator};
 use std::marker::Brand;
 
-impl<A: Allocator + Copy> CardTable<A> {
+impl<A: Allocator + Copy> CardTable<FixedMemory<A>> {
     /// Creates a table of this kind, of a tree that has these start keys with their values, balanced, with this many
     /// cards to be claimed, 1 to `CARDS_MAX`, and one pass that owns these keys: those of them that are start keys
     /// are present, the others absent. The tree of the start keys has a card for each of them, so the number of the
@@ -52,7 +54,7 @@ impl<A: Allocator + Copy> CardTable<A> {
         keys: &[u64],
         cards: u64,
         kind: TableKind,
-    ) -> Result<(CardTable<A>, Pass<A>), CardFault>
+    ) -> Result<(CardTable<FixedMemory<A>>, Pass<FixedMemory<A>>), CardFault>
         requires ascending { IsStrictlyIncreasing keys.now }
         requires real { All (λ k. k ≤ greatest_key) keys.now }
         requires start_ascending { IsStrictlyIncreasing (keys_of start.now) }
@@ -93,7 +95,10 @@ impl<A: Allocator + Copy> CardTable<A> {
     }
 
     // A table with this plan, and its first pass.
-    fn open(alloc: A, plan: Plan<A>) -> Result<(CardTable<A>, Pass<A>), AllocError>
+    fn open(
+        alloc: A,
+        plan: Plan<A>,
+    ) -> Result<(CardTable<FixedMemory<A>>, Pass<FixedMemory<A>>), AllocError>
         requires cards { plan.last_card ≤ greatest_number }
         requires few { length plan.start < greatest_card }
         requires may { MayStart plan }
@@ -130,7 +135,9 @@ impl<A: Allocator + Copy> CardTable<A> {
         };
         Ok((table, pass))
     }
+}
 
+impl<M: Memory> CardTable<M> {
     /// Returns the number of the last card. Without places it is how many cards there are besides card 0, including
     /// those of the start keys, at most `CARD_MAX`. Of a table with places it is `NUMBER_MAX`, the greatest number
     /// that a card may have, and fewer cards have words.
@@ -204,9 +211,9 @@ impl<A: Allocator + Copy> CardTable<A> {
     /// allocation fails. Either way the pass is as it was.
     pub fn split(
         &self,
-        pass: Pass<A>,
+        pass: Pass<M>,
         left_keys: &[u64],
-    ) -> Result<(Pass<A>, Pass<A>), (Pass<A>, SplitFault)>
+    ) -> Result<(Pass<M>, Pass<M>), (Pass<M>, SplitFault)>
         requires own { pass.table ≡ self.now.id }
         requires free { IsFree pass.view }
         requires ascending { IsStrictlyIncreasing left_keys.now }
@@ -237,10 +244,10 @@ impl<A: Allocator + Copy> CardTable<A> {
     // is left, the pass is as it was.
     fn split_as<J: SplitBy>(
         &self,
-        pass: Pass<A>,
-        left: Vec<u64, A>,
-        right: Vec<u64, A>,
-    ) -> Result<(Pass<A>, Pass<A>), Pass<A>>
+        pass: Pass<M>,
+        left: Vec<u64, M::Alloc>,
+        right: Vec<u64, M::Alloc>,
+    ) -> Result<(Pass<M>, Pass<M>), Pass<M>>
         requires own { pass.table ≡ self.now.id }
         requires may { MaySplit pass.view }
         requires left { MayHave pass.view left.items (left_view J.keys pass.view) }
@@ -269,7 +276,7 @@ impl<A: Allocator + Copy> CardTable<A> {
                 seat,
             });
         }
-        let other = self.table.shared.split_seat::<PartedBy<J>>(&mut seat);
+        let other = self.table.split_seat::<PartedBy<J>>(&mut seat);
         let steps = steps.saturating_add(1);
         let (kept, given) = share.parted();
         let apart = standing.parted(place);
@@ -296,9 +303,9 @@ impl<A: Allocator + Copy> CardTable<A> {
     /// allocation fails, both are as they were.
     pub fn join(
         &self,
-        left: Pass<A>,
-        right: Pass<A>,
-    ) -> Result<Pass<A>, (Pass<A>, Pass<A>, NoMemory)>
+        left: Pass<M>,
+        right: Pass<M>,
+    ) -> Result<Pass<M>, (Pass<M>, Pass<M>, NoMemory)>
         requires left { left.table ≡ self.now.id }
         requires right { right.table ≡ self.now.id }
         requires left_free { IsFree left.view }
@@ -331,7 +338,7 @@ impl<A: Allocator + Copy> CardTable<A> {
             standing: gone,
             seat: other,
         } = right;
-        self.table.shared.join_seat::<Joined>(&mut seat, other);
+        join_seat::<M, Joined>(&self.table, &mut seat, other);
         self.give_back(&mut seat, gone.place);
         let steps = steps.max(others).saturating_add(1);
         Ok(Pass {
@@ -347,7 +354,7 @@ impl<A: Allocator + Copy> CardTable<A> {
     /// Gives a pass up. If the table has places, and the pass is in no operation and no look, its place is free from
     /// now on, so that a later split finds it. Without places nothing happens. Its keys and its share stay with
     /// nobody.
-    pub fn release(&self, pass: Pass<A>)
+    pub fn release(&self, pass: Pass<M>)
         requires own { pass.table ≡ self.now.id }
     {
         let Pass {
@@ -419,13 +426,14 @@ fn last_for(last: u64, places: u64) -> u64
 fn opened<A: Allocator + Copy>(
     alloc: A,
     plan: &Plan<A>,
-) -> Result<(Table<(), Known, Plan<A>, CardRule, A>, Seat<(), Known>), AllocError>
+) -> Result<(FixedMemory<A>, Seat<FixedMemory<A>>), AllocError>
     requires may { MayStart plan.now }
-    ensures { IfOk result (λ made. IsNewTable (whole_size plan.now) made.0.shared.table_id made.1.table_id made.1.me
-        (first_known plan.now) × (made.0.shared.key ≡ plan.now)) }
+    ensures { IfOk result (λ made. IsNewTable (whole_size plan.now) made.0.table.shared.table_id made.1.table_id
+        made.1.me (first_known plan.now) × (made.0.table.shared.key ≡ plan.now)) }
 {
     let words = first_words(alloc, plan)?;
-    Table::of_words(alloc, words.as_slice(), plan)
+    let (table, seat) = Table::of_words(alloc, words.as_slice(), plan)?;
+    Ok((FixedMemory { table }, Seat { seat }))
 }
 
 // All words of an opening table.

@@ -13,21 +13,21 @@ ghost use Rattle.ell_cards.specs.Stepping.{IsWholeIn, MayInTable};
 ghost use Rattle.ell_cards.specs.Guards.{MayClaim, MayFill, MayIFlag, MayDFlag};
 
 use crate::call::Call;
+use crate::memory::Memory;
 use crate::outcomes::update_outcome;
 use crate::pass::Pass;
 use crate::places::{field_address, update_address};
 use crate::table::CardTable;
 use ell_layout::{Field, update_word};
 use ell_word::{State, Update, pack};
-use std::alloc::Allocator;
 use std::marker::Brand;
 
-impl<A: Allocator + Copy> CardTable<A> {
+impl<M: Memory> CardTable<M> {
     /// Takes the card that `next` read in this try, if it is still the next one. Returns `true` if it did. The node
     /// of an insert's or a swap's card gets this key: the greater one of its two keys, in a flat tree their branch. In
     /// a flat tree the pass may have a card in hand that has not won its flag, which it lays aside if it takes this one.
     #[inline(always)]
-    pub fn claim(&self, pass: &mut Pass<A>, card: u64, node_key: u64) -> bool
+    pub fn claim(&self, pass: &mut Pass<M>, card: u64, node_key: u64) -> bool
         requires own { pass.old.table ≡ self.now.id }
         requires may { MayClaim (flat_from self.now.plan) pass.old.view card node_key }
         // A card in hand that it lays aside is none whose slot it has taken.
@@ -46,7 +46,7 @@ impl<A: Allocator + Copy> CardTable<A> {
     /// one. Returns `true` if it did: then each of them was laid aside but the last one, which is in hand, as after so many
     /// claims in a row with `next` between two of them. A pass may have a card in hand, as for `claim`.
     #[inline(always)]
-    pub fn claim_row(&self, pass: &mut Pass<A>, first: u64, last: u64, node_key: u64) -> bool
+    pub fn claim_row(&self, pass: &mut Pass<M>, first: u64, last: u64, node_key: u64) -> bool
         requires own { pass.old.table ≡ self.now.id }
         requires may { MayClaim (flat_from self.now.plan) pass.old.view first node_key }
         // A card in hand that it lays aside is none whose slot it has taken.
@@ -67,7 +67,7 @@ impl<A: Allocator + Copy> CardTable<A> {
     /// Stores a word of the card in hand, which is not flagged: for the grandparent or the parent the low 43 bits of a
     /// node, as the pass knows them. If the table has places, the pass has taken the card's slot.
     #[inline(always)]
-    pub fn fill(&self, pass: &mut Pass<A>, card: u64, field: Field, value: u64)
+    pub fn fill(&self, pass: &mut Pass<M>, card: u64, field: Field, value: u64)
         requires own { pass.old.table ≡ self.now.id }
         requires may { MayFill pass.old.view card }
         requires slot { self.now.plan.slots ≢ None → pass.old.slot ≡ Some card }
@@ -86,7 +86,7 @@ impl<A: Allocator + Copy> CardTable<A> {
     #[inline(always)]
     pub fn iflag(
         &self,
-        pass: &mut Pass<A>,
+        pass: &mut Pass<M>,
         card: u64,
         parent: u64,
         from: Update,
@@ -118,7 +118,7 @@ impl<A: Allocator + Copy> CardTable<A> {
     #[inline(always)]
     pub fn dflag(
         &self,
-        pass: &mut Pass<A>,
+        pass: &mut Pass<M>,
         card: u64,
         grandparent: u64,
         from: Update,

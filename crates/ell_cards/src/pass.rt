@@ -5,22 +5,21 @@ ghost use Rattle.ell_cards.specs.Models.{Counts, MayPart, Owns, PassModel, one_m
 ghost use Rattle.ell_cards.specs.Changes.{ledger_keys};
 ghost use Rattle.ell_cards.specs.Periods.{period_by};
 
+use crate::memory::{Memory, Seat};
 use crate::share::{Share, WHOLE_SHARE};
-use crate::view::{Known, Slots};
-use atomic_table::Seat;
-use std::alloc::Allocator;
+use crate::view::Slots;
 use std::marker::Model;
 
 /// What a thread steps with on a table: keys of its own, a label, and a count of its steps. If a pass is dropped, its
 /// keys are lost: no other pass gets them, and the tree can no longer be closed.
 #[derive(Drop)]
-pub struct Pass<A: Allocator + Copy> {
-    pub(crate) keys: Vec<u64, A>,
+pub struct Pass<M: Memory> {
+    pub(crate) keys: Vec<u64, M::Alloc>,
     pub(crate) label: u32,
     pub(crate) steps: u64,
     pub(crate) share: Share,
     pub(crate) standing: Standing,
-    pub(crate) seat: Seat<(), Known>,
+    pub(crate) seat: Seat<M>,
 }
 
 /// The place that a pass has in a table with places, whether it announces there that it is in a period, and its safe number.
@@ -77,7 +76,7 @@ pub(crate) fn one_more(steps: u64) -> u64
     steps.saturating_add(1)
 }
 
-impl<A: Allocator + Copy> Model for Pass<A> {
+impl<M: Memory> Model for Pass<M> {
     ghost use Rattle.std.specs.Prelude.{is_some};
     ghost use Rattle.ell_cards.specs.Models.{PassModel};
     ghost use Rattle.ell_cards.specs.Inside.{IsPass};
@@ -100,7 +99,7 @@ impl<A: Allocator + Copy> Model for Pass<A> {
     ghost invariant = { IsPass };
 }
 
-impl<A: Allocator + Copy> Pass<A> {
+impl<M: Memory> Pass<M> {
     /// Returns `true` if the pass owns a key.
     pub fn owns(&self, key: u64) -> bool
         // Returns `true` exactly if the pass owns the key.

@@ -11,12 +11,11 @@ ghost use Rattle.ell_cards.specs.Periods.{IsAtRest, LooksAnew, StandsAs, after_a
 ghost use Rattle.ell_cards.specs.Stepping.{MayGoOn};
 ghost use Rattle.ell_cards.specs.Shown.{shown};
 
+use crate::memory::{Memory, Seat};
 use crate::pass::{Pass, Standing};
 use crate::rule::{InPeriod, PeriodTelling};
 use crate::table::CardTable;
-use crate::view::{Known, Slots};
-use atomic_table::Seat;
-use std::alloc::Allocator;
+use crate::view::Slots;
 use std::marker::Brand;
 
 /// The clock stops here, so that a place has a word for each reading, and so has a slot that was set free with it.
@@ -81,10 +80,10 @@ fn least_with(least: u64, word: u64) -> u64
     if word < 2 { least } else { least.min(word - 2) }
 }
 
-impl<A: Allocator + Copy> CardTable<A> {
+impl<M: Memory> CardTable<M> {
     /// A law, the contract of a function that does nothing: no pass of a table without places is in a period.
     #[inline(always)]
-    pub fn periods_have_places(&self, pass: &Pass<A>)
+    pub fn periods_have_places(&self, pass: &Pass<M>)
         requires own { pass.now.table ≡ self.now.id }
         // Without places, the pass is in no period.
         ensures { self.now.plan.slots ≡ None → pass.now.inside ≡ false }
@@ -95,11 +94,7 @@ impl<A: Allocator + Copy> CardTable<A> {
 
     // Loads a word of the periods.
     #[inline(always)]
-    pub(crate) fn period_load<J: PeriodTelling>(
-        &self,
-        seat: &mut Seat<(), Known>,
-        word: usize,
-    ) -> u64
+    pub(crate) fn period_load<J: PeriodTelling>(&self, seat: &mut Seat<M>, word: usize) -> u64
         requires own { seat.old.table_id ≡ self.now.id }
         requires empty { seat.old.me.1 ≡ [] }
         requires word { word < self.now.id.words }
@@ -108,12 +103,12 @@ impl<A: Allocator + Copy> CardTable<A> {
         ensures tree { seat.new.me.0.tree ≡ seat.old.me.0.tree }
         ensures seat { (seat.new.table_id ≡ seat.old.table_id) × (seat.new.me.1 ≡ []) }
     {
-        self.table.shared.load::<InPeriod<J>>(seat, word)
+        self.table.load::<InPeriod<J>>(seat, word)
     }
 
     // Stores a word of the periods.
     #[inline(always)]
-    fn period_store<J: PeriodTelling>(&self, seat: &mut Seat<(), Known>, word: usize, value: u64)
+    fn period_store<J: PeriodTelling>(&self, seat: &mut Seat<M>, word: usize, value: u64)
         requires own { seat.old.table_id ≡ self.now.id }
         requires empty { seat.old.me.1 ≡ [] }
         requires word { word < self.now.id.words }
@@ -122,14 +117,14 @@ impl<A: Allocator + Copy> CardTable<A> {
         ensures tree { seat.new.me.0.tree ≡ seat.old.me.0.tree }
         ensures seat { (seat.new.table_id ≡ seat.old.table_id) × (seat.new.me.1 ≡ []) }
     {
-        self.table.shared.store::<InPeriod<J>>(seat, word, value)
+        self.table.store::<InPeriod<J>>(seat, word, value)
     }
 
     // Exchanges a word of the periods.
     #[inline(always)]
     pub(crate) fn period_exchange<J: PeriodTelling>(
         &self,
-        seat: &mut Seat<(), Known>,
+        seat: &mut Seat<M>,
         word: usize,
         expected: u64,
         value: u64,
@@ -143,7 +138,6 @@ impl<A: Allocator + Copy> CardTable<A> {
         ensures seat { (seat.new.table_id ≡ seat.old.table_id) × (seat.new.me.1 ≡ []) }
     {
         self.table
-            .shared
             .compare_exchange::<InPeriod<J>>(seat, word, expected, value)
     }
 
@@ -170,7 +164,7 @@ impl<A: Allocator + Copy> CardTable<A> {
     }
 
     // Reads the clock, which never goes back.
-    fn read_clock(&self, seat: &mut Seat<(), Known>, slots: Slots) -> u64
+    fn read_clock(&self, seat: &mut Seat<M>, slots: Slots) -> u64
         requires own { seat.old.table_id ≡ self.now.id }
         requires empty { seat.old.me.1 ≡ [] }
         requires slots { self.now.plan.slots ≡ Some slots }
@@ -185,7 +179,7 @@ impl<A: Allocator + Copy> CardTable<A> {
     }
 
     // Announces a reading of the clock at the place of a pass that announces nothing.
-    fn announce(&self, seat: &mut Seat<(), Known>, slots: Slots, place: u64, reading: u64)
+    fn announce(&self, seat: &mut Seat<M>, slots: Slots, place: u64, reading: u64)
         requires own { seat.old.table_id ≡ self.now.id }
         requires empty { seat.old.me.1 ≡ [] }
         requires slots { self.now.plan.slots ≡ Some slots }
@@ -201,7 +195,7 @@ impl<A: Allocator + Copy> CardTable<A> {
     }
 
     // Takes the announcement of a pass at rest away from its place.
-    fn retract(&self, seat: &mut Seat<(), Known>, slots: Slots, place: u64)
+    fn retract(&self, seat: &mut Seat<M>, slots: Slots, place: u64)
         requires own { seat.old.table_id ≡ self.now.id }
         requires empty { seat.old.me.1 ≡ [] }
         requires slots { self.now.plan.slots ≡ Some slots }
@@ -217,7 +211,7 @@ impl<A: Allocator + Copy> CardTable<A> {
 
     // Begins a period, if there are places and the pass is in none: it reads the clock, and announces that.
     #[inline(always)]
-    pub(crate) fn enter(&self, standing: &mut Standing, seat: &mut Seat<(), Known>)
+    pub(crate) fn enter(&self, standing: &mut Standing, seat: &mut Seat<M>)
         requires own { seat.old.table_id ≡ self.now.id }
         requires empty { seat.old.me.1 ≡ [] }
         requires fits { PlaceFits standing.old seat.old.table_id.words seat.old.me.0.period }
@@ -245,7 +239,7 @@ impl<A: Allocator + Copy> CardTable<A> {
 
     /// Ends the period of a pass at rest, if it is in one.
     #[inline(always)]
-    pub(crate) fn withdraw(&self, pass: &mut Pass<A>)
+    pub(crate) fn withdraw(&self, pass: &mut Pass<M>)
         requires own { pass.old.table ≡ self.now.id }
         requires rest { IsAtRest pass.old.view }
         // The pass is in no period. What it knows of the tree is as it was, and it has made no step that is counted.
@@ -262,7 +256,7 @@ impl<A: Allocator + Copy> CardTable<A> {
     }
 
     // Takes a place that no pass has, if it is free. Returns `true` if it was.
-    fn take_place(&self, seat: &mut Seat<(), Known>, slots: Slots, place: u64) -> bool
+    fn take_place(&self, seat: &mut Seat<M>, slots: Slots, place: u64) -> bool
         requires own { seat.old.table_id ≡ self.now.id }
         requires empty { seat.old.me.1 ≡ [] }
         requires slots { self.now.plan.slots ≡ Some slots }
@@ -278,7 +272,7 @@ impl<A: Allocator + Copy> CardTable<A> {
 
     // Takes a place that no pass has, if there are places and one is free. It looks at each once, first at the one behind the
     // place that was found last, so that many places are found in a row with few looks at those that are taken.
-    pub(crate) fn find_place(&self, seat: &mut Seat<(), Known>, found: u64) -> Option<u64>
+    pub(crate) fn find_place(&self, seat: &mut Seat<M>, found: u64) -> Option<u64>
         requires own { seat.old.table_id ≡ self.now.id }
         requires empty { seat.old.me.1 ≡ [] }
         requires none { seat.old.me.0.period.other ≡ None }
@@ -298,7 +292,7 @@ impl<A: Allocator + Copy> CardTable<A> {
     }
 
     // Gives the other place of a pass back, if it has one.
-    pub(crate) fn give_back(&self, seat: &mut Seat<(), Known>, place: Option<u64>)
+    pub(crate) fn give_back(&self, seat: &mut Seat<M>, place: Option<u64>)
         requires own { seat.old.table_id ≡ self.now.id }
         requires empty { seat.old.me.1 ≡ [] }
         requires other { seat.old.me.0.period.other ≡ place }
@@ -314,7 +308,7 @@ impl<A: Allocator + Copy> CardTable<A> {
     }
 
     // Gives the place of a pass back that announces nothing, as the pass is given up.
-    pub(crate) fn give_up(&self, seat: &mut Seat<(), Known>, slots: Slots, place: u64)
+    pub(crate) fn give_up(&self, seat: &mut Seat<M>, slots: Slots, place: u64)
         requires own { seat.old.table_id ≡ self.now.id }
         requires empty { seat.old.me.1 ≡ [] }
         requires slots { self.now.plan.slots ≡ Some slots }
@@ -328,7 +322,7 @@ impl<A: Allocator + Copy> CardTable<A> {
     }
 
     // Lets the clock go on by one from a reading of it, unless it has gone on since.
-    fn tick(&self, seat: &mut Seat<(), Known>, slots: Slots, reading: u64)
+    fn tick(&self, seat: &mut Seat<M>, slots: Slots, reading: u64)
         requires own { seat.old.table_id ≡ self.now.id }
         requires empty { seat.old.me.1 ≡ [] }
         requires slots { self.now.plan.slots ≡ Some slots }
@@ -343,7 +337,7 @@ impl<A: Allocator + Copy> CardTable<A> {
 
     // Reads the clock, and lets it go on, unless it stops there: by then it is past what it was when the pass looked at
     // all places last.
-    pub(crate) fn advance(&self, seat: &mut Seat<(), Known>, slots: Slots)
+    pub(crate) fn advance(&self, seat: &mut Seat<M>, slots: Slots)
         requires own { seat.old.table_id ≡ self.now.id }
         requires empty { seat.old.me.1 ≡ [] }
         requires slots { self.now.plan.slots ≡ Some slots }
@@ -366,7 +360,7 @@ impl<A: Allocator + Copy> CardTable<A> {
     }
 
     // Looks at the next place, and returns its word.
-    fn look_at(&self, seat: &mut Seat<(), Known>, slots: Slots, place: u64) -> u64
+    fn look_at(&self, seat: &mut Seat<M>, slots: Slots, place: u64) -> u64
         requires own { seat.old.table_id ≡ self.now.id }
         requires empty { seat.old.me.1 ≡ [] }
         requires slots { self.now.plan.slots ≡ Some slots }
@@ -381,7 +375,7 @@ impl<A: Allocator + Copy> CardTable<A> {
 
     // Reads the clock, and looks at all places. Returns the least number that it saw, which is the pass's safe number
     // from now on, unless the last one is greater.
-    fn scan(&self, seat: &mut Seat<(), Known>, slots: Slots) -> u64
+    fn scan(&self, seat: &mut Seat<M>, slots: Slots) -> u64
         requires own { seat.old.table_id ≡ self.now.id }
         requires empty { seat.old.me.1 ≡ [] }
         requires slots { self.now.plan.slots ≡ Some slots }
@@ -411,7 +405,7 @@ impl<A: Allocator + Copy> CardTable<A> {
     /// that is greater: the pass's safe number from now on, which is never less than the last one. As
     /// `safe_numbers_are_safe` says, whenever a pass is in a period, it began it when the clock was this at least.
     /// Returns 0 if the table has no places. Its steps are not counted.
-    pub fn safe_number(&self, pass: &mut Pass<A>) -> u64
+    pub fn safe_number(&self, pass: &mut Pass<M>) -> u64
         requires own { pass.old.table ≡ self.now.id }
         // The pass has this safe number, and has looked at the places; it is otherwise unchanged, and has made no step
         // that is counted.
@@ -439,7 +433,7 @@ impl<A: Allocator + Copy> CardTable<A> {
 
     /// Lets the clock go on and looks at all places, if the pass has not done so yet: no stamp is below the safe
     /// number 0.
-    pub(crate) fn look_first(&self, pass: &mut Pass<A>)
+    pub(crate) fn look_first(&self, pass: &mut Pass<M>)
         requires own { pass.old.table ≡ self.now.id }
         ensures same { pass.new ≡ record (pass.old) { safe = pass.new.safe; surveyed = pass.new.surveyed } }
         ensures more { pass.old.safe ≤ pass.new.safe }

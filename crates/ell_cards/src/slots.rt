@@ -18,13 +18,12 @@ ghost use Rattle.ell_cards.specs.Holding.{HoldsWaiting};
 ghost use Rattle.ell_cards.specs.Shown.{shown};
 
 use crate::card_nodes::CardNodes;
+use crate::memory::{Memory, Seat};
 use crate::pass::Pass;
 use crate::rule::PeriodTelling;
 use crate::table::CardTable;
-use crate::view::{Known, SlotRead, Slots};
-use atomic_table::Seat;
+use crate::view::{SlotRead, Slots};
 use ell_word::card_of;
-use std::alloc::Allocator;
 use std::marker::Brand;
 
 /// How many numbers of cards a turn has. Each slot has one of them.
@@ -164,7 +163,7 @@ impl Slots {
     }
 }
 
-impl<A: Allocator + Copy> CardTable<A> {
+impl<M: Memory> CardTable<M> {
     // Returns the address of the word of a slot, which is one of the table.
     #[inline(always)]
     fn slot_address(&self, slots: Slots, slot: u64) -> usize
@@ -178,7 +177,7 @@ impl<A: Allocator + Copy> CardTable<A> {
     }
 
     // Reads the word of a slot.
-    fn read_slot(&self, seat: &mut Seat<(), Known>, slots: Slots, slot: u64) -> u64
+    fn read_slot(&self, seat: &mut Seat<M>, slots: Slots, slot: u64) -> u64
         requires own { seat.old.table_id ≡ self.now.id }
         requires empty { seat.old.me.1 ≡ [] }
         requires slots { self.now.plan.slots ≡ Some slots }
@@ -194,7 +193,7 @@ impl<A: Allocator + Copy> CardTable<A> {
     #[inline(always)]
     fn stamp_load<J: PeriodTelling>(
         &self,
-        seat: &mut Seat<(), Known>,
+        seat: &mut Seat<M>,
         slots: Slots,
         slot: u64,
         word: u64,
@@ -214,7 +213,7 @@ impl<A: Allocator + Copy> CardTable<A> {
     // Reads the clock for the card that lies in a slot by this word: whose nodes the pass knows to be dead, or which it
     // has laid aside. A card whose slot the pass has taken has a slot of the table. A pass that is in a period reads no
     // less than the clock was when it began that.
-    fn stamp(&self, seat: &mut Seat<(), Known>, slots: Slots, slot: u64, word: u64) -> u64
+    fn stamp(&self, seat: &mut Seat<M>, slots: Slots, slot: u64, word: u64) -> u64
         requires own { seat.old.table_id ≡ self.now.id }
         requires empty { seat.old.me.1 ≡ [] }
         requires slots { self.now.plan.slots ≡ Some slots }
@@ -233,7 +232,7 @@ impl<A: Allocator + Copy> CardTable<A> {
     #[inline(always)]
     fn load_noted<J: PeriodTelling>(
         &self,
-        seat: &mut Seat<(), Known>,
+        seat: &mut Seat<M>,
         slots: Slots,
         card: u64,
         nodes: CardNodes,
@@ -257,7 +256,7 @@ impl<A: Allocator + Copy> CardTable<A> {
     #[inline(always)]
     fn exchange_noted<J: PeriodTelling>(
         &self,
-        seat: &mut Seat<(), Known>,
+        seat: &mut Seat<M>,
         slots: Slots,
         card: u64,
         nodes: CardNodes,
@@ -284,7 +283,7 @@ impl<A: Allocator + Copy> CardTable<A> {
     // shows that none of them is left, the card lies there still.
     fn read_to_note(
         &self,
-        seat: &mut Seat<(), Known>,
+        seat: &mut Seat<M>,
         slots: Slots,
         card: u64,
         nodes: CardNodes,
@@ -308,7 +307,7 @@ impl<A: Allocator + Copy> CardTable<A> {
     // was read. Returns the word that it found: if that is another one, the pass has read it by that.
     fn note_more(
         &self,
-        seat: &mut Seat<(), Known>,
+        seat: &mut Seat<M>,
         slots: Slots,
         card: u64,
         nodes: CardNodes,
@@ -337,7 +336,7 @@ impl<A: Allocator + Copy> CardTable<A> {
     // Sets the slot free instead, as these are the last of its card's nodes.
     fn note_last(
         &self,
-        seat: &mut Seat<(), Known>,
+        seat: &mut Seat<M>,
         slots: Slots,
         card: u64,
         nodes: CardNodes,
@@ -368,7 +367,7 @@ impl<A: Allocator + Copy> CardTable<A> {
     // pass has read it by that.
     fn note_word(
         &self,
-        seat: &mut Seat<(), Known>,
+        seat: &mut Seat<M>,
         slots: Slots,
         card: u64,
         nodes: CardNodes,
@@ -409,7 +408,7 @@ impl<A: Allocator + Copy> CardTable<A> {
     // whether it set the slot free.
     fn note_dead(
         &self,
-        seat: &mut Seat<(), Known>,
+        seat: &mut Seat<M>,
         slots: Slots,
         card: u64,
         nodes: CardNodes,
@@ -445,7 +444,7 @@ impl<A: Allocator + Copy> CardTable<A> {
 
     // Sets the slot free of a card that the pass has laid aside: nobody else knows of the card, so the slot's word
     // notes no node.
-    fn set_free(&self, seat: &mut Seat<(), Known>, slots: Slots, card: u64)
+    fn set_free(&self, seat: &mut Seat<M>, slots: Slots, card: u64)
         requires own { seat.old.table_id ≡ self.now.id }
         requires empty { seat.old.me.1 ≡ [] }
         requires slots { self.now.plan.slots ≡ Some slots }
@@ -464,7 +463,7 @@ impl<A: Allocator + Copy> CardTable<A> {
 
     /// Sets the slot of a card free if the pass has laid the card aside, as it lost the card's flag. It does nothing if
     /// the table has no places.
-    pub(crate) fn free_aside(&self, seat: &mut Seat<(), Known>, card: u64, lost: bool)
+    pub(crate) fn free_aside(&self, seat: &mut Seat<M>, card: u64, lost: bool)
         requires own { seat.old.table_id ≡ self.now.id }
         requires empty { seat.old.me.1 ≡ [] }
         requires lost { LostIs self.now.plan.slots lost card seat.old.me.0.period }
@@ -487,7 +486,7 @@ impl<A: Allocator + Copy> CardTable<A> {
 
     /// Notes a node that the card in hand, which is over, has taken out of the tree, as `retire_taken_out` notes
     /// several of one card. Returns `true` if its card's slot became free by this call.
-    pub fn retire(&self, pass: &mut Pass<A>, node: u64) -> bool
+    pub fn retire(&self, pass: &mut Pass<M>, node: u64) -> bool
         requires own { pass.old.table ≡ self.now.id }
         requires taken { HasTakenOut pass.old.view node }
         // What the pass knows of the tree is as it was, and it has made no step that is counted.
@@ -505,7 +504,7 @@ impl<A: Allocator + Copy> CardTable<A> {
     /// or by up to three if other passes change the word meanwhile. Of them the pass knows the low 43 bits, and so of
     /// their card the low 41. Once all three nodes of a card are noted, its slot is free. Returns `true` if it became
     /// free by this call. It does nothing if the table has no places. Its steps are not counted.
-    pub fn retire_taken_out(&self, pass: &mut Pass<A>, card: u64, nodes: CardNodes) -> bool
+    pub fn retire_taken_out(&self, pass: &mut Pass<M>, card: u64, nodes: CardNodes) -> bool
         requires own { pass.old.table ≡ self.now.id }
         requires taken { AreTakenOut pass.old.view card nodes }
         // What the pass knows of the tree is as it was, and it has made no step that is counted.
@@ -530,7 +529,7 @@ impl<A: Allocator + Copy> CardTable<A> {
     /// up to three if other passes change the word meanwhile. Once all three nodes of a card are noted, its slot is
     /// free. Returns `true` if it became free by this call. It does nothing if the table has no places. Its steps are
     /// not counted.
-    pub fn retire_nodes(&self, pass: &mut Pass<A>, card: u64, nodes: CardNodes) -> bool
+    pub fn retire_nodes(&self, pass: &mut Pass<M>, card: u64, nodes: CardNodes) -> bool
         requires own { pass.old.table ≡ self.now.id }
         requires hand { pass.old.view.worker.card ≡ Some card }
         requires never { NeverCome pass.old.view card nodes }
@@ -552,7 +551,7 @@ impl<A: Allocator + Copy> CardTable<A> {
     }
 
     // Reads the word of the slot of a card in hand, and counts a miss if the pass could not take the slot.
-    fn own_slot(&self, seat: &mut Seat<(), Known>, slots: Slots, card: u64) -> u64
+    fn own_slot(&self, seat: &mut Seat<M>, slots: Slots, card: u64) -> u64
         requires own { seat.old.table_id ≡ self.now.id }
         requires empty { seat.old.me.1 ≡ [] }
         requires slots { self.now.plan.slots ≡ Some slots }
@@ -569,7 +568,7 @@ impl<A: Allocator + Copy> CardTable<A> {
 
     // Takes the slot of a card in hand that was set free with a stamp below the pass's safe number, if the slot's
     // word is this still. Returns `true` if it was.
-    fn take_free(&self, seat: &mut Seat<(), Known>, slots: Slots, card: u64, word: u64) -> bool
+    fn take_free(&self, seat: &mut Seat<M>, slots: Slots, card: u64, word: u64) -> bool
         requires own { seat.old.table_id ≡ self.now.id }
         requires empty { seat.old.me.1 ≡ [] }
         requires slots { self.now.plan.slots ≡ Some slots }
@@ -596,7 +595,7 @@ impl<A: Allocator + Copy> CardTable<A> {
     // once in so many numbers that it went by. It does so for each of the next takings where it went by many at once,
     // as few slots are free, and for each slot that is for deletes alone: then the slots that these changes set free
     // have different stamps, of which the next change can take the oldest.
-    fn look_now_and_then(&self, pass: &mut Pass<A>, slots: Slots, card: u64)
+    fn look_now_and_then(&self, pass: &mut Pass<M>, slots: Slots, card: u64)
         requires own { pass.old.table ≡ self.now.id }
         ensures same { pass.new ≡ record (pass.old) { safe = pass.new.safe; surveyed = pass.new.surveyed } }
         ensures more { pass.old.safe ≤ pass.new.safe }
@@ -615,7 +614,7 @@ impl<A: Allocator + Copy> CardTable<A> {
     #[inline(always)]
     fn load_sought<J: PeriodTelling>(
         &self,
-        seat: &mut Seat<(), Known>,
+        seat: &mut Seat<M>,
         slots: Slots,
         card: u64,
         begins: bool,
@@ -639,7 +638,7 @@ impl<A: Allocator + Copy> CardTable<A> {
     #[inline(always)]
     fn seek_slot(
         &self,
-        seat: &mut Seat<(), Known>,
+        seat: &mut Seat<M>,
         slots: Slots,
         card: u64,
         begins: bool,
@@ -662,7 +661,7 @@ impl<A: Allocator + Copy> CardTable<A> {
     // pass's safe number, and it is for deletes alone only if the change is one.
     fn is_takeable(
         &self,
-        pass: &mut Pass<A>,
+        pass: &mut Pass<M>,
         slots: Slots,
         card: u64,
         begins: bool,
@@ -684,7 +683,7 @@ impl<A: Allocator + Copy> CardTable<A> {
     // another change. It reads the word of each slot once at most.
     fn seek_takeable(
         &self,
-        pass: &mut Pass<A>,
+        pass: &mut Pass<M>,
         slots: Slots,
         card: u64,
         for_delete: bool,
@@ -720,7 +719,7 @@ impl<A: Allocator + Copy> CardTable<A> {
     /// a greater safe number. Returns `None` if there is none, or none that the table has. The last two slots of the
     /// table are for deletes alone, so some are left to them even if keys fill all others. Without places, each card
     /// has words of its own, and this is the card itself. Its steps are not counted.
-    pub fn next_takeable(&self, pass: &mut Pass<A>, card: u64, for_delete: bool) -> Option<u64>
+    pub fn next_takeable(&self, pass: &mut Pass<M>, card: u64, for_delete: bool) -> Option<u64>
         requires own { pass.old.table ≡ self.now.id }
         requires room { card ≤ self.now.plan.last_card }
         // What the pass knows of the tree is as it was, and it has made no step that is counted.
@@ -765,7 +764,7 @@ impl<A: Allocator + Copy> CardTable<A> {
     /// Takes the slot of the card in hand, if that was set free with a stamp below the pass's safe number. Returns
     /// `true` if it did: in a table without places always, and never where the card has no slot. Its steps are not
     /// counted.
-    pub fn take_slot(&self, pass: &mut Pass<A>, card: u64) -> bool
+    pub fn take_slot(&self, pass: &mut Pass<M>, card: u64) -> bool
         requires own { pass.old.table ≡ self.now.id }
         requires may { MayFill pass.old.view card }
         // The pass has taken the slot of its card, if the table has places.

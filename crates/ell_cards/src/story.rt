@@ -6,16 +6,16 @@ ghost use Rattle.ell_cards.specs.Calls.{after};
 ghost use Rattle.ell_cards.specs.Stories.{HasStory};
 
 use crate::call::Call;
+use crate::memory::Memory;
 use crate::pass::Pass;
 use crate::table::CardTable;
-use std::alloc::Allocator;
 use std::marker::Brand;
 
-impl<A: Allocator + Copy> CardTable<A> {
+impl<M: Memory> CardTable<M> {
     /// Reads the claim word, and does nothing else, so that the pass knows this law: all that was done with the table
     /// up to now, by whichever passes, is one history, which is linearizable, and in whose sequence are the calls that
     /// the pass was answered. The step is not counted.
-    pub fn story(&self, pass: &mut Pass<A>)
+    pub fn story(&self, pass: &mut Pass<M>)
         requires own { pass.old.table ≡ self.now.id }
         // All that was done with the table is one linearizable history. Its sequence has the calls that the pass was
         // answered, it and the passes that were joined to it, and no others if it has the whole share. Each delete

@@ -24,48 +24,47 @@ ghost use Rattle.ell_cards.specs.SlotWords.{slot_of};
 ghost use Rattle.ell_cards.specs.Stepping.{Enters, EntersBy, Exchanges, IsQuiet, MayInTable, MayTell, KeepsPass, SeesBy, StepsBy, after_entering};
 
 use crate::call::Call;
+use crate::memory::Memory;
 use crate::pass::{Pass, one_more};
-use crate::rule::{By, CardRule, Noted, Noting, Telling};
-use crate::view::{Known, Plan, Slots};
-use atomic_table::Table;
+use crate::rule::{By, Noted, Noting, Telling};
+use crate::view::Slots;
 use ell_layout::Field;
 use ell_word::{Link, child_word};
-use std::alloc::Allocator;
 use std::marker::{Brand, Model};
 
 /// A table of cards, whose words many passes share.
 #[derive(Drop)]
-pub struct CardTable<A: Allocator + Copy> {
-    pub(crate) table: Table<(), Known, Plan<A>, CardRule, A>,
-    pub(crate) alloc: A,
+pub struct CardTable<M: Memory> {
+    pub(crate) table: M,
+    pub(crate) alloc: M::Alloc,
     pub(crate) last_card: u64,
     pub(crate) shared: bool,
     pub(crate) first_block: u64,
     pub(crate) slots: Option<Slots>,
 }
 
-impl<A: Allocator + Copy> Model for CardTable<A> {
+impl<M: Memory> Model for CardTable<M> {
     ghost Value = { TableModel };
 
-    ghost view = { λ t. record { id = t.table.shared.table_id; plan = t.table.shared.key } };
+    ghost view = { λ t. record { id = M.table_id t.table; plan = M.key t.table } };
 
-    ghost invariant = { λ t. (t.table.shared.table_id.words ≡ whole_size t.table.shared.key)
-        × (t.table.shared.table_id.slots ≡ 0)
-        × (t.table.shared.key.last_card ≤ greatest_number)
-        × (t.last_card ≡ t.table.shared.key.last_card)
-        × (t.shared ≡ t.table.shared.key.shared)
-        × (t.first_block ≡ flat_from t.table.shared.key)
-        × (deepest t.table.shared.key ≤ greatest_number + 64)
-        × (t.slots ≡ t.table.shared.key.slots)
-        × SlotsFit t.table.shared.key t.table.shared.key.slots
-        × (t.table.shared.key.slots ≡ None → deepest t.table.shared.key ≤ greatest_card + 64) };
+    ghost invariant = { λ t. ((M.table_id t.table).words ≡ whole_size (M.key t.table))
+        × ((M.table_id t.table).slots ≡ 0)
+        × ((M.key t.table).last_card ≤ greatest_number)
+        × (t.last_card ≡ (M.key t.table).last_card)
+        × (t.shared ≡ (M.key t.table).shared)
+        × (t.first_block ≡ flat_from (M.key t.table))
+        × (deepest (M.key t.table) ≤ greatest_number + 64)
+        × (t.slots ≡ (M.key t.table).slots)
+        × SlotsFit (M.key t.table) (M.key t.table).slots
+        × ((M.key t.table).slots ≡ None → deepest (M.key t.table) ≤ greatest_card + 64) };
 }
 
-impl<A: Allocator + Copy> CardTable<A> {
+impl<M: Memory> CardTable<M> {
     /// A law, the contract of a function that does nothing: whatever a pass did, each card that its claims have shown to be given out is
     /// one of the table.
     #[inline(always)]
-    pub fn claims_stay_inside(&self, pass: &Pass<A>)
+    pub fn claims_stay_inside(&self, pass: &Pass<M>)
         requires own { pass.now.table ≡ self.now.id }
         // The claims that the pass has tried were of cards of the table.
         ensures { pass.now.view.next_at_least ≤ self.now.plan.last_card + 1 }
@@ -75,7 +74,7 @@ impl<A: Allocator + Copy> CardTable<A> {
 
     /// A law, as the one before: each card that a pass knows something of is one of the table.
     #[inline(always)]
-    pub fn facts_stay_inside(&self, pass: &Pass<A>)
+    pub fn facts_stay_inside(&self, pass: &Pass<M>)
         requires own { pass.now.table ≡ self.now.id }
         // All that the pass knows is of cards of the table.
         ensures cards { (fact : Fact) → Knows pass.now.view fact → card_of_fact fact ≤ self.now.plan.last_card }
@@ -102,7 +101,7 @@ impl<A: Allocator + Copy> CardTable<A> {
 
     // What the pass names is in the table, and lies in slots that have words; and each tag that it was told has a word.
     #[inline(always)]
-    pub(crate) fn names(&self, pass: &Pass<A>)
+    pub(crate) fn names(&self, pass: &Pass<M>)
         requires own { pass.now.table ≡ self.now.id }
         ensures named { IsNamed self.now.plan.last_card pass.now.view }
         ensures placed { IsPlaced greatest_card pass.now.view }
@@ -120,7 +119,7 @@ impl<A: Allocator + Copy> CardTable<A> {
 
     // Loads a word, a step that is not counted.
     #[inline(always)]
-    pub(crate) fn load_as<J: Telling>(&self, pass: &mut Pass<A>, call: Call, word: usize) -> u64
+    pub(crate) fn load_as<J: Telling>(&self, pass: &mut Pass<M>, call: Call, word: usize) -> u64
         requires own { pass.old.table ≡ self.now.id }
         requires may { May self.now.plan call pass.old.view }
         requires quiet { IsQuiet call }
@@ -133,12 +132,12 @@ impl<A: Allocator + Copy> CardTable<A> {
         ensures step { SeesBy pass.old pass.new }
     {
         let _ = call;
-        self.table.shared.load::<By<J>>(&mut pass.seat, word)
+        self.table.load::<By<J>>(&mut pass.seat, word)
     }
 
     /// A step call that loads its word, and leaves the step to be counted by its caller.
     #[inline(always)]
-    pub(crate) fn see(&self, pass: &mut Pass<A>, call: Call, word: usize) -> u64
+    pub(crate) fn see(&self, pass: &mut Pass<M>, call: Call, word: usize) -> u64
         requires own { pass.old.table ≡ self.now.id }
         requires may { May self.now.plan call pass.old.view }
         requires quiet { IsQuiet call }
@@ -159,7 +158,7 @@ impl<A: Allocator + Copy> CardTable<A> {
 
     /// A step call that loads its word.
     #[inline(always)]
-    pub(crate) fn load(&self, pass: &mut Pass<A>, call: Call, word: usize) -> u64
+    pub(crate) fn load(&self, pass: &mut Pass<M>, call: Call, word: usize) -> u64
         requires own { pass.old.table ≡ self.now.id }
         requires may { May self.now.plan call pass.old.view }
         requires quiet { IsQuiet call }
@@ -179,7 +178,7 @@ impl<A: Allocator + Copy> CardTable<A> {
 
     // Loads a word, a step that is not counted, after the pass has begun a period if there are places and it is in none.
     #[inline(always)]
-    fn load_entered_as<J: Noting>(&self, pass: &mut Pass<A>, call: Call, word: usize) -> u64
+    fn load_entered_as<J: Noting>(&self, pass: &mut Pass<M>, call: Call, word: usize) -> u64
         requires own { pass.old.table ≡ self.now.id }
         requires may { May self.now.plan call pass.old.view }
         requires word { word ≡ place_of call }
@@ -193,13 +192,13 @@ impl<A: Allocator + Copy> CardTable<A> {
     {
         let _ = call;
         self.enter(&mut pass.standing, &mut pass.seat);
-        self.table.shared.load::<Noted<J>>(&mut pass.seat, word)
+        self.table.load::<Noted<J>>(&mut pass.seat, word)
     }
 
     /// A step call that loads its word, as `see`, in a period: where there are places, and the pass is in no period, it begins
     /// one first, by a load of the clock and a store to its place, which are not counted.
     #[inline(always)]
-    pub(crate) fn see_entered(&self, pass: &mut Pass<A>, call: Call, word: usize) -> u64
+    pub(crate) fn see_entered(&self, pass: &mut Pass<M>, call: Call, word: usize) -> u64
         requires own { pass.old.table ≡ self.now.id }
         requires may { May self.now.plan call pass.old.view }
         requires word { word ≡ place_of call }
@@ -214,7 +213,7 @@ impl<A: Allocator + Copy> CardTable<A> {
 
     // Stores a word.
     #[inline(always)]
-    fn store_as<J: Telling>(&self, pass: &mut Pass<A>, call: Call, word: usize, value: u64)
+    fn store_as<J: Telling>(&self, pass: &mut Pass<M>, call: Call, word: usize, value: u64)
         requires own { pass.old.table ≡ self.now.id }
         requires may { May self.now.plan call pass.old.view }
         requires quiet { IsQuiet call }
@@ -228,15 +227,13 @@ impl<A: Allocator + Copy> CardTable<A> {
         ensures step { StepsBy pass.old pass.new }
     {
         let _ = call;
-        self.table
-            .shared
-            .store::<By<J>>(&mut pass.seat, word, value);
+        self.table.store::<By<J>>(&mut pass.seat, word, value);
         pass.steps = one_more(pass.steps);
     }
 
     /// The step call that stores a word of the card in hand.
     #[inline(always)]
-    pub(crate) fn store(&self, pass: &mut Pass<A>, card: u64, field: Field, word: usize, value: u64)
+    pub(crate) fn store(&self, pass: &mut Pass<M>, card: u64, field: Field, word: usize, value: u64)
         requires own { pass.old.table ≡ self.now.id }
         requires may { MayFill pass.old.view card }
         requires slot { self.now.plan.slots ≢ None → pass.old.slot ≡ Some card }
@@ -251,7 +248,7 @@ impl<A: Allocator + Copy> CardTable<A> {
     #[inline(always)]
     pub(crate) fn exchange_as<J: Telling>(
         &self,
-        pass: &mut Pass<A>,
+        pass: &mut Pass<M>,
         call: Call,
         word: usize,
         expected: u64,
@@ -272,7 +269,6 @@ impl<A: Allocator + Copy> CardTable<A> {
         let _ = call;
         let found = self
             .table
-            .shared
             .compare_exchange::<By<J>>(&mut pass.seat, word, expected, value);
         pass.steps = one_more(pass.steps);
         found
@@ -283,7 +279,7 @@ impl<A: Allocator + Copy> CardTable<A> {
     #[inline(always)]
     pub(crate) fn exchange(
         &self,
-        pass: &mut Pass<A>,
+        pass: &mut Pass<M>,
         call: Call,
         word: usize,
         expected: u64,
@@ -306,7 +302,7 @@ impl<A: Allocator + Copy> CardTable<A> {
     #[inline(always)]
     fn flag_as<J: Noting>(
         &self,
-        pass: &mut Pass<A>,
+        pass: &mut Pass<M>,
         card: u64,
         call: Call,
         word: usize,
@@ -330,7 +326,6 @@ impl<A: Allocator + Copy> CardTable<A> {
         let _ = call;
         let found = self
             .table
-            .shared
             .compare_exchange::<Noted<J>>(&mut pass.seat, word, expected, value);
         pass.steps = one_more(pass.steps);
         self.free_aside(&mut pass.seat, card, found != expected);
@@ -342,7 +337,7 @@ impl<A: Allocator + Copy> CardTable<A> {
     #[inline(always)]
     pub(crate) fn flag(
         &self,
-        pass: &mut Pass<A>,
+        pass: &mut Pass<M>,
         card: u64,
         call: Call,
         word: usize,
@@ -366,7 +361,7 @@ impl<A: Allocator + Copy> CardTable<A> {
     #[inline(always)]
     pub(crate) fn exchange_claim<J: Telling>(
         &self,
-        pass: &mut Pass<A>,
+        pass: &mut Pass<M>,
         card: u64,
         node_key: u64,
         next: u64,
@@ -380,7 +375,6 @@ impl<A: Allocator + Copy> CardTable<A> {
         let _ = node_key;
         let found = self
             .table
-            .shared
             .compare_exchange::<By<J>>(&mut pass.seat, 0, card, next);
         pass.steps = one_more(pass.steps);
         found
@@ -391,7 +385,7 @@ impl<A: Allocator + Copy> CardTable<A> {
     #[inline(always)]
     pub(crate) fn exchange_child(
         &self,
-        pass: &mut Pass<A>,
+        pass: &mut Pass<M>,
         call: Call,
         word: usize,
         old: Link,

@@ -18,18 +18,18 @@ ghost use Rattle.ell_cards.specs.Looking.{IsKnownInRun, KeysAreFixed, ValuesAreF
 
 use crate::call::Call;
 use crate::glance::{Glance, Stretch};
+use crate::memory::Memory;
 use crate::pass::Pass;
 use crate::places::{child_address, key_address, root_key, update_address, value_address};
 use crate::table::CardTable;
 use ell_ops::{Op, Reply};
 use ell_word::{Link, Update, unpack};
-use std::alloc::Allocator;
 use std::marker::Brand;
 
-impl<A: Allocator + Copy> CardTable<A> {
+impl<M: Memory> CardTable<M> {
     /// Takes an operation on a key of the pass in hand, and stands at the root.
     #[inline(always)]
-    pub fn begin(&self, pass: &mut Pass<A>, op: Op)
+    pub fn begin(&self, pass: &mut Pass<M>, op: Op)
         requires own { pass.old.table ≡ self.now.id }
         requires may { MayBegin pass.old.view op }
         // It makes one step and counts it. The pass then knows exactly what this call tells, is in a period if there are
@@ -43,7 +43,7 @@ impl<A: Allocator + Copy> CardTable<A> {
     /// Gives a try up and starts the search anew: what its search has read in the way of the operation was a hindrance. Condition: the
     /// card in hand, if it is flagged, is known backed.
     #[inline(always)]
-    pub fn again(&self, pass: &mut Pass<A>)
+    pub fn again(&self, pass: &mut Pass<M>)
         requires own { pass.old.table ≡ self.now.id }
         requires may { MayStop (worker_of pass.old.view.worker) }
         // Where there are places, the pass has noted all that its card in hand made dead.
@@ -56,7 +56,7 @@ impl<A: Allocator + Copy> CardTable<A> {
 
     /// Gives a try up and lays the operation down without an answer. Hindrances and the condition are those of `again`.
     #[inline(always)]
-    pub fn leave(&self, pass: &mut Pass<A>)
+    pub fn leave(&self, pass: &mut Pass<M>)
         requires own { pass.old.table ≡ self.now.id }
         requires may { MayStop (worker_of pass.old.view.worker) }
         // Where there are places, the pass has noted all that its card in hand made dead.
@@ -72,7 +72,7 @@ impl<A: Allocator + Copy> CardTable<A> {
 
     /// Answers the operation in hand. What is said is the map's answer on the pass's ledger, which becomes the map after it.
     #[inline(always)]
-    pub fn answer(&self, pass: &mut Pass<A>, said: Reply)
+    pub fn answer(&self, pass: &mut Pass<M>, said: Reply)
         requires own { pass.old.table ≡ self.now.id }
         requires may { MayAnswer pass.old.view said }
         // Where there are places, the pass has noted all that its card in hand made dead.
@@ -93,7 +93,7 @@ impl<A: Allocator + Copy> CardTable<A> {
 
     /// Reads the update word of the internal node where the pass stands.
     #[inline(always)]
-    pub fn upd(&self, pass: &mut Pass<A>, node: u64) -> Update
+    pub fn upd(&self, pass: &mut Pass<M>, node: u64) -> Update
         requires own { pass.old.table ≡ self.now.id }
         requires may { MayRead pass.old.view node }
         // It makes one step, which the caller has to count. The pass then knows exactly what this call tells.
@@ -110,7 +110,7 @@ impl<A: Allocator + Copy> CardTable<A> {
     /// Goes down from the internal node where the pass stands to the child on its key's side, a node of the table, a
     /// step deeper. Returns the child with its tag.
     #[inline(always)]
-    pub fn down(&self, pass: &mut Pass<A>, node: u64, right: bool) -> Link
+    pub fn down(&self, pass: &mut Pass<M>, node: u64, right: bool) -> Link
         requires own { pass.old.table ≡ self.now.id }
         requires may { MayGoDown pass.old.view node right }
         // It makes one step, which the caller has to count. The pass then knows exactly what this call tells.
@@ -126,7 +126,7 @@ impl<A: Allocator + Copy> CardTable<A> {
 
     /// Reads the claim word: the number of the next card, one more than the number of the last card if all are claimed.
     #[inline(always)]
-    pub fn next(&self, pass: &mut Pass<A>) -> u64
+    pub fn next(&self, pass: &mut Pass<M>) -> u64
         requires own { pass.old.table ≡ self.now.id }
         // It makes one step and counts it. The pass then knows exactly what this call tells.
         ensures step { Steps pass.old pass.new (after call.Next result pass.old.view) }
@@ -141,7 +141,7 @@ impl<A: Allocator + Copy> CardTable<A> {
     /// Begins a look at the root's left child, a node of the table: the root's key is above every real one, so that all
     /// real keys go there. Returns the child with its tag.
     #[inline(always)]
-    pub fn look(&self, pass: &mut Pass<A>) -> Link
+    pub fn look(&self, pass: &mut Pass<M>) -> Link
         requires own { pass.old.table ≡ self.now.id }
         requires free { IsFree pass.old.view }
         // It makes one step, which the caller has to count. The pass then knows exactly what this call tells, and is in a
@@ -161,7 +161,7 @@ impl<A: Allocator + Copy> CardTable<A> {
     /// Goes down in a look from an internal node to which it has come, now or earlier, to the child on a side, by keys
     /// that go to this side: a node of the table, a step deeper. Returns the child with its tag.
     #[inline(always)]
-    pub fn look_down(&self, pass: &mut Pass<A>, from: Glance, keys: Stretch, right: bool) -> Link
+    pub fn look_down(&self, pass: &mut Pass<M>, from: Glance, keys: Stretch, right: bool) -> Link
         requires own { pass.old.table ≡ self.now.id }
         requires may { MayLookDown (flat_from self.now.plan) pass.old.view from keys right }
         // It makes one step, which the caller has to count. The pass then knows exactly what this call tells.
@@ -180,7 +180,7 @@ impl<A: Allocator + Copy> CardTable<A> {
 
     /// Ends a look: the pass forgets what it told, and where it had come to. Where there are places, its period ends by that.
     #[inline(always)]
-    pub fn end_look(&self, pass: &mut Pass<A>)
+    pub fn end_look(&self, pass: &mut Pass<M>)
         requires own { pass.old.table ≡ self.now.id }
         requires free { IsFree pass.old.view }
         // It makes one step and counts it. The pass then knows exactly what this call tells, and is in no period.
@@ -194,7 +194,7 @@ impl<A: Allocator + Copy> CardTable<A> {
 
     // The step call by which a pass forgets what a look told it, and where it had come to.
     #[inline(always)]
-    fn forget(&self, pass: &mut Pass<A>)
+    fn forget(&self, pass: &mut Pass<M>)
         requires own { pass.old.table ≡ self.now.id }
         requires free { IsFree pass.old.view }
         ensures step { Steps pass.old pass.new (after_rest pass.old.view) }
@@ -210,7 +210,7 @@ impl<A: Allocator + Copy> CardTable<A> {
     /// own has come to its end by that, it has found what the pass has there. The key of a node never changes, so the
     /// pass was told no two different keys of one node (`fixed`).
     #[inline(always)]
-    pub fn key_of(&self, pass: &mut Pass<A>, node: u64) -> u64
+    pub fn key_of(&self, pass: &mut Pass<M>, node: u64) -> u64
         requires own { pass.old.table ≡ self.now.id }
         requires met { IsTold pass.old.view (Met node) }
         // It makes one step, which the caller has to count. The pass then knows exactly what this call tells.
@@ -236,7 +236,7 @@ impl<A: Allocator + Copy> CardTable<A> {
     /// the operation's, it is the value that the pass has there; so it is for the leaf to which a look for a key of the
     /// pass's own has come.
     #[inline(always)]
-    pub fn value_of(&self, pass: &mut Pass<A>, leaf: u64) -> u64
+    pub fn value_of(&self, pass: &mut Pass<M>, leaf: u64) -> u64
         requires own { pass.old.table ≡ self.now.id }
         requires met { IsTold pass.old.view (Met leaf) }
         requires outer { IsLeaf leaf }

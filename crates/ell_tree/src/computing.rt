@@ -10,9 +10,8 @@ ghost use Rattle.ell_cards.specs.Depths.{deepest};
 
 use crate::gate::StepGate;
 use crate::operations::{NotDone, change, find};
-use ell_cards::{CardTable, Pass};
+use ell_cards::{CardTable, Memory, Pass};
 use ell_ops::Op;
-use std::alloc::Allocator;
 
 /// What a call found at its key, and the value that it has put in place of that, if it has put any.
 #[derive(Clone, Copy)]
@@ -33,9 +32,9 @@ pub(crate) enum Replaced {
 /// Reads a key, computes its new value from what it finds, and puts that value there, if there is one, unless another
 /// pass has changed the key in the meantime: then it computes the new value again from what is there now. It makes at
 /// most the given number of tries; each begins with what is there.
-pub(crate) fn compute<A: Allocator + Copy, G: StepGate, F: Fn(Option<u64>) -> Option<u64>>(
-    table: &CardTable<A>,
-    pass: &mut Pass<A>,
+pub(crate) fn compute<M: Memory, G: StepGate, F: Fn(Option<u64>) -> Option<u64>>(
+    table: &CardTable<M>,
+    pass: &mut Pass<M>,
     key: u64,
     make: F,
     tries: u32,
@@ -78,9 +77,9 @@ pub(crate) fn compute<A: Allocator + Copy, G: StepGate, F: Fn(Option<u64>) -> Op
 }
 
 // One try to put a value in place of what was found at a key.
-fn replace<A: Allocator + Copy, G: StepGate>(
-    table: &CardTable<A>,
-    pass: &mut Pass<A>,
+fn replace<M: Memory, G: StepGate>(
+    table: &CardTable<M>,
+    pass: &mut Pass<M>,
     key: u64,
     was: Option<u64>,
     value: u64,
@@ -105,9 +104,9 @@ fn replace<A: Allocator + Copy, G: StepGate>(
 }
 
 // The same, if the key was absent.
-fn add<A: Allocator + Copy, G: StepGate>(
-    table: &CardTable<A>,
-    pass: &mut Pass<A>,
+fn add<M: Memory, G: StepGate>(
+    table: &CardTable<M>,
+    pass: &mut Pass<M>,
     key: u64,
     value: u64,
     gate: &G,

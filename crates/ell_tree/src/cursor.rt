@@ -13,10 +13,9 @@ ghost use Rattle.ell_tree.specs.Cursors.{AreKept, BeginsALook, FindsAbout, IsAmo
 ghost use Rattle.ell_cards.specs.Depths.{deepest, IsShallow};
 
 use crate::gate::{Kind, StepGate};
-use ell_cards::{CardTable, Glance, Pass};
+use ell_cards::{CardTable, Glance, Memory, Pass};
 use ell_ops::KEY_MAX;
 use ell_word::is_internal;
-use std::alloc::Allocator;
 
 // How many nodes a cursor keeps. In a balanced tree of 4,000,000 keys no search goes left more often.
 const KEPT: usize = 32;
@@ -40,9 +39,9 @@ pub(crate) struct Cursor {
 
 impl Cursor {
     /// Begins a look.
-    pub(crate) fn begin<A: Allocator + Copy, G: StepGate>(
-        table: &CardTable<A>,
-        pass: &mut Pass<A>,
+    pub(crate) fn begin<M: Memory, G: StepGate>(
+        table: &CardTable<M>,
+        pass: &mut Pass<M>,
         gate: &G,
     ) -> Cursor
         requires may { IsIdlePassOf table.now pass.old }
@@ -67,10 +66,10 @@ impl Cursor {
 
     /// Looks for a key, from the last kept node that its path passes too. Returns what is around it. The steps are
     /// counted at its end.
-    pub(crate) fn about<A: Allocator + Copy, G: StepGate>(
+    pub(crate) fn about<M: Memory, G: StepGate>(
         &mut self,
-        table: &CardTable<A>,
-        pass: &mut Pass<A>,
+        table: &CardTable<M>,
+        pass: &mut Pass<M>,
         key: u64,
         gate: &G,
     ) -> About
@@ -139,9 +138,9 @@ impl Cursor {
 
 /// Returns what is found of the keys by which a look has come to a leaf, and in how many steps. The steps are not
 /// counted.
-pub(crate) fn found_at<A: Allocator + Copy, G: StepGate>(
-    table: &CardTable<A>,
-    pass: &mut Pass<A>,
+pub(crate) fn found_at<M: Memory, G: StepGate>(
+    table: &CardTable<M>,
+    pass: &mut Pass<M>,
     leaf: Glance,
     gate: &G,
 ) -> (About, u64)

@@ -27,17 +27,16 @@ use crate::retiring::{retire_deleted, retire_own};
 use crate::searching::{Passed, Place, node_with, search};
 use crate::steps::answer;
 use crate::trying::{Claimed, Tried, fill, take_card};
-use ell_cards::{CardTable, Pass};
+use ell_cards::{CardTable, Memory, Pass};
 use ell_core::Exchange;
 use ell_layout::Field;
 use ell_ops::{Op, Reply};
 use ell_word::{State, Update, pack};
-use std::alloc::Allocator;
 
 /// One try of a delete.
-pub(crate) fn try_delete<A: Allocator + Copy, G: StepGate>(
-    table: &CardTable<A>,
-    pass: &mut Pass<A>,
+pub(crate) fn try_delete<M: Memory, G: StepGate>(
+    table: &CardTable<M>,
+    pass: &mut Pass<M>,
     key: u64,
     gate: &G,
 ) -> Tried
@@ -61,9 +60,9 @@ pub(crate) fn try_delete<A: Allocator + Copy, G: StepGate>(
 }
 
 /// What a try of a delete does once its search has ended at a leaf that has the key.
-pub(crate) fn delete_at<A: Allocator + Copy, G: StepGate>(
-    table: &CardTable<A>,
-    pass: &mut Pass<A>,
+pub(crate) fn delete_at<M: Memory, G: StepGate>(
+    table: &CardTable<M>,
+    pass: &mut Pass<M>,
     key: u64,
     place: Place,
     gate: &G,
@@ -113,9 +112,9 @@ pub(crate) fn delete_at<A: Allocator + Copy, G: StepGate>(
 }
 
 // Fills the card of a delete, and flags the grandparent with it.
-fn flag_delete<A: Allocator + Copy, G: StepGate>(
-    table: &CardTable<A>,
-    pass: &mut Pass<A>,
+fn flag_delete<M: Memory, G: StepGate>(
+    table: &CardTable<M>,
+    pass: &mut Pass<M>,
     card: u64,
     above: Passed,
     place: Place,
@@ -140,9 +139,9 @@ fn flag_delete<A: Allocator + Copy, G: StepGate>(
 
 // Fills the card of a delete: where it cuts, with the tag that its search read at the grandparent, and the update that it
 // read at the parent.
-fn fill_delete<A: Allocator + Copy, G: StepGate>(
-    table: &CardTable<A>,
-    pass: &mut Pass<A>,
+fn fill_delete<M: Memory, G: StepGate>(
+    table: &CardTable<M>,
+    pass: &mut Pass<M>,
     card: u64,
     above: Passed,
     place: Place,
@@ -169,9 +168,9 @@ fn fill_delete<A: Allocator + Copy, G: StepGate>(
 
 // HelpDelete of the call's own card, whose flag was won. Returns whether its parent was cut out.
 #[tactic(auto, using(crate::proofs::lemmas::Keeping::keeps_all_told, crate::proofs::lemmas::Keeping::keeps_all_knows))]
-fn finish_own<A: Allocator + Copy, G: StepGate>(
-    table: &CardTable<A>,
-    pass: &mut Pass<A>,
+fn finish_own<M: Memory, G: StepGate>(
+    table: &CardTable<M>,
+    pass: &mut Pass<M>,
     card: u64,
     grandparent: u64,
     parent: Passed,

@@ -11,16 +11,16 @@ ghost use Rattle.ell_tree.specs.Counts.{Took};
 ghost use Rattle.ell_tree.specs.Ledgers.{IsIdlePassOf, Owns};
 
 use crate::tree::Tree;
-use ell_cards::Pass;
+use ell_cards::{FixedMemory, Memory, Pass};
 use ell_core::pairs_of_tree;
 use ell_ops::NoMemory;
 use std::alloc::{AllocError, Allocator};
 
-impl<A: Allocator + Copy> Tree<A> {
+impl<M: Memory> Tree<M> {
     /// Reads one word, so that the pass knows what was done with the tree up to now, by whichever passes: that was one
     /// history, which is linearizable, and has the calls that the pass was answered (`story`). Whatever a program
     /// concludes from the answers of several threads, it concludes from this, once it has joined their passes.
-    pub fn story(&self, pass: &mut Pass<A>)
+    pub fn story(&self, pass: &mut Pass<M>)
         requires own { pass.old.table ≡ self.now.id }
         // All that was done with the tree is one history, which is linearizable. Its order has the calls that the pass
         // was answered, it and the passes that were joined to it, and no others if it has the whole share. Each delete
@@ -39,11 +39,16 @@ impl<A: Allocator + Copy> Tree<A> {
         self.table.story(pass);
         pass.count(1);
     }
+}
 
+impl<A: Allocator + Copy> Tree<FixedMemory<A>> {
     /// Ends the tree, given a pass that owns each key that may have an owner, and, if the other keys are shared, has
     /// the whole share. Returns the keys that are present with their values, the keys strictly ascending. If an
     /// allocation fails, tree and pass come back as they were.
-    pub fn close(self, pass: Pass<A>) -> Result<Vec<(u64, u64), A>, (Tree<A>, Pass<A>, NoMemory)>
+    pub fn close(
+        self,
+        pass: Pass<FixedMemory<A>>,
+    ) -> Result<Vec<(u64, u64), A>, (Tree<FixedMemory<A>>, Pass<FixedMemory<A>>, NoMemory)>
         requires may { IsIdlePassOf self pass }
         requires plain { self.plan.slots ≡ None }
         requires all { All (λ k. Owns pass k) self.plan.keys }

@@ -17,10 +17,9 @@ use crate::steps::{
     KeyedNode, change_child, clear_delete, clear_insert, cut_parent, go_back, read_child,
     read_info, read_key, read_leaf, set_mark,
 };
-use ell_cards::{CardTable, Pass};
+use ell_cards::{CardTable, Memory, Pass};
 use ell_layout::Field;
 use ell_word::{Link, State, Update};
-use std::alloc::Allocator;
 
 /// The flag of a delete, and the node where it stands.
 #[derive(Clone, Copy)]
@@ -41,9 +40,9 @@ pub(crate) enum Ending {
 }
 
 /// Helps what an update at a node says is under way.
-pub(crate) fn help<A: Allocator + Copy, G: StepGate>(
-    table: &CardTable<A>,
-    pass: &mut Pass<A>,
+pub(crate) fn help<M: Memory, G: StepGate>(
+    table: &CardTable<M>,
+    pass: &mut Pass<M>,
     node: u64,
     update: Update,
     gate: &G,
@@ -70,9 +69,9 @@ pub(crate) fn help<A: Allocator + Copy, G: StepGate>(
 }
 
 /// HelpInsert: makes the child exchange of the insert whose flag stands at a node, and takes the flag away.
-pub(crate) fn help_insert<A: Allocator + Copy, G: StepGate>(
-    table: &CardTable<A>,
-    pass: &mut Pass<A>,
+pub(crate) fn help_insert<M: Memory, G: StepGate>(
+    table: &CardTable<M>,
+    pass: &mut Pass<M>,
     card: u64,
     parent: u64,
     gate: &G,
@@ -91,9 +90,9 @@ pub(crate) fn help_insert<A: Allocator + Copy, G: StepGate>(
 }
 
 /// Like `help_insert`, for a card whose leaf and keys are known.
-pub(crate) fn finish_insert<A: Allocator + Copy, G: StepGate>(
-    table: &CardTable<A>,
-    pass: &mut Pass<A>,
+pub(crate) fn finish_insert<M: Memory, G: StepGate>(
+    table: &CardTable<M>,
+    pass: &mut Pass<M>,
     card: u64,
     parent: u64,
     leaf: Link,
@@ -112,9 +111,9 @@ pub(crate) fn finish_insert<A: Allocator + Copy, G: StepGate>(
 }
 
 /// HelpMarked: cuts the parent that a delete has marked out of the tree.
-pub(crate) fn help_marked<A: Allocator + Copy, G: StepGate>(
-    table: &CardTable<A>,
-    pass: &mut Pass<A>,
+pub(crate) fn help_marked<M: Memory, G: StepGate>(
+    table: &CardTable<M>,
+    pass: &mut Pass<M>,
     card: u64,
     parent: u64,
     gate: &G,
@@ -130,9 +129,9 @@ pub(crate) fn help_marked<A: Allocator + Copy, G: StepGate>(
 }
 
 // Like `help_marked`, for a known grandparent.
-fn finish_marked<A: Allocator + Copy, G: StepGate>(
-    table: &CardTable<A>,
-    pass: &mut Pass<A>,
+fn finish_marked<M: Memory, G: StepGate>(
+    table: &CardTable<M>,
+    pass: &mut Pass<M>,
     card: u64,
     grandparent: u64,
     parent: u64,
@@ -155,9 +154,9 @@ fn finish_marked<A: Allocator + Copy, G: StepGate>(
 }
 
 // The sibling of the leaf of a delete, at the parent that it has marked.
-fn find_sibling<A: Allocator + Copy, G: StepGate>(
-    table: &CardTable<A>,
-    pass: &mut Pass<A>,
+fn find_sibling<M: Memory, G: StepGate>(
+    table: &CardTable<M>,
+    pass: &mut Pass<M>,
     card: u64,
     parent: u64,
     leaf: u64,
@@ -181,9 +180,9 @@ fn find_sibling<A: Allocator + Copy, G: StepGate>(
 
 /// HelpDelete of a flag that was met: marks the parent and cuts it out, or takes the flag back. If another delete's
 /// flag is in the way, it goes on with that one, deeper in the tree.
-pub(crate) fn help_delete<A: Allocator + Copy, G: StepGate>(
-    table: &CardTable<A>,
-    pass: &mut Pass<A>,
+pub(crate) fn help_delete<M: Memory, G: StepGate>(
+    table: &CardTable<M>,
+    pass: &mut Pass<M>,
     flag: DeleteFlag,
     gate: &G,
 )
@@ -200,9 +199,9 @@ pub(crate) fn help_delete<A: Allocator + Copy, G: StepGate>(
 }
 
 // One delete of such a chain.
-fn help_one_delete<A: Allocator + Copy, G: StepGate>(
-    table: &CardTable<A>,
-    pass: &mut Pass<A>,
+fn help_one_delete<M: Memory, G: StepGate>(
+    table: &CardTable<M>,
+    pass: &mut Pass<M>,
     flag: DeleteFlag,
     gate: &G,
 ) -> Ending
@@ -217,9 +216,9 @@ fn help_one_delete<A: Allocator + Copy, G: StepGate>(
 
 /// HelpDelete, given the parent and the update that the delete's search read there, up to another delete's flag that is
 /// in the way.
-pub(crate) fn finish_delete<A: Allocator + Copy, G: StepGate>(
-    table: &CardTable<A>,
-    pass: &mut Pass<A>,
+pub(crate) fn finish_delete<M: Memory, G: StepGate>(
+    table: &CardTable<M>,
+    pass: &mut Pass<M>,
     flag: DeleteFlag,
     parent: u64,
     was: u64,

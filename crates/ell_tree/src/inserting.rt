@@ -21,17 +21,16 @@ use crate::searching::{Place, node_with, search};
 use crate::steps::answer;
 use crate::trying::{Claimed, Tried, fill, take_card};
 use ell_block::branch;
-use ell_cards::{CardTable, Pass};
+use ell_cards::{CardTable, Memory, Pass};
 use ell_core::{Exchange, Put};
 use ell_layout::{Field, card_children, update_word};
 use ell_ops::{Op, Reply};
 use ell_word::{State, Update, child_word};
-use std::alloc::Allocator;
 
 /// One try of an insert or a swap that puts this.
-pub(crate) fn try_put<A: Allocator + Copy, G: StepGate>(
-    table: &CardTable<A>,
-    pass: &mut Pass<A>,
+pub(crate) fn try_put<M: Memory, G: StepGate>(
+    table: &CardTable<M>,
+    pass: &mut Pass<M>,
     op: Op,
     what: Put,
     gate: &G,
@@ -81,7 +80,7 @@ pub(crate) fn try_put<A: Allocator + Copy, G: StepGate>(
 }
 
 // The key of an internal node over two keys: the greater one, in a flat tree their branch, if they are two.
-fn node_key<A: Allocator + Copy>(table: &CardTable<A>, first: u64, second: u64) -> u64
+fn node_key<M: Memory>(table: &CardTable<M>, first: u64, second: u64) -> u64
     ensures { IsNodeKey (flat_from table.now.plan) first second result }
 {
     let (lesser, greater) = (first.min(second), first.max(second));
@@ -113,9 +112,9 @@ fn reply_once_done(what: Put) -> Reply
 }
 
 // Fills the card of an insert or a swap, and flags the parent with it.
-fn flag_insert<A: Allocator + Copy, G: StepGate>(
-    table: &CardTable<A>,
-    pass: &mut Pass<A>,
+fn flag_insert<M: Memory, G: StepGate>(
+    table: &CardTable<M>,
+    pass: &mut Pass<M>,
     card: u64,
     what: Put,
     place: Place,
@@ -140,9 +139,9 @@ fn flag_insert<A: Allocator + Copy, G: StepGate>(
 // Fills the card of an insert or a swap: the node where its search ended, with the tag that was read at the parent; an
 // internal node; and below it the leaf of the key and a copy of the old leaf, or the old node itself, the lesser key
 // left, each with its value. Of each child it stores the child word with tag 0.
-fn fill_insert<A: Allocator + Copy, G: StepGate>(
-    table: &CardTable<A>,
-    pass: &mut Pass<A>,
+fn fill_insert<M: Memory, G: StepGate>(
+    table: &CardTable<M>,
+    pass: &mut Pass<M>,
     card: u64,
     what: Put,
     place: Place,

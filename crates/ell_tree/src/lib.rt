@@ -22,7 +22,7 @@ mod tree;
 mod trying;
 
 pub use cursor::About;
-pub use ell_cards::{CardFault, Pass, SplitFault};
+pub use ell_cards::{CardFault, FixedMemory, Memory, Pass as PassOver, SplitFault};
 pub use ell_core::Exchange;
 pub use ell_layout::table_size;
 pub use ell_ops::{KEY_MAX, NoMemory, distinct_keys};
@@ -31,4 +31,10 @@ pub use gate::{Kind, NoGate, StepGate};
 pub use laws::{bounds_in_short, flat_bounds};
 pub use operations::NotDone;
 pub use scanning::{Pair, Scanned};
-pub use tree::Tree;
+pub use tree::Tree as TreeOver;
+
+/// A tree in a memory whose words are all there when it is made.
+pub type Tree<A> = TreeOver<FixedMemory<A>>;
+
+/// What a thread calls such a tree with.
+pub type Pass<A> = PassOver<FixedMemory<A>>;

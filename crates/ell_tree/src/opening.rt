@@ -13,15 +13,19 @@ ghost use Rattle.ell_cards.specs.Starts.{most_places};
 ghost use Rattle.ell_word.specs.Node.{greatest_number};
 
 use crate::tree::Tree;
-use ell_cards::{CardFault, CardTable, Pass, TableKind};
+use ell_cards::{CardFault, CardTable, FixedMemory, Pass, TableKind};
 use std::alloc::Allocator;
 
-impl<A: Allocator + Copy> Tree<A> {
+impl<A: Allocator + Copy> Tree<FixedMemory<A>> {
     /// Returns an empty tree with the given number of cards, and one pass that owns all these keys, each absent. Each
     /// try of an insert or a delete that finds its way free takes a card, and no card is given back; `cards_left`
     /// returns how many there are. `BadCards` is returned exactly if the number of cards is not 1 to 1,000,000, and
     /// `NoMemory` if an allocation fails. Conditions: the keys are strictly ascending, and at most `KEY_MAX`.
-    pub fn reserve(alloc: A, keys: &[u64], cards: u64) -> Result<(Tree<A>, Pass<A>), CardFault>
+    pub fn reserve(
+        alloc: A,
+        keys: &[u64],
+        cards: u64,
+    ) -> Result<(Tree<FixedMemory<A>>, Pass<FixedMemory<A>>), CardFault>
         requires ascending { IsStrictlyIncreasing keys.now }
         requires real { All (λ k. k ≤ greatest_key) keys.now }
         // It succeeds only with 1 to 1,000,000 cards.
@@ -50,7 +54,7 @@ impl<A: Allocator + Copy> Tree<A> {
         start: &[(u64, u64)],
         keys: &[u64],
         cards: u64,
-    ) -> Result<(Tree<A>, Pass<A>), CardFault>
+    ) -> Result<(Tree<FixedMemory<A>>, Pass<FixedMemory<A>>), CardFault>
         requires ascending { IsStrictlyIncreasing keys.now }
         requires real { All (λ k. k ≤ greatest_key) keys.now }
         requires start_ascending { IsStrictlyIncreasing (keys_of start.now) }
@@ -95,7 +99,7 @@ impl<A: Allocator + Copy> Tree<A> {
         start: &[(u64, u64)],
         keys: &[u64],
         cards: u64,
-    ) -> Result<(Tree<A>, Pass<A>), CardFault>
+    ) -> Result<(Tree<FixedMemory<A>>, Pass<FixedMemory<A>>), CardFault>
         requires ascending { IsStrictlyIncreasing keys.now }
         requires real { All (λ k. k ≤ greatest_key) keys.now }
         requires start_ascending { IsStrictlyIncreasing (keys_of start.now) }
@@ -140,7 +144,7 @@ impl<A: Allocator + Copy> Tree<A> {
         start: &[(u64, u64)],
         keys: &[u64],
         cards: u64,
-    ) -> Result<(Tree<A>, Pass<A>), CardFault>
+    ) -> Result<(Tree<FixedMemory<A>>, Pass<FixedMemory<A>>), CardFault>
         requires ascending { IsStrictlyIncreasing keys.now }
         requires real { All (λ k. k ≤ greatest_key) keys.now }
         requires start_ascending { IsStrictlyIncreasing (keys_of start.now) }
@@ -198,7 +202,7 @@ impl<A: Allocator + Copy> Tree<A> {
         keys: &[u64],
         cards: u64,
         passes: u64,
-    ) -> Result<(Tree<A>, Pass<A>), CardFault>
+    ) -> Result<(Tree<FixedMemory<A>>, Pass<FixedMemory<A>>), CardFault>
         requires ascending { IsStrictlyIncreasing keys.now }
         requires real { All (λ k. k ≤ greatest_key) keys.now }
         requires start_ascending { IsStrictlyIncreasing (keys_of start.now) }

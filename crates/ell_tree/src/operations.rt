@@ -24,10 +24,9 @@ use crate::inserting::try_put;
 use crate::searching::search;
 use crate::steps::{again, answer, begin, leave};
 use crate::trying::Tried;
-use ell_cards::{CardTable, Pass};
+use ell_cards::{CardTable, Memory, Pass};
 use ell_core::Put;
 use ell_ops::{Op, Reply};
-use std::alloc::Allocator;
 use thiserror::Error;
 
 /// Why an insert, a delete or a swap has no answer. The map is as it was before, and nothing of the call is under way.
@@ -42,9 +41,9 @@ pub enum NotDone {
 }
 
 /// Returns the value of a key, if the key is present. It never helps another operation.
-pub(crate) fn find<A: Allocator + Copy, G: StepGate>(
-    table: &CardTable<A>,
-    pass: &mut Pass<A>,
+pub(crate) fn find<M: Memory, G: StepGate>(
+    table: &CardTable<M>,
+    pass: &mut Pass<M>,
     key: u64,
     gate: &G,
 ) -> Option<u64>
@@ -68,9 +67,9 @@ pub(crate) fn find<A: Allocator + Copy, G: StepGate>(
 /// Takes an insert, a delete or a swap in hand, and tries it, at most the given number of times, until a try is
 /// answered or finds no card. Returns the value that an insert adds or a delete takes away, if it changes the map, or
 /// that a swap finds. The gate is told of its start and its end.
-pub(crate) fn change<A: Allocator + Copy, G: StepGate>(
-    table: &CardTable<A>,
-    pass: &mut Pass<A>,
+pub(crate) fn change<M: Memory, G: StepGate>(
+    table: &CardTable<M>,
+    pass: &mut Pass<M>,
     op: Op,
     tries: u32,
     gate: &G,
@@ -110,12 +109,7 @@ pub(crate) fn change<A: Allocator + Copy, G: StepGate>(
 }
 
 // Starts the search anew, unless this is the first try.
-fn restart<A: Allocator + Copy, G: StepGate>(
-    table: &CardTable<A>,
-    pass: &mut Pass<A>,
-    first: bool,
-    gate: &G,
-)
+fn restart<M: Memory, G: StepGate>(table: &CardTable<M>, pass: &mut Pass<M>, first: bool, gate: &G)
     requires own { pass.old.table ≡ table.now.id }
     requires may { MayStop (worker_of pass.old.view.worker) }
     // Where there are places, the pass has noted all that its card in hand made dead.
@@ -130,9 +124,9 @@ fn restart<A: Allocator + Copy, G: StepGate>(
 }
 
 // One try of an insert, a delete or a swap.
-fn try_once<A: Allocator + Copy, G: StepGate>(
-    table: &CardTable<A>,
-    pass: &mut Pass<A>,
+fn try_once<M: Memory, G: StepGate>(
+    table: &CardTable<M>,
+    pass: &mut Pass<M>,
     op: Op,
     gate: &G,
 ) -> Tried

@@ -17,16 +17,15 @@ ghost use Rattle.ell_cards.specs.Depths.{deepest};
 use crate::cursor::{About, found_at};
 use crate::gate::{Kind, StepGate};
 use ell_block::{block_ends, is_in_block};
-use ell_cards::{CardTable, Glance, Pass, Stretch};
+use ell_cards::{CardTable, Glance, Memory, Pass, Stretch};
 use ell_ops::KEY_MAX;
 use ell_word::is_internal;
-use std::alloc::Allocator;
 
 /// Returns the value of any key, if it is present: that of the leaf at which its path from the root ends. It reads no
 /// update word, so it ignores flags and marks, and a node that was cut out while it stood there leads on as it did.
-pub(crate) fn look<A: Allocator + Copy, G: StepGate>(
-    table: &CardTable<A>,
-    pass: &mut Pass<A>,
+pub(crate) fn look<M: Memory, G: StepGate>(
+    table: &CardTable<M>,
+    pass: &mut Pass<M>,
     key: u64,
     gate: &G,
 ) -> Option<u64>
@@ -45,9 +44,9 @@ pub(crate) fn look<A: Allocator + Copy, G: StepGate>(
 
 // The same, but the steps are not counted. Returns what is found, and how many steps there were.
 #[inline(always)]
-fn walk<A: Allocator + Copy, G: StepGate>(
-    table: &CardTable<A>,
-    pass: &mut Pass<A>,
+fn walk<M: Memory, G: StepGate>(
+    table: &CardTable<M>,
+    pass: &mut Pass<M>,
     key: u64,
     gate: &G,
 ) -> (Option<u64>, u64)
@@ -88,9 +87,9 @@ fn walk<A: Allocator + Copy, G: StepGate>(
 }
 
 /// Returns what is around a key, in one state. The look goes down once.
-pub(crate) fn look_about<A: Allocator + Copy, G: StepGate>(
-    table: &CardTable<A>,
-    pass: &mut Pass<A>,
+pub(crate) fn look_about<M: Memory, G: StepGate>(
+    table: &CardTable<M>,
+    pass: &mut Pass<M>,
     key: u64,
     gate: &G,
 ) -> About
@@ -110,9 +109,9 @@ pub(crate) fn look_about<A: Allocator + Copy, G: StepGate>(
 // The same, but the steps are not counted. Returns what is found, and how many steps there were. All keys of the
 // stretch come to each node as one, so at a node that has a block only those of a half of it go on.
 #[inline(always)]
-fn walk_about<A: Allocator + Copy, G: StepGate>(
-    table: &CardTable<A>,
-    pass: &mut Pass<A>,
+fn walk_about<M: Memory, G: StepGate>(
+    table: &CardTable<M>,
+    pass: &mut Pass<M>,
     key: u64,
     gate: &G,
 ) -> (About, u64)
@@ -184,12 +183,7 @@ fn beside_block(here: Glance, node_key: u64, key: u64) -> About
 
 // The keys that go on to a child of a node, which has this key, as one: of a node that has a block those in that half
 // of it, of another those on that side.
-fn keys_below<A: Allocator + Copy>(
-    table: &CardTable<A>,
-    here: Glance,
-    node_key: u64,
-    right: bool,
-) -> Stretch
+fn keys_below<M: Memory>(table: &CardTable<M>, here: Glance, node_key: u64, right: bool) -> Stretch
     requires some { has_block (flat_from table.now.plan) here.node ≡ true → 0 < node_key }
     requires high { here.high ≤ greatest_key + 1 }
     ensures goes { here.whole ≡ true → GoOnBy (flat_from table.now.plan) here node_key right result }
@@ -219,9 +213,9 @@ fn keys_below<A: Allocator + Copy>(
 }
 
 /// Returns how many cards are not given out yet: those from the claim word on.
-pub(crate) fn cards_left<A: Allocator + Copy, G: StepGate>(
-    table: &CardTable<A>,
-    pass: &mut Pass<A>,
+pub(crate) fn cards_left<M: Memory, G: StepGate>(
+    table: &CardTable<M>,
+    pass: &mut Pass<M>,
     gate: &G,
 ) -> u64
     requires own { pass.old.table ≡ table.now.id }

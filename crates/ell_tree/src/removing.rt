@@ -15,16 +15,15 @@ use crate::operations::{NotDone, find};
 use crate::searching::search;
 use crate::steps::{begin, leave};
 use crate::trying::Tried;
-use ell_cards::{CardTable, Pass};
+use ell_cards::{CardTable, Memory, Pass};
 use ell_ops::Op;
-use std::alloc::Allocator;
 
 /// Reads a key, and removes it if it has the value `was`, unless another pass has changed the key in the meantime: then
 /// it reads the key again. It makes at most the given number of tries; each begins with what is there. Returns what it
 /// found, so it has removed the key exactly if that is `was`.
-pub(crate) fn remove_if<A: Allocator + Copy, G: StepGate>(
-    table: &CardTable<A>,
-    pass: &mut Pass<A>,
+pub(crate) fn remove_if<M: Memory, G: StepGate>(
+    table: &CardTable<M>,
+    pass: &mut Pass<M>,
     key: u64,
     was: u64,
     tries: u32,
@@ -72,9 +71,9 @@ fn is_value(was: u64, there: Option<u64>) -> bool
 }
 
 // One try to remove a key that has a value. If it has another one, or none, the key is read.
-fn remove_or_read<A: Allocator + Copy, G: StepGate>(
-    table: &CardTable<A>,
-    pass: &mut Pass<A>,
+fn remove_or_read<M: Memory, G: StepGate>(
+    table: &CardTable<M>,
+    pass: &mut Pass<M>,
     key: u64,
     was: u64,
     gate: &G,
@@ -95,9 +94,9 @@ fn remove_or_read<A: Allocator + Copy, G: StepGate>(
 
 // One try of a delete, if its search ends at a leaf with this value. A leaf keeps its value as long as it is there, so
 // the delete takes just this one. Returns whether it has deleted the key; otherwise it is laid down.
-fn remove_once<A: Allocator + Copy, G: StepGate>(
-    table: &CardTable<A>,
-    pass: &mut Pass<A>,
+fn remove_once<M: Memory, G: StepGate>(
+    table: &CardTable<M>,
+    pass: &mut Pass<M>,
     key: u64,
     was: u64,
     gate: &G,

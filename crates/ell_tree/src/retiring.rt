@@ -14,17 +14,16 @@ ghost use Rattle.ell_cards.specs.Noting.{HasNoted};
 ghost use Rattle.ell_tree.specs.Retiring.{BothAreNoted, HasPut, KeepsTakenOut};
 
 use crate::searching::Place;
-use ell_cards::{CardNodes, CardTable, Pass};
+use ell_cards::{CardNodes, CardTable, Memory, Pass};
 use ell_core::Put;
 use ell_word::{card_of, is_internal, left_leaf_of, right_leaf_of};
-use std::alloc::Allocator;
 
 /// Notes what the card of an insert or a swap has taken out, and which of its nodes never come. Where it went above an
 /// internal node, it took nothing out, and the leaf of that node's key is not used. Else it took the leaf out that stood
 /// there; and if that leaf had its key, the card's right leaf alone came.
-pub(crate) fn retire_put<A: Allocator + Copy>(
-    table: &CardTable<A>,
-    pass: &mut Pass<A>,
+pub(crate) fn retire_put<M: Memory>(
+    table: &CardTable<M>,
+    pass: &mut Pass<M>,
     card: u64,
     what: Put,
     place: Place,
@@ -58,9 +57,9 @@ pub(crate) fn retire_put<A: Allocator + Copy>(
 }
 
 /// Notes what the card of a delete has taken out: the parent and the leaf; and its own nodes, none of which comes.
-pub(crate) fn retire_deleted<A: Allocator + Copy>(
-    table: &CardTable<A>,
-    pass: &mut Pass<A>,
+pub(crate) fn retire_deleted<M: Memory>(
+    table: &CardTable<M>,
+    pass: &mut Pass<M>,
     card: u64,
     parent: u64,
     leaf: u64,
@@ -83,7 +82,7 @@ pub(crate) fn retire_deleted<A: Allocator + Copy>(
 }
 
 // Notes an internal node and a leaf that the card in hand has taken out, by one step where they lie on one card.
-fn retire_both<A: Allocator + Copy>(table: &CardTable<A>, pass: &mut Pass<A>, one: u64, other: u64)
+fn retire_both<M: Memory>(table: &CardTable<M>, pass: &mut Pass<M>, one: u64, other: u64)
     requires own { pass.old.table ≡ table.now.id }
     requires one { HasTakenOut pass.old.view one }
     requires other { HasTakenOut pass.old.view other }
@@ -104,7 +103,7 @@ fn retire_both<A: Allocator + Copy>(table: &CardTable<A>, pass: &mut Pass<A>, on
 }
 
 /// Notes the nodes of the card in hand of a delete, which has ended: none of them comes.
-pub(crate) fn retire_own<A: Allocator + Copy>(table: &CardTable<A>, pass: &mut Pass<A>, card: u64)
+pub(crate) fn retire_own<M: Memory>(table: &CardTable<M>, pass: &mut Pass<M>, card: u64)
     requires own { pass.old.table ≡ table.now.id }
     requires hand { pass.old.view.worker.card ≡ Some card }
     requires ended { KnowsDeleteEnded pass.old.view card }

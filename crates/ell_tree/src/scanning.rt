@@ -8,9 +8,8 @@ ghost use Rattle.ell_tree.specs.Scans.{AreInOrder, HaveFound, HasFoundLast, HasF
 
 use crate::cursor::Cursor;
 use crate::gate::StepGate;
-use ell_cards::{CardTable, Pass};
+use ell_cards::{CardTable, Memory, Pass};
 use ell_ops::{KEY_MAX, Keyed};
-use std::alloc::Allocator;
 
 /// A key with its value, in a memory layout that programs in C share.
 #[repr(C)]
@@ -36,9 +35,9 @@ pub struct Scanned {
 }
 
 /// Writes the pairs of a range of keys, at least one key and below another, ascending, as far as there is room.
-pub(crate) fn scan<A: Allocator + Copy, G: StepGate>(
-    table: &CardTable<A>,
-    pass: &mut Pass<A>,
+pub(crate) fn scan<M: Memory, G: StepGate>(
+    table: &CardTable<M>,
+    pass: &mut Pass<M>,
     from: u64,
     upto: u64,
     room: &mut [Pair],
@@ -76,9 +75,9 @@ pub(crate) fn scan<A: Allocator + Copy, G: StepGate>(
 }
 
 /// Returns the least present key that is at least the given one, with its value.
-pub(crate) fn next_from<A: Allocator + Copy, G: StepGate>(
-    table: &CardTable<A>,
-    pass: &mut Pass<A>,
+pub(crate) fn next_from<M: Memory, G: StepGate>(
+    table: &CardTable<M>,
+    pass: &mut Pass<M>,
     from: u64,
     gate: &G,
 ) -> Option<(u64, u64)>
@@ -97,9 +96,9 @@ pub(crate) fn next_from<A: Allocator + Copy, G: StepGate>(
 }
 
 /// Returns the greatest present key below the given one, with its value.
-pub(crate) fn last_below<A: Allocator + Copy, G: StepGate>(
-    table: &CardTable<A>,
-    pass: &mut Pass<A>,
+pub(crate) fn last_below<M: Memory, G: StepGate>(
+    table: &CardTable<M>,
+    pass: &mut Pass<M>,
     upto: u64,
     gate: &G,
 ) -> Option<(u64, u64)>

@@ -14,10 +14,9 @@ ghost use Rattle.ell_tree.specs.Searches.{AtRoot, EndsAbove, EndsAt, EndWasUnkno
 use crate::gate::{Kind, StepGate};
 use crate::steps::KeyedNode;
 use ell_block::is_in_block;
-use ell_cards::{CardTable, Pass};
+use ell_cards::{CardTable, Memory, Pass};
 use ell_ops::Op;
 use ell_word::{Link, Update, is_internal};
-use std::alloc::Allocator;
 
 // A search reads the update word, the key and a child of each internal node that it passes.
 const STEPS_AT_A_NODE: u64 = 3;
@@ -54,7 +53,7 @@ pub(crate) fn node_with(place: Place, tag: u64) -> Link
 
 // Whether a search ends at an internal node of this key: an insert's does at one whose block lacks its key.
 #[inline(always)]
-fn ends_at<A: Allocator + Copy>(table: &CardTable<A>, op: Op, node: u64, key: u64) -> bool
+fn ends_at<M: Memory>(table: &CardTable<M>, op: Op, node: u64, key: u64) -> bool
     ensures ends { result ≡ true → EndsAbove (flat_from table.now.plan) op node key }
     ensures goes { result ≡ false → MayPass (flat_from table.now.plan) op node key }
 {
@@ -65,9 +64,9 @@ fn ends_at<A: Allocator + Copy>(table: &CardTable<A>, op: Op, node: u64, key: u6
 }
 
 /// Searches for the operation's key from the root. Its steps are counted once it has ended.
-pub(crate) fn search<A: Allocator + Copy, G: StepGate>(
-    table: &CardTable<A>,
-    pass: &mut Pass<A>,
+pub(crate) fn search<M: Memory, G: StepGate>(
+    table: &CardTable<M>,
+    pass: &mut Pass<M>,
     op: Op,
     gate: &G,
 ) -> Place
@@ -85,9 +84,9 @@ pub(crate) fn search<A: Allocator + Copy, G: StepGate>(
 
 // The same, but the steps are not counted. Returns where it ended, and how many steps there were.
 #[inline(always)]
-fn walk<A: Allocator + Copy, G: StepGate>(
-    table: &CardTable<A>,
-    pass: &mut Pass<A>,
+fn walk<M: Memory, G: StepGate>(
+    table: &CardTable<M>,
+    pass: &mut Pass<M>,
     op: Op,
     gate: &G,
 ) -> (Place, u64)
@@ -140,9 +139,9 @@ fn walk<A: Allocator + Copy, G: StepGate>(
 
 // Asks the key of a node that the pass has met. The step is not counted.
 #[inline(always)]
-fn ask_key<A: Allocator + Copy, G: StepGate>(
-    table: &CardTable<A>,
-    pass: &mut Pass<A>,
+fn ask_key<M: Memory, G: StepGate>(
+    table: &CardTable<M>,
+    pass: &mut Pass<M>,
     node: u64,
     gate: &G,
 ) -> u64
@@ -157,9 +156,9 @@ fn ask_key<A: Allocator + Copy, G: StepGate>(
 
 // Asks the value of a leaf that the pass has met. The step is not counted.
 #[inline(always)]
-fn ask_value<A: Allocator + Copy, G: StepGate>(
-    table: &CardTable<A>,
-    pass: &mut Pass<A>,
+fn ask_value<M: Memory, G: StepGate>(
+    table: &CardTable<M>,
+    pass: &mut Pass<M>,
     leaf: u64,
     gate: &G,
 ) -> u64
@@ -189,9 +188,9 @@ fn rebuild(passed: Passed) -> Passed
 
 // Goes down from an internal node of this key, whose update it reads before the child word. Returns what it read there,
 // and the child. The steps are not counted.
-fn pass_by<A: Allocator + Copy, G: StepGate>(
-    table: &CardTable<A>,
-    pass: &mut Pass<A>,
+fn pass_by<M: Memory, G: StepGate>(
+    table: &CardTable<M>,
+    pass: &mut Pass<M>,
     op: Op,
     at: KeyedNode,
     gate: &G,

@@ -25,12 +25,11 @@ ghost use Rattle.ell_tree.specs.Keeping.{KeepsAll, KeepsAllButMet};
 ghost use Rattle.ell_tree.specs.Tries.{Begins, Lays};
 
 use crate::gate::{Kind, StepGate};
-use ell_cards::{CardTable, Pass};
+use ell_cards::{CardTable, Memory, Pass};
 use ell_core::Exchange;
 use ell_layout::Field;
 use ell_ops::{Op, Reply};
 use ell_word::{Link, State, Update};
-use std::alloc::Allocator;
 
 /// A node with its key.
 #[derive(Clone, Copy)]
@@ -40,9 +39,9 @@ pub(crate) struct KeyedNode {
 }
 
 /// Takes an operation in hand.
-pub(crate) fn begin<A: Allocator + Copy, G: StepGate>(
-    table: &CardTable<A>,
-    pass: &mut Pass<A>,
+pub(crate) fn begin<M: Memory, G: StepGate>(
+    table: &CardTable<M>,
+    pass: &mut Pass<M>,
     op: Op,
     gate: &G,
 )
@@ -56,11 +55,7 @@ pub(crate) fn begin<A: Allocator + Copy, G: StepGate>(
 }
 
 /// Starts the search of the operation in hand anew.
-pub(crate) fn again<A: Allocator + Copy, G: StepGate>(
-    table: &CardTable<A>,
-    pass: &mut Pass<A>,
-    gate: &G,
-)
+pub(crate) fn again<M: Memory, G: StepGate>(table: &CardTable<M>, pass: &mut Pass<M>, gate: &G)
     requires own { pass.old.table ≡ table.now.id }
     requires may { MayStop (worker_of pass.old.view.worker) }
     // Where there are places, the pass has noted all that its card in hand made dead.
@@ -73,11 +68,7 @@ pub(crate) fn again<A: Allocator + Copy, G: StepGate>(
 }
 
 /// Lays the operation in hand down without an answer.
-pub(crate) fn leave<A: Allocator + Copy, G: StepGate>(
-    table: &CardTable<A>,
-    pass: &mut Pass<A>,
-    gate: &G,
-)
+pub(crate) fn leave<M: Memory, G: StepGate>(table: &CardTable<M>, pass: &mut Pass<M>, gate: &G)
     requires own { pass.old.table ≡ table.now.id }
     requires may { MayStop (worker_of pass.old.view.worker) }
     // Where there are places, the pass has noted all that its card in hand made dead.
@@ -90,9 +81,9 @@ pub(crate) fn leave<A: Allocator + Copy, G: StepGate>(
 }
 
 /// Answers the operation in hand.
-pub(crate) fn answer<A: Allocator + Copy, G: StepGate>(
-    table: &CardTable<A>,
-    pass: &mut Pass<A>,
+pub(crate) fn answer<M: Memory, G: StepGate>(
+    table: &CardTable<M>,
+    pass: &mut Pass<M>,
     said: Reply,
     gate: &G,
 )
@@ -119,9 +110,9 @@ pub(crate) fn answer<A: Allocator + Copy, G: StepGate>(
 }
 
 /// Reads the key of a node that the pass has met.
-pub(crate) fn read_key<A: Allocator + Copy, G: StepGate>(
-    table: &CardTable<A>,
-    pass: &mut Pass<A>,
+pub(crate) fn read_key<M: Memory, G: StepGate>(
+    table: &CardTable<M>,
+    pass: &mut Pass<M>,
     node: u64,
     gate: &G,
 ) -> KeyedNode
@@ -138,9 +129,9 @@ pub(crate) fn read_key<A: Allocator + Copy, G: StepGate>(
 }
 
 /// Reads a word of a card that the pass knows flagged or marked.
-pub(crate) fn read_info<A: Allocator + Copy, G: StepGate>(
-    table: &CardTable<A>,
-    pass: &mut Pass<A>,
+pub(crate) fn read_info<M: Memory, G: StepGate>(
+    table: &CardTable<M>,
+    pass: &mut Pass<M>,
     card: u64,
     field: Field,
     gate: &G,
@@ -159,9 +150,9 @@ pub(crate) fn read_info<A: Allocator + Copy, G: StepGate>(
 }
 
 /// Reads the leaf of a card that the pass knows flagged or marked, with the tag that the card expects.
-pub(crate) fn read_leaf<A: Allocator + Copy, G: StepGate>(
-    table: &CardTable<A>,
-    pass: &mut Pass<A>,
+pub(crate) fn read_leaf<M: Memory, G: StepGate>(
+    table: &CardTable<M>,
+    pass: &mut Pass<M>,
     card: u64,
     gate: &G,
 ) -> Link
@@ -177,9 +168,9 @@ pub(crate) fn read_leaf<A: Allocator + Copy, G: StepGate>(
 }
 
 /// Reads a child of the parent that a card has marked.
-pub(crate) fn read_child<A: Allocator + Copy, G: StepGate>(
-    table: &CardTable<A>,
-    pass: &mut Pass<A>,
+pub(crate) fn read_child<M: Memory, G: StepGate>(
+    table: &CardTable<M>,
+    pass: &mut Pass<M>,
     card: u64,
     parent: u64,
     right: bool,
@@ -197,9 +188,9 @@ pub(crate) fn read_child<A: Allocator + Copy, G: StepGate>(
 }
 
 /// Makes the child exchange of an insert or a swap, given the leaf with the tag that the card expects.
-pub(crate) fn change_child<A: Allocator + Copy, G: StepGate>(
-    table: &CardTable<A>,
-    pass: &mut Pass<A>,
+pub(crate) fn change_child<M: Memory, G: StepGate>(
+    table: &CardTable<M>,
+    pass: &mut Pass<M>,
     card: u64,
     parent: KeyedNode,
     leaf: Link,
@@ -225,9 +216,9 @@ pub(crate) fn change_child<A: Allocator + Copy, G: StepGate>(
 }
 
 /// Takes the flag of an insert away.
-pub(crate) fn clear_insert<A: Allocator + Copy, G: StepGate>(
-    table: &CardTable<A>,
-    pass: &mut Pass<A>,
+pub(crate) fn clear_insert<M: Memory, G: StepGate>(
+    table: &CardTable<M>,
+    pass: &mut Pass<M>,
     card: u64,
     parent: u64,
     gate: &G,
@@ -244,9 +235,9 @@ pub(crate) fn clear_insert<A: Allocator + Copy, G: StepGate>(
 
 /// Marks the parent of a delete. Returns `None` if its mark stands now, and otherwise the update that was found in its
 /// place.
-pub(crate) fn set_mark<A: Allocator + Copy, G: StepGate>(
-    table: &CardTable<A>,
-    pass: &mut Pass<A>,
+pub(crate) fn set_mark<M: Memory, G: StepGate>(
+    table: &CardTable<M>,
+    pass: &mut Pass<M>,
     card: u64,
     parent: u64,
     was: u64,
@@ -287,9 +278,9 @@ fn is_mark(card: u64, update: Update) -> bool
 }
 
 /// Makes the child exchange of a delete, given the parent with the tag that the card expects.
-pub(crate) fn cut_parent<A: Allocator + Copy, G: StepGate>(
-    table: &CardTable<A>,
-    pass: &mut Pass<A>,
+pub(crate) fn cut_parent<M: Memory, G: StepGate>(
+    table: &CardTable<M>,
+    pass: &mut Pass<M>,
     card: u64,
     grandparent: KeyedNode,
     parent: Link,
@@ -310,9 +301,9 @@ pub(crate) fn cut_parent<A: Allocator + Copy, G: StepGate>(
 }
 
 /// Takes the flag of a delete away after its child exchange.
-pub(crate) fn clear_delete<A: Allocator + Copy, G: StepGate>(
-    table: &CardTable<A>,
-    pass: &mut Pass<A>,
+pub(crate) fn clear_delete<M: Memory, G: StepGate>(
+    table: &CardTable<M>,
+    pass: &mut Pass<M>,
     card: u64,
     grandparent: u64,
     gate: &G,
@@ -328,9 +319,9 @@ pub(crate) fn clear_delete<A: Allocator + Copy, G: StepGate>(
 }
 
 /// Takes the flag of a delete away after its lost mark.
-pub(crate) fn go_back<A: Allocator + Copy, G: StepGate>(
-    table: &CardTable<A>,
-    pass: &mut Pass<A>,
+pub(crate) fn go_back<M: Memory, G: StepGate>(
+    table: &CardTable<M>,
+    pass: &mut Pass<M>,
     card: u64,
     grandparent: u64,
     gate: &G,

@@ -34,9 +34,8 @@ use crate::operations::{NotDone, change, find};
 use crate::reading::{cards_left, look, look_about};
 use crate::removing::remove_if;
 use crate::scanning::{Pair, Scanned, last_below, next_from, scan};
-use ell_cards::{CardFault, CardTable, Pass, SplitFault};
+use ell_cards::{CardFault, CardTable, Memory, Pass, SplitFault};
 use ell_ops::{KEY_MAX, NoMemory, Op};
-use std::alloc::Allocator;
 use std::marker::Model;
 
 /// A map from keys to values that many threads share, each through a pass of its own. A pass finds, inserts and deletes
@@ -47,27 +46,27 @@ use std::marker::Model;
 /// above an internal node: in a flat tree (`reserve_flat`) 64 if there were no start keys, and 84 at most with a
 /// million of them; in any other tree, `cards`.
 #[derive(Drop)]
-pub struct Tree<A: Allocator + Copy> {
-    pub(crate) table: CardTable<A>,
-    pub(crate) alloc: A,
+pub struct Tree<M: Memory> {
+    pub(crate) table: CardTable<M>,
+    pub(crate) alloc: M::Alloc,
 }
 
-impl<A: Allocator + Copy> Model for Tree<A> {
+impl<M: Memory> Model for Tree<M> {
     ghost Value = { TreeModel };
 
     ghost view = { λ t. t.table };
 }
 
-impl<A: Allocator + Copy> Tree<A> {
+impl<M: Memory> Tree<M> {
     /// Splits a pass, so that two threads can work: the left part gets these of its keys, strictly ascending, and the
     /// right part gets the rest, and a part of the share. Both keep its label. `TooManyPasses` is returned exactly if
     /// some keys are shared and its share may not be split, and otherwise `NoMemory` if an allocation fails. Either way
     /// the pass comes back as it was.
     pub fn split(
         &self,
-        pass: Pass<A>,
+        pass: Pass<M>,
         left_keys: &[u64],
-    ) -> Result<(Pass<A>, Pass<A>), (Pass<A>, SplitFault)>
+    ) -> Result<(Pass<M>, Pass<M>), (Pass<M>, SplitFault)>
         requires may { IsIdlePassOf self.now pass }
         requires ascending { IsStrictlyIncreasing left_keys.now }
         requires owned { All (λ k. Owns pass k) left_keys.now }
@@ -92,9 +91,9 @@ impl<A: Allocator + Copy> Tree<A> {
     /// come back as they were.
     pub fn join(
         &self,
-        left: Pass<A>,
-        right: Pass<A>,
-    ) -> Result<Pass<A>, (Pass<A>, Pass<A>, NoMemory)>
+        left: Pass<M>,
+        right: Pass<M>,
+    ) -> Result<Pass<M>, (Pass<M>, Pass<M>, NoMemory)>
         requires left { IsIdlePassOf self.now left }
         requires right { IsIdlePassOf self.now right }
         // The pass has the keys and the shares of both, and knows no fewer milestones. In a row it counts one step more
@@ -111,7 +110,7 @@ impl<A: Allocator + Copy> Tree<A> {
     /// Gives a pass up. In a tree whose cards come back (`reserve_reusing`), a pass that is given up between its calls
     /// makes room for another, which a later split finds. In any other tree nothing happens. Its keys and its share
     /// stay with nobody, so that a tree that needs them can no longer be closed.
-    pub fn release(&self, pass: Pass<A>)
+    pub fn release(&self, pass: Pass<M>)
         requires own { pass.table ≡ self.now.id }
     {
         self.table.release(pass);
@@ -123,7 +122,7 @@ impl<A: Allocator + Copy> Tree<A> {
     /// and takes at most `2 * depth + 3` steps. A key of the pass's own is answered as `find` answers it. Two looks at
     /// two keys are of two states. It takes no card. The gate is told of each step, as `Look`, and of neither a begin
     /// nor an end.
-    pub fn look<G: StepGate>(&self, pass: &mut Pass<A>, key: u64, gate: &G) -> Option<u64>
+    pub fn look<G: StepGate>(&self, pass: &mut Pass<M>, key: u64, gate: &G) -> Option<u64>
         requires may { IsIdlePassOf self.now pass.old }
         requires real { key ≤ greatest_key }
         // The answer is what the tree had for the key in one state since the look began, in every run.
@@ -142,7 +141,7 @@ impl<A: Allocator + Copy> Tree<A> {
     /// Ends the looks and scans of a pass. In a tree whose cards come back, call this after them: until then, or until
     /// the pass begins and ends an operation, no card comes back that its looks might have read. It is one step, of
     /// which the gate is told as `Look`. In any other tree nothing happens.
-    pub fn end_looks<G: StepGate>(&self, pass: &mut Pass<A>, gate: &G)
+    pub fn end_looks<G: StepGate>(&self, pass: &mut Pass<M>, gate: &G)
         requires may { IsIdlePassOf self.now pass.old }
         // The pass knows no node any more that a look has told it; or, where no card comes back, it is as it was.
         ensures ends { EndsLooks self.now.plan.slots pass.old pass.new }
@@ -164,7 +163,7 @@ impl<A: Allocator + Copy> Tree<A> {
     /// `low` and below `high`. Of these, the one in `found` was present, with this value, and no other; or none was. So
     /// a caller that asks again about `high` reaches every key in ascending order, and one that asks again about
     /// `low - 1`, in descending order. Steps, cards and gate are as for `look`.
-    pub fn look_about<G: StepGate>(&self, pass: &mut Pass<A>, key: u64, gate: &G) -> About
+    pub fn look_about<G: StepGate>(&self, pass: &mut Pass<M>, key: u64, gate: &G) -> About
         requires may { IsIdlePassOf self.now pass.old }
         requires real { key ≤ greatest_key }
         // The answer is what the tree had for all keys of the stretch in one state since the look began, in every run:
@@ -193,7 +192,7 @@ impl<A: Allocator + Copy> Tree<A> {
     /// `Look`.
     pub fn scan<G: StepGate>(
         &self,
-        pass: &mut Pass<A>,
+        pass: &mut Pass<M>,
         from: u64,
         upto: u64,
         room: &mut [Pair],
@@ -226,7 +225,7 @@ impl<A: Allocator + Copy> Tree<A> {
     /// during the call, and each key before it was absent in one. Steps, cards and gate are as for `scan`.
     pub fn next_at_least<G: StepGate>(
         &self,
-        pass: &mut Pass<A>,
+        pass: &mut Pass<M>,
         key: u64,
         gate: &G,
     ) -> Option<(u64, u64)>
@@ -247,7 +246,7 @@ impl<A: Allocator + Copy> Tree<A> {
     /// Returns the least present key above `key`, with its value, as `next_at_least` does.
     pub fn next_after<G: StepGate>(
         &self,
-        pass: &mut Pass<A>,
+        pass: &mut Pass<M>,
         key: u64,
         gate: &G,
     ) -> Option<(u64, u64)>
@@ -265,7 +264,7 @@ impl<A: Allocator + Copy> Tree<A> {
     }
 
     /// Returns the least present key, with its value, as `next_at_least` does.
-    pub fn first<G: StepGate>(&self, pass: &mut Pass<A>, gate: &G) -> Option<(u64, u64)>
+    pub fn first<G: StepGate>(&self, pass: &mut Pass<M>, gate: &G) -> Option<(u64, u64)>
         requires may { IsIdlePassOf self.now pass.old }
         // The answer is as that of `next_at_least`, for all keys.
         ensures so { IsNextIn self.now pass.new.view 0 result }
@@ -282,7 +281,7 @@ impl<A: Allocator + Copy> Tree<A> {
     /// during the call, and each key after it was absent in one. Steps, cards and gate are as for `scan`.
     pub fn last_at_most<G: StepGate>(
         &self,
-        pass: &mut Pass<A>,
+        pass: &mut Pass<M>,
         key: u64,
         gate: &G,
     ) -> Option<(u64, u64)>
@@ -303,7 +302,7 @@ impl<A: Allocator + Copy> Tree<A> {
     /// Returns the greatest present key below `key`, with its value, as `last_at_most` does.
     pub fn last_before<G: StepGate>(
         &self,
-        pass: &mut Pass<A>,
+        pass: &mut Pass<M>,
         key: u64,
         gate: &G,
     ) -> Option<(u64, u64)>
@@ -321,7 +320,7 @@ impl<A: Allocator + Copy> Tree<A> {
     }
 
     /// Returns the greatest present key, with its value, as `last_at_most` does.
-    pub fn last<G: StepGate>(&self, pass: &mut Pass<A>, gate: &G) -> Option<(u64, u64)>
+    pub fn last<G: StepGate>(&self, pass: &mut Pass<M>, gate: &G) -> Option<(u64, u64)>
         requires may { IsIdlePassOf self.now pass.old }
         // The answer is as that of `last_at_most`, for all keys.
         ensures so { IsLastIn self.now pass.new.view (greatest_key + 1) result }
@@ -338,7 +337,7 @@ impl<A: Allocator + Copy> Tree<A> {
     /// passes went on. No more than that are ever left afterwards. An insert or a delete that changes the map takes
     /// one, and at most one more for each try that something hinders; with none left it returns `Spent`. The gate is
     /// told of the step, as `Look`.
-    pub fn cards_left<G: StepGate>(&self, pass: &mut Pass<A>, gate: &G) -> u64
+    pub fn cards_left<G: StepGate>(&self, pass: &mut Pass<M>, gate: &G) -> u64
         requires own { pass.old.table ≡ self.now.id }
         // Returns how many cards its one load of the claim word found not given out. No more than that are left later.
         ensures reads { ReadsCardsLeft self.now.plan.last_card pass.old pass.new result }
@@ -354,7 +353,7 @@ impl<A: Allocator + Copy> Tree<A> {
 
     /// Returns the value of a key of the pass, or of a shared one, if the key is present. The call helps no other call,
     /// nothing is in its way, and it takes no card and at most `3 * depth + 7` steps.
-    pub fn find<G: StepGate>(&self, pass: &mut Pass<A>, key: u64, gate: &G) -> Option<u64>
+    pub fn find<G: StepGate>(&self, pass: &mut Pass<M>, key: u64, gate: &G) -> Option<u64>
         requires may { MayDo self.now key pass.old }
         // On a key of the pass, the answer is the value that the pass has. On any key, it is that of one thread at one
         // point of the call, in every run. The pass is idle, and keeps its keys and its share.
@@ -394,7 +393,7 @@ impl<A: Allocator + Copy> Tree<A> {
     /// most one for each of those, and none if it answers on a key of the pass.
     pub fn insert<G: StepGate>(
         &self,
-        pass: &mut Pass<A>,
+        pass: &mut Pass<M>,
         key: u64,
         value: u64,
         tries: u32,
@@ -433,7 +432,7 @@ impl<A: Allocator + Copy> Tree<A> {
     /// has another value, is left unchanged. Tries, steps, cards and errors are as for `insert`.
     pub fn swap<G: StepGate>(
         &self,
-        pass: &mut Pass<A>,
+        pass: &mut Pass<M>,
         key: u64,
         was: u64,
         value: u64,
@@ -477,7 +476,7 @@ impl<A: Allocator + Copy> Tree<A> {
     /// one more for each try that something hindered.
     pub fn put<G: StepGate>(
         &self,
-        pass: &mut Pass<A>,
+        pass: &mut Pass<M>,
         key: u64,
         value: u64,
         tries: u32,
@@ -517,7 +516,7 @@ impl<A: Allocator + Copy> Tree<A> {
     /// Tries, steps, cards and errors are as for `put`.
     pub fn update<G: StepGate, F: Fn(u64) -> u64>(
         &self,
-        pass: &mut Pass<A>,
+        pass: &mut Pass<M>,
         key: u64,
         f: F,
         tries: u32,
@@ -559,7 +558,7 @@ impl<A: Allocator + Copy> Tree<A> {
     /// `put`.
     pub fn fetch_add<G: StepGate>(
         &self,
-        pass: &mut Pass<A>,
+        pass: &mut Pass<M>,
         key: u64,
         addend: u64,
         tries: u32,
@@ -600,7 +599,7 @@ impl<A: Allocator + Copy> Tree<A> {
     /// cards and errors are as for `insert`.
     pub fn delete<G: StepGate>(
         &self,
-        pass: &mut Pass<A>,
+        pass: &mut Pass<M>,
         key: u64,
         tries: u32,
         gate: &G,
@@ -639,7 +638,7 @@ impl<A: Allocator + Copy> Tree<A> {
     /// Tries, steps, cards and errors are as for `delete`.
     pub fn take<G: StepGate>(
         &self,
-        pass: &mut Pass<A>,
+        pass: &mut Pass<M>,
         key: u64,
         tries: u32,
         gate: &G,
@@ -682,7 +681,7 @@ impl<A: Allocator + Copy> Tree<A> {
     /// steps, cards and errors are as for `put`.
     pub fn remove_if<G: StepGate>(
         &self,
-        pass: &mut Pass<A>,
+        pass: &mut Pass<M>,
         key: u64,
         was: u64,
         tries: u32,
@@ -719,7 +718,7 @@ impl<A: Allocator + Copy> Tree<A> {
 
     /// A law, the contract of a function that does nothing: a pass of the tree knows of at most two milestones of each
     /// card, whatever it did.
-    pub fn known_milestones_are_few(&self, pass: &Pass<A>)
+    pub fn known_milestones_are_few(&self, pass: &Pass<M>)
         requires own { pass.now.table ≡ self.now.id }
         // A pass knows of at most `2 * cards` milestones.
         ensures { milestones_known self.now.plan.last_card pass.now.view ≤ 2 * self.now.plan.last_card }

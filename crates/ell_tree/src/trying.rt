@@ -17,11 +17,10 @@ ghost use Rattle.ell_tree.specs.Ends.{claim_steps, is_delete};
 
 use crate::gate::{Kind, StepGate};
 use crate::searching::Place;
-use ell_cards::{CardTable, Pass};
+use ell_cards::{CardTable, Memory, Pass};
 use ell_core::Exchange;
 use ell_layout::Field;
 use ell_ops::Op;
-use std::alloc::Allocator;
 
 /// How a try ended.
 #[derive(Clone, Copy)]
@@ -60,9 +59,9 @@ enum Next {
 /// Takes the next card for an operation whose search ended at a place, if one is left and no other pass takes it first.
 /// The node of an insert's or a swap's card gets this key. Where cards lie in slots, it takes the next one whose slot is free, and
 /// goes on to the one behind while another pass has taken that slot first, until it has asked for each.
-pub(crate) fn take_card<A: Allocator + Copy, G: StepGate>(
-    table: &CardTable<A>,
-    pass: &mut Pass<A>,
+pub(crate) fn take_card<M: Memory, G: StepGate>(
+    table: &CardTable<M>,
+    pass: &mut Pass<M>,
     op: Op,
     place: Place,
     node_key: u64,
@@ -93,9 +92,9 @@ pub(crate) fn take_card<A: Allocator + Copy, G: StepGate>(
 
 // Claims the next card whose slot the pass could take, if one is left, and with it all numbers up to it, and takes its slot, if
 // cards lie in slots and it is free still. A card that is in hand already is laid aside, as the numbers before that one are.
-fn claim_next<A: Allocator + Copy, G: StepGate>(
-    table: &CardTable<A>,
-    pass: &mut Pass<A>,
+fn claim_next<M: Memory, G: StepGate>(
+    table: &CardTable<M>,
+    pass: &mut Pass<M>,
     op: Op,
     place: Place,
     node_key: u64,
@@ -142,9 +141,9 @@ fn is_delete(op: Op) -> bool
 
 // Claims all cards from the next one to this one, if no other pass has taken the next one: just that, where each card has words of
 // its own. Returns `true` if it did.
-fn claim_up_to<A: Allocator + Copy>(
-    table: &CardTable<A>,
-    pass: &mut Pass<A>,
+fn claim_up_to<M: Memory>(
+    table: &CardTable<M>,
+    pass: &mut Pass<M>,
     first: u64,
     card: u64,
     node_key: u64,
@@ -167,9 +166,9 @@ fn claim_up_to<A: Allocator + Copy>(
 }
 
 /// Stores a word of the card in hand: where it names a node, the low bits of the node.
-pub(crate) fn fill<A: Allocator + Copy, G: StepGate>(
-    table: &CardTable<A>,
-    pass: &mut Pass<A>,
+pub(crate) fn fill<M: Memory, G: StepGate>(
+    table: &CardTable<M>,
+    pass: &mut Pass<M>,
     card: u64,
     field: Field,
     value: u64,

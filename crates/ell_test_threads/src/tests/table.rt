@@ -3,7 +3,7 @@ ghost use Rattle.std.specs.Prelude.{◌≡◌, ◌≤◌};
 ghost use Rattle.ell_cards.specs.Models.{IsFree};
 ghost use Rattle.ell_cards.specs.Starts.{most_places};
 
-use ell_cards::{CardFault, CardTable, Pass, TableKind};
+use ell_cards::{CardFault, CardTable, FixedMemory, Pass, TableKind};
 use ell_tree::{NotDone, SplitFault};
 use std::alloc::Global;
 use std::fmt::Display;
@@ -15,10 +15,10 @@ const START: [(u64, u64); 3] = [(2, 200), (4, 400), (6, 600)];
 // The pass that two are joined to.
 fn joined(
     rt: &impl Abort,
-    table: &CardTable<Global>,
-    left: Pass<Global>,
-    right: Pass<Global>,
-) -> Pass<Global>
+    table: &CardTable<FixedMemory<Global>>,
+    left: Pass<FixedMemory<Global>>,
+    right: Pass<FixedMemory<Global>>,
+) -> Pass<FixedMemory<Global>>
     requires left { (left.table ≡ table.now.id) × IsFree left.view }
     requires right { (right.table ≡ table.now.id) × IsFree right.view }
     ensures { (result.table ≡ table.now.id) × IsFree result.view }
@@ -29,9 +29,9 @@ fn joined(
 // Two parts of a pass, which has nothing in hand and owns no key.
 fn parted(
     rt: &impl Abort,
-    table: &CardTable<Global>,
-    pass: Pass<Global>,
-) -> (Pass<Global>, Pass<Global>)
+    table: &CardTable<FixedMemory<Global>>,
+    pass: Pass<FixedMemory<Global>>,
+) -> (Pass<FixedMemory<Global>>, Pass<FixedMemory<Global>>)
     requires { (pass.table ≡ table.now.id) × IsFree pass.view }
     ensures left { (result.0.table ≡ table.now.id) × IsFree result.0.view }
     ensures right { (result.1.table ≡ table.now.id) × IsFree result.1.view }
@@ -40,7 +40,10 @@ fn parted(
 }
 
 // A table whose keys are shared, with places for this many passes, and its first pass.
-fn with_places(rt: &(impl Abort + AllocGlobal), places: u64) -> (CardTable<Global>, Pass<Global>)
+fn with_places(
+    rt: &(impl Abort + AllocGlobal),
+    places: u64,
+) -> (CardTable<FixedMemory<Global>>, Pass<FixedMemory<Global>>)
     requires { places ≤ most_places }
     ensures { (result.1.table ≡ result.0.id) × IsFree result.1.view }
 {

@@ -14,7 +14,7 @@ use Rattle.ell_cards.proofs.table.CardTable.join.Goals as goal
 
 pub join_seat-requires : goal.join_seat-requires
 join_seat-requires g c =
-    let key = c.self.inside.table.shared.key in
+    let key = g.M.Memory.key c.self.inside.table in
     let k = c.left.inside.seat.me.0 in
     let l = c.right.inside.seat.me.0 in
     let size = c.self.invariant.0 in

@@ -18,7 +18,7 @@ pub split_seat-other-requires : goal.split_seat-other-requires
 split_seat-other-requires g c =
     let seat = c.find_place-place.new.seat in
     let is = c.find_place-place.ensures in
-    let key = c.self.inside.table.shared.key in
+    let key = g.M.Memory.key c.self.inside.table in
     let found = found_is _ _ _ _ c.pass.invariant.2.other is.taken is.lost in
     let same = ap shown is.tree ∙ ap (λ (m : PassModel). m.view) c.pass.view_is in
     let may = subst MaySplit (sym same) c.requires.may in

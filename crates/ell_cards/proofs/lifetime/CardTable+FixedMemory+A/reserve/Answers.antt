@@ -7,7 +7,7 @@ use Rattle.ell_ops.specs.Meaning.{greatest_key}
 use Rattle.ell_cards.specs.Models.{TablePlan}
 use Rattle.ell_cards.specs.Starts.{MayStart, SlotsFit, IsSharedIn}
 use Rattle.ell_cards.proofs.lemmas.whole.Opens.{last_fits, slots_fit}
-use Rattle.ell_cards.proofs.table.CardTable.reserve.Goals as goal
+use Rattle.ell_cards.proofs.lifetime.CardTable+FixedMemory+A.reserve.Goals as goal
 use Rattle.ell_word.specs.Node.{greatest_card, greatest_number}
 
 -- what is so of a list is so of a copy of it

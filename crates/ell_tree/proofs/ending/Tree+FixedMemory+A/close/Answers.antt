@@ -3,7 +3,7 @@ use Rattle.ell_cards.specs.Closed.{TableEnds}
 use Rattle.ell_cards.specs.Models.{last_slot_of}
 use Rattle.ell_tree.specs.Ledgers.{TreeModel}
 use Rattle.ell_tree.proofs.lemmas.Closing.{room_for, holds_keys, closes, of_thread}
-use Rattle.ell_tree.proofs.tree.Tree.close.Goals as goal
+use Rattle.ell_tree.proofs.ending.Tree+FixedMemory+A.close.Goals as goal
 
 pub pairs_of_tree-requires-clause-pairs_room : goal.pairs_of_tree-requires-clause-pairs_room
 pairs_of_tree-requires-clause-pairs_room g c =

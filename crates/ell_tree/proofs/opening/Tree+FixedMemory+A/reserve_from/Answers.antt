@@ -1,5 +1,5 @@
 use Rattle.ell_tree.proofs.lemmas.PassParts.{first_pass}
-use Rattle.ell_tree.proofs.tree.Tree.reserve_from.Goals as goal
+use Rattle.ell_tree.proofs.opening.Tree+FixedMemory+A.reserve_from.Goals as goal
 
 pub returns-clause-pass : goal.returns-clause-pass
 returns-clause-pass g c =

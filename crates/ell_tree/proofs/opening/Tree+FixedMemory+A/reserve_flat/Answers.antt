@@ -1,7 +1,7 @@
 use Rattle.std.proofs.Common.{sym}
 use Rattle.std.proofs.lemmas.Bool.{false≢true}
 use Rattle.ell_tree.proofs.lemmas.PassParts.{first_pass}
-use Rattle.ell_tree.proofs.tree.Tree.reserve_flat.Goals as goal
+use Rattle.ell_tree.proofs.opening.Tree+FixedMemory+A.reserve_flat.Goals as goal
 
 pub returns-clause-pass : goal.returns-clause-pass
 returns-clause-pass g c =

@@ -14,7 +14,7 @@ use Rattle.ell_cards.specs.Shown.{shown}
 use Rattle.ell_cards.specs.Starts.{SlotsFit}
 use Rattle.ell_cards.proofs.lemmas.lifetimes.Openings.{first_fits}
 use Rattle.ell_cards.proofs.lemmas.whole.Places.{first_place_fits, size_some}
-use Rattle.ell_cards.proofs.table.CardTable.open.Goals as goal
+use Rattle.ell_cards.proofs.lifetime.CardTable+FixedMemory+A.open.Goals as goal
 
 pub invariant_of-pass : goal.invariant_of-pass
 invariant_of-pass g c =

@@ -1,18 +1,21 @@
 use Rattle.std.proofs.Common.{◌≢◌, ℕ, List, None, ap, ◌∙◌, sym, subst, ◌≡◌, true}
+use mathlib.Core.Option.{some}
+use lib.ListN.{get_elem?}
 use Rattle.std.specs.List.{All}
 use Rattle.std.specs.Slots.{slots_items}
 use Rattle.ell_core.specs.state.Machine.{ledger_of}
 use Rattle.ell_cards.specs.Models.{TableModel, PassModel, IsFree, last_slot_of, whole_share}
+use Rattle.ell_cards.specs.Memories.{SeatModel}
 use Rattle.ell_cards.specs.Shown.{shown}
 use Rattle.ell_cards.specs.Whole.{WordsAre}
 use Rattle.ell_cards.proofs.lemmas.whole.Calling.{tree_here}
 use Rattle.ell_cards.specs.Closed.{ClosedModel, TableEnds}
 use Rattle.ell_cards.proofs.lemmas.runs.Ending.{ends}
-use Rattle.ell_cards.proofs.table.CardTable.close.Goals as goal
+use Rattle.ell_cards.proofs.closed.CardTable+FixedMemory+A.close.Goals as goal
 
 pub returns-clause-ends : goal.returns-clause-ends
 returns-clause-ends g c none =
-    let plan = c.self.inside.table.shared.key in
+    let plan = c.self.inside.table.table.shared.key in
     let v = c.pass.inside.seat.me.0.tree in
     let words = slots_items c.close_with.result.words in
     let last = c.close_with.ensures.values.2 in
@@ -23,7 +26,8 @@ returns-clause-ends g c none =
     let whole = subst (λ (p : PassModel). plan.shared ≡ true → p.view.share ≡ whole_share) (sym c.pass.view_is)
     (subst (λ (m : TableModel). m.plan.shared ≡ true → c.args.pass.view.share ≡ whole_share) (sym c.self.view_is) c.requires.whole) in
     let free = subst (λ (p : PassModel). IsFree p.view) (sym c.pass.view_is) c.requires.free in
-    let seen = tree_here plan last.0 whole_state c.pass.inside.seat.id c.pass.inside.seat.me.0 last.1.1 in
+    let seat = subst (λ (m : SeatModel). get_elem? last.0.views m.id ≡ some m.me.0) c.seat.view_is last.1.1 in
+    let seen = tree_here plan last.0 whole_state c.pass.inside.seat.id c.pass.inside.seat.me.0 seat in
     let there = ends plan whole_state.tree whole_state.reached c.pass.inside.seat.id v seen free whole all in
     let same : whole_state.tree.words ≡ words = sym (subst (λ o. WordsAre o last.0.words whole_state.tree.words) none whole_state.words) ∙ last.2 in
     let number : plan.last_card ≡ c.last_slot.result =
