@@ -37,6 +37,18 @@ static uint64_t scattered(uint64_t i) {
     return (i ^ i >> 27) >> 1;
 }
 
+/* Keys in order, above these. */
+static uint64_t in_order(uint64_t i) { return (UINT64_C(1) << 63) + i; }
+
+/* How many of these keys lack their numbers as values. */
+static long lacks(uint64_t (*key_at)(uint64_t), uint64_t first, uint64_t upto) {
+    uint64_t value;
+    long lacking = 0;
+    for (uint64_t i = first; i < upto; i++)
+        lacking += elltree_map_get(map, key_at(i), &value) != ELLTREE_YES || value != i;
+    return lacking;
+}
+
 static long insert_from_to(uint64_t first, uint64_t upto) {
     long wrong = 0;
     for (uint64_t i = first; i < upto; i++)
@@ -82,14 +94,14 @@ static long grow_to(uint64_t first, uint64_t upto, long before) {
         from = end;
     }
     printf("%llu keys, %ld bytes a key, %llu cards\n", (unsigned long long)from, (memory() - before) / (long)from, (unsigned long long)cards());
-    return wrong + (from != upto) + (memory() - before > BYTES_A_KEY * (long)from);
+    return wrong + lacks(scattered, first, from) + (from != upto) + (memory() - before > BYTES_A_KEY * (long)from);
 }
 
 static void *add_in_order(void *given) {
     uint64_t key;
     (void)given;
     while ((key = next_key++) < MANY)
-        refused += elltree_map_insert(map, (UINT64_C(1) << 63) + key, key) != ELLTREE_YES;
+        refused += elltree_map_insert(map, in_order(key), key) != ELLTREE_YES;
     return NULL;
 }
 
@@ -102,7 +114,7 @@ static long add_together(long before) {
     for (int t = 0; t < THREADS; t++)
         pthread_join(threads[t], NULL);
     printf("%d keys, %ld bytes a key, %llu cards\n", FEW + MANY, (memory() - before) / (FEW + MANY), (unsigned long long)cards());
-    return refused + (memory() - before > BYTES_A_KEY * (long)(FEW + MANY));
+    return refused + lacks(in_order, 0, MANY) + (memory() - before > BYTES_A_KEY * (long)(FEW + MANY));
 }
 
 static long after_a_crowd(int in_order) {
