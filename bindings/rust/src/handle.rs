@@ -187,7 +187,7 @@ impl Handle {
     }
 
     /// Returns how many cards of the tree had not been given out at one moment of the call. Other handles may take some meanwhile. The call takes one
-    /// step and no card. In a tree whose cards come back it counts the numbers that cards get, of which there are 2^61.
+    /// step and no card.
     ///
     /// In a tree whose cards come back, it returns no number of cards, but how many card numbers are left, of 2,305,843,009,213,693,951. Each change
     /// uses some.
