@@ -17,10 +17,11 @@ abbrev pub calls_of : List Item → List (Op × Reply)
 calls_of [] = []
 calls_of (x ∷ xs) = (x.op, x.reply) ∷ calls_of xs
 
--- What a pass may know of all that was done with its table up to now, by whichever passes: it is one history, which is
--- linearizable. Its sequence has each call that this pass was answered, it and all that were joined to it, as often as
--- they were; and no other, where only the plan's keys have owners and the pass has the whole share and nothing in hand.
--- And each call of which it knows stands where it took what it took, and after those that had ended before it began
+-- What a pass may know of all that was done with its table up to now: there is a linearizable history, which need not
+-- be that of the run, whose sequence has each call that this pass was answered, it and all that were joined to it, as
+-- often as they were; and no other, where only the plan's keys have owners and the pass has the whole share and nothing
+-- in hand. And each call of which it knows stands where it took what it took, and after those that had ended before it
+-- began
 pub record HasStory (plan : TablePlan) (v : View) : Type 0 where
   pub history : List Event
   pub linear : IsLinearizable (contents_of plan.start) history

@@ -291,12 +291,12 @@ pub fn histories_are_linearizable()
     ensures { HistoriesAreLinearizable }
 {}
 
-/// Wherever turns have led a table, all that was done with it is one history, which is linearizable, and has the calls
-/// that each pass was answered.
+/// Wherever turns have led a table, there is for each pass an order of calls in which all replies fit, and which has the
+/// calls that the pass was answered.
 pub fn stories_are_told()
-    // All that was done with a table is one linearizable history, in whose sequence are the calls that a pass was
-    // answered, each as often as it was, and no others if all passes were joined to it. Each delete stands where the
-    // key had the value that it took.
+    // For each pass, wherever turns have led a table, there is an order of calls in which all replies fit, and which has
+    // the calls that the pass was answered, each as often as it was, and no others if keys are shared, all passes were
+    // joined to it, and it has nothing in hand. Each delete stands where the key had the value that it took.
     ensures { StoriesAreTold }
 {}
 

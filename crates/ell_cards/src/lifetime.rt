@@ -206,9 +206,9 @@ impl<M: Memory> CardTable<M> {
 
     /// Parts a pass with nothing in hand: the left part gets these keys of its own, ascending, and the right part
     /// gets the rest, a part of the share and, if the table has places, one of them: it looks for a free one behind
-    /// the place that the pass found last, and at each place once. `TooManyPasses` is returned exactly if the pass
-    /// may not be parted, and in a table with places also if no place was found free; `NoMemory` is returned if an
-    /// allocation fails. Either way the pass is as it was.
+    /// the place that the pass found last, and at each place once. `TooManyPasses` is returned if the pass may not be
+    /// parted, and in a table with places also if no place was found free; `NoMemory` is returned if an allocation
+    /// fails. Either way the pass is as it was.
     pub fn split(
         &self,
         pass: Pass<M>,

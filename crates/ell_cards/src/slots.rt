@@ -485,7 +485,7 @@ impl<M: Memory> CardTable<M> {
     }
 
     /// Notes a node that the card in hand, which is over, has taken out of the tree, as `retire_taken_out` notes
-    /// several of one card. Returns `true` if its card's slot became free by this call.
+    /// several of one card. Returns whether the code saw its card's slot become free.
     pub fn retire(&self, pass: &mut Pass<M>, node: u64) -> bool
         requires own { pass.old.table ≡ self.now.id }
         requires taken { HasTakenOut pass.old.view node }
@@ -502,8 +502,9 @@ impl<M: Memory> CardTable<M> {
 
     /// Notes nodes of one card that the card in hand, which is over, has taken out of the tree: all by one exchange,
     /// or by up to three if other passes change the word meanwhile. Of them the pass knows the low 43 bits, and so of
-    /// their card the low 41. Once all three nodes of a card are noted, its slot is free. Returns `true` if it became
-    /// free by this call. It does nothing if the table has no places. Its steps are not counted.
+    /// their card the low 41. Once all three nodes of a card are noted, its slot is free. Returns whether the code saw
+    /// it become free, of which a clause speaks only without places. It does nothing if the table has no places. Its
+    /// steps are not counted.
     pub fn retire_taken_out(&self, pass: &mut Pass<M>, card: u64, nodes: CardNodes) -> bool
         requires own { pass.old.table ≡ self.now.id }
         requires taken { AreTakenOut pass.old.view card nodes }
@@ -527,8 +528,8 @@ impl<M: Memory> CardTable<M> {
 
     /// Notes nodes of the card in hand that never come into the tree, as the card is over: all by one exchange, or by
     /// up to three if other passes change the word meanwhile. Once all three nodes of a card are noted, its slot is
-    /// free. Returns `true` if it became free by this call. It does nothing if the table has no places. Its steps are
-    /// not counted.
+    /// free. Returns whether the code saw it become free, of which a clause speaks only without places. It does nothing
+    /// if the table has no places. Its steps are not counted.
     pub fn retire_nodes(&self, pass: &mut Pass<M>, card: u64, nodes: CardNodes) -> bool
         requires own { pass.old.table ≡ self.now.id }
         requires hand { pass.old.view.worker.card ≡ Some card }

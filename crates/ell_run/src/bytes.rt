@@ -101,7 +101,8 @@ pub fn run_bytes<
     requires { AreSettings settings }
     // If it succeeds, the answer of one thread to the text is appended, and nothing else.
     ensures ok { OnOk result (IsAnswered (I.remaining reader.old) (O.contents writer.old) (O.contents writer.new)) }
-    // `late` is how many operations no worker's piece answers, in a run that follows the settings.
+    // `late` is how many operations no piece answers, for some pieces that workers could have left in a run that follows
+    // the settings.
     ensures late { IfOk result (λ report. IsReported settings (I.remaining reader.old) report.late) }
     // `Text` tells the text's first fault, and `TooLong` is returned only for more than 16,777,216 bytes. Only a
     // `Write` fault has written anything: its first `written` bytes of the answer.

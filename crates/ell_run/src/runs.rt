@@ -62,9 +62,9 @@ pub fn run<R: Threads + Sync, A: Allocator + Copy + Send + Sync, G: StepGate + S
     gate: &G,
 ) -> Result<Outcome<A>, NoMemory>
     requires runnable { IsRunnable start.now ops.now parts.now limits }
-    // In every interleaving of the workers' steps, replies and pairs are those of one thread that applies the list to
-    // the start pairs. `late` is how many operations no worker's piece answers; a worker stops only at one that would
-    // change the map, or at a swap that would find its first value.
+    // Replies and pairs are those of one thread that applies the list to the start pairs. `late` is how many operations
+    // no piece answers, for some pieces that the workers of the parting could have left; a piece ends only before an
+    // operation that would change the map, or a swap that would find its first value.
     ensures { IfOk result (IsOutcome (contents_of start.now) ops.now parts.now) }
 {
     let (pieces, pairs) = run_workers(rt, alloc, start, ops, parts, limits, gate)?;

@@ -17,16 +17,18 @@ use ell_ops::NoMemory;
 use std::alloc::{AllocError, Allocator};
 
 impl<M: Memory> Tree<M> {
-    /// Reads one word, so that the pass knows what was done with the tree up to now, by whichever passes: that was one
-    /// history, which is linearizable, and has the calls that the pass was answered (`story`). Whatever a program
-    /// concludes from the answers of several threads, it concludes from this, once it has joined their passes.
+    /// Reads one word, so that the pass knows what follows from the answers up to now (`story`): there is an order of
+    /// calls in which all replies fit, and which has the calls that the pass was answered. Whatever a program concludes
+    /// from the answers of several threads, it concludes from this, once it has joined their passes.
     pub fn story(&self, pass: &mut Pass<M>)
         requires own { pass.old.table ≡ self.now.id }
-        // All that was done with the tree is one history, which is linearizable. Its order has the calls that the pass
-        // was answered, it and the passes that were joined to it, and no others if it has the whole share. Each delete
-        // stands where the key had the value that it took.
+        // There is an order of calls in which all replies fit: that of a linearizable history, which need not be that of
+        // the run. It has the calls that the pass was answered, it and the passes that were joined to it, and no others
+        // if keys are shared, and the pass has the whole share and nothing in hand. Each delete stands where the key had
+        // the value that it took.
         ensures story { HasStory self.now.plan pass.new.view }
-        // It makes one step. Otherwise the pass is unchanged.
+        // It makes one step. The pass keeps its tree, its label, its keys and what it has in hand, its share, and what it
+        // was answered.
         ensures table { pass.new.table ≡ pass.old.table }
         ensures label { pass.new.label ≡ pass.old.label }
         ensures worker { pass.new.view.worker ≡ pass.old.view.worker }

@@ -59,9 +59,9 @@ impl<M: Memory> Model for Tree<M> {
 
 impl<M: Memory> Tree<M> {
     /// Splits a pass, so that two threads can work: the left part gets these of its keys, strictly ascending, and the
-    /// right part gets the rest, and a part of the share. Both keep its label. `TooManyPasses` is returned exactly if
-    /// some keys are shared and its share may not be split, and otherwise `NoMemory` if an allocation fails. Either way
-    /// the pass comes back as it was.
+    /// right part gets the rest, and a part of the share. Both keep its label. `TooManyPasses` is returned if some keys
+    /// are shared and its share may not be split, and where cards come back also if no place is found for one more pass;
+    /// otherwise `NoMemory` if an allocation fails. Either way the pass comes back as it was.
     pub fn split(
         &self,
         pass: Pass<M>,
@@ -77,9 +77,9 @@ impl<M: Memory> Tree<M> {
         // The left part was answered what the pass was answered, and the right part knows of that.
         ensures called { IfOk result (λ parts. (parts.0.view.answers ≡ pass.view.answers)
             × (parts.1.view.answers ≡ inherited pass.view.answers)) }
-        // `TooManyPasses` is returned exactly if the tree shares keys and the share is the least one, and otherwise
-        // only `NoMemory`; in a tree whose cards come back, also if there are as many passes as places. After either
-        // error the pass comes back as it was.
+        // Where no card comes back, `TooManyPasses` is returned exactly if the tree shares keys and the share is the
+        // least one, and otherwise only `NoMemory`. Where cards come back, it is returned in that case too, and may be
+        // in others. After either error the pass comes back as it was.
         ensures may { OnOk result (MayPart pass.view) }
         ensures refused { IfErr result (λ refused. refused.0 ≡ pass) }
         ensures why { IfErr result (λ refused. SplitRefuses self.now.plan.slots pass.view refused.1) }

@@ -41,7 +41,7 @@ pub extern "C" fn elltree_slot_open(
 /// 1,000,000, and what is outside is taken as the nearest of these. The tree has a slot for each card asked for and
 /// each start key, and one more. A change returns `SPENT` if it can take no slot, as `Handle::open_reusing` says, and
 /// may be made again. A call for another handle returns `TOO_MANY_HANDLES` if the tree has as many handles as asked
-/// for; one that is closed makes room for another.
+/// for; one that is closed makes room for another. That slots and places come back is tested, and no clause says it.
 #[unsafe(no_mangle)]
 pub extern "C" fn elltree_slot_open_reusing(
     alloc: Global,
@@ -118,9 +118,9 @@ pub extern "C" fn elltree_slot_another(alloc: Global, from: &mut Slot, into: &mu
     // `OPEN` is returned exactly if the other slot is open.
     ensures busy { (result ≡ said_open) ↔ (into.old.is_open ≡ true) }
     // With yes the other slot has a handle of the same tree, with a piece of the share, and this slot's handle goes on
-    // as it was, with the rest of that. `CLOSED` is returned exactly if the slot has no handle, then `TOO_MANY_HANDLES`
-    // exactly if the share is the least one, and otherwise only `NO_MEMORY`; in a tree whose cards come back, also
-    // `TOO_MANY_HANDLES` if no place for one more handle is found.
+    // as it was, with the rest of that. `CLOSED` is returned exactly if the slot has no handle. Then, where no card comes
+    // back, `TOO_MANY_HANDLES` is returned exactly if the share is the least one, and otherwise only `NO_MEMORY`; where
+    // cards come back, it is returned in that case too, and may be in others.
     ensures tells { result ≢ said_open → TellsAnother result (handle_of from.old.raw.inside)
         (handle_of from.new.raw.inside) (handle_of into.new.raw.inside) }
     // A call that is refused leaves both slots as they were.

@@ -48,7 +48,8 @@ impl Handle {
     /// cards were asked for, where the tree has `n` keys, there may be `h` handles, and `y` slots were set free too
     /// lately for the call, then it returns `Spent` only as numbers come to an end, once slots were taken, or passed
     /// over as they were in use, 2^40 times (`cards_left`). Only deletes take the last two slots, so in a tree that
-    /// keys fill they can be taken away. `another` returns `TooManyHandles` if the tree has as many handles as asked
+    /// keys fill they can be taken away. That, and that slots and places come back, is tested, and no clause says it.
+    /// `another` returns `TooManyHandles` if the tree has as many handles as asked
     /// for; one that is released makes room for another. Errors are as for `open`.
     pub fn open_reusing(
         alloc: Global,
@@ -81,9 +82,9 @@ impl Handle {
     pub fn another(self) -> Result<(Handle, Handle), (Handle, Refusal)>
         // The handle goes on as it was, but for its share, and the other one has a piece of that.
         ensures another { IfOk result (λ both. HasAnother self both.0 both.1) }
-        // `TooManyHandles` is returned exactly if the share is the least one, and otherwise only `NoMemory`; in a tree
-        // whose cards come back, also if no place for one more handle is found. After either error the handle comes
-        // back.
+        // Where no card comes back, `TooManyHandles` is returned exactly if the share is the least one, and otherwise
+        // only `NoMemory`. Where cards come back, it is returned in that case too, and may be in others. After either
+        // error the handle comes back as it was.
         ensures may { OnOk result (¬ IsLeast self) }
         ensures why { IfErr result (λ refused. AnotherRefuses self refused.1) }
         ensures refused { IfErr result (λ refused. refused.0 ≡ self) }
