@@ -27,8 +27,8 @@ impl<M: Memory> Tree<M> {
         // if keys are shared, and the pass has the whole share and nothing in hand. Each delete stands where the key had
         // the value that it took.
         ensures story { HasStory self.now.plan pass.new.view }
-        // It makes one step. The pass keeps its tree, its label, its keys and what it has in hand, its share, and what it
-        // was answered.
+        // It makes one step. The pass keeps its tree, its label, its keys and what it has in hand, its share, and what
+        // it was answered.
         ensures table { pass.new.table ≡ pass.old.table }
         ensures label { pass.new.label ≡ pass.old.label }
         ensures worker { pass.new.view.worker ≡ pass.old.view.worker }

@@ -11,10 +11,10 @@ use Rattle.ell_cards.specs.Changes.{after_flag, exchanged, found_update, found_w
 -- what a pass knows after it tried to set a flag, by the word that its exchange found, and by what it was answered
 pub flagged_so : (k : Exchange) (c : ℕ) (flag : Fact) (x : ℕ) (from : Update) (v : View) (expected n : ℕ) (said : Result (Unit {0}) Update) → expected ≡ packed from → said ≡ update_outcome expected n
     → exchanged (if_won (n == packed from) k c) n (after_flag (n == packed from) flag x (unpacked n) v)
-      ≡ exchanged (if_won (is_ok said) k c) (found_word (packed from) said) (after_flag (is_ok said) flag x (found_update from said) v)
+    ≡ exchanged (if_won (is_ok said) k c) (found_word (packed from) said) (after_flag (is_ok said) flag x (found_update from said) v)
 flagged_so k c flag x from v expected n said same answer =
     subst (λ (r : Result (Unit {0}) Update). exchanged (if_won (n == packed from) k c) n (after_flag (n == packed from) flag x (unpacked n) v)
-        ≡ exchanged (if_won (is_ok r) k c) (found_word (packed from) r) (after_flag (is_ok r) flag x (found_update from r) v))
+    ≡ exchanged (if_won (is_ok r) k c) (found_word (packed from) r) (after_flag (is_ok r) flag x (found_update from r) v))
     (sym (answer ∙ ap (λ e. update_outcome e n) same)) (by (n == packed from) refl)
   where
     by : (b : Bool) → (n == packed from) ≡ b → exchanged (if_won b k c) n (after_flag b flag x (unpacked n) v)
