@@ -35,8 +35,7 @@ use Rattle.ell_ops.specs.declared.reply.Reply.{Reply}
 use Rattle.ell_ops.specs.declared.reply.Reply.TheVariants.{Yes, Found}
 use Rattle.ell_cards.specs.declared.view.Answered.{Answered}
 use Rattle.ell_cards.specs.declared.view.Deed.{Deed}
-use Rattle.ell_word.specs.declared.link.Link.{Link}
-use Rattle.ell_word.specs.Link.{linked, link_in}
+use Rattle.ell_word.specs.Link.{link_in}
 
 -- the facts with the one that an update tells: a flag or a mark that of its card, a clean update none
 abbrev pub facts_by : State → ℕ → List Fact → List Fact
