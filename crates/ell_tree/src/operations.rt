@@ -36,7 +36,7 @@ pub enum NotDone {
     #[error("something was in the way of each try")]
     Busy,
     /// All cards of the tree are given out; or, where cards come back, no slot could be taken, as `Tree::insert` says.
-    #[error("all cards are given out")]
+    #[error("no card is free for the change")]
     Spent,
 }
 

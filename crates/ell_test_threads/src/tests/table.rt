@@ -87,7 +87,7 @@ fn faults_have_texts(rt: HostRuntime) {
     have_texts(&rt, &[(SplitFault::TooManyPasses, "too many passes")]);
     let of_changes = [
         (NotDone::Busy, "something was in the way of each try"),
-        (NotDone::Spent, "all cards are given out"),
+        (NotDone::Spent, "no card is free for the change"),
     ];
     have_texts(&rt, &of_changes);
 }
