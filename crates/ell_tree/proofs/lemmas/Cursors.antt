@@ -20,7 +20,7 @@ use Rattle.ell_cards.specs.declared.view.Slots.{Slots}
 use Rattle.ell_cards.specs.Models.{PassModel, Counts, Sees, Has, HasCome, HasComeWhole, latest, earlier, IsTold, InTable, LooksBy}
 use Rattle.ell_cards.proofs.lemmas.views.Steps.{view_seen}
 use Rattle.ell_tree.specs.Counts.{HasUncounted}
-use Rattle.ell_tree.proofs.lemmas.Counts.{look_uncounted, uncounted_one}
+use Rattle.ell_tree.proofs.lemmas.Counts.{look_uncounted}
 use Rattle.ell_tree.specs.declared.cursor.About.{About}
 use Rattle.ell_tree.specs.declared.cursor.Cursor.{Cursor}
 use Rattle.ell_tree.specs.Cursors.{AreKept, BeginsALook, FindsAbout, IsAmong, MayGoOnFrom, kept_at, IsLower, IsNodeKey, IsUpper, KeepsLooking, IsWithin, TellsOfLeaf}
