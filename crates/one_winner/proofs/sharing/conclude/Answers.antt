@@ -23,15 +23,18 @@ replies_same (x ∷ xs) = ap (λ (l : List Reply). x.reply ∷ l) (replies_same 
 -- what a pass with the whole share was answered is of one thread
 of_one_thread : (plan : TablePlan) (v : View) → plan.shared ≡ true → v.share ≡ whole_share → IsFree v → HasStory plan v
     → (left : Contents) × AreOfOneThread (contents_of plan.start) v.answers left
-of_one_thread plan v shared whole free h = (final (contents_of plan.start) (ops_in (calls_of h.linear.order)), record {
-  order = calls_of h.linear.order;
-  same = h.all shared whole free;
-  places = h.places;
-  stand = h.stand;
-  says = replies_same h.linear.order
-      ∙ (h.linear.replies ∙ ap (replies (contents_of plan.start)) (sym (ops_same h.linear.order)));
-  leaves = refl;
-})
+of_one_thread plan v shared whole free h = (
+  final (contents_of plan.start) (ops_in (calls_of h.linear.order)),
+  record {
+    order = calls_of h.linear.order;
+    same = h.all shared whole free;
+    places = h.places;
+    stand = h.stand;
+    says = replies_same h.linear.order
+        ∙ (h.linear.replies ∙ ap (replies (contents_of plan.start)) (sym (ops_same h.linear.order)));
+    leaves = refl;
+  },
+)
 
 -- which began with an empty map, if the tree did
 from_nothing : (start : List (ℕ × ℕ)) (deeds said : List Deed) → start ≡ [] → said ≡ deeds
@@ -45,5 +48,5 @@ returns c =
     let v = c.story.new.pass.view in
     let free : IsFree v = ap (λ w. w.operation) c.story.ensures.worker ∙ c.requires.may.1 in
     let t = from_nothing c.args.map.now.plan.start c.args.pass.view.answers v.answers c.requires.shares.start c.story.ensures.called
-        (of_one_thread c.args.map.now.plan v c.requires.shares.shared (c.story.ensures.share ∙ c.requires.whole) free c.story.ensures.story) in
+    (of_one_thread c.args.map.now.plan v c.requires.shares.shared (c.story.ensures.share ∙ c.requires.whole) free c.story.ensures.story) in
     record { left = t.0; thread = t.1 }
