@@ -5,6 +5,7 @@ use ell_parts::Parts;
 use ell_run::{Tree, work};
 use ell_test_gates::{Counting, Tally, two_threads_meet};
 use ell_tree::{Kind, StepGate};
+use std::alloc::Allocator;
 use std::process::Abort;
 use std::thread::Threads;
 
@@ -40,17 +41,19 @@ impl<'a> StepGate for Waiting<'a> {
     fn after(&self, _worker: u32, _answered: bool) {}
 }
 
-// Has two workers do three operations each, by eight tries of each, on a tree of their own: whether there was memory for it.
-fn are_worked<R: Threads + Abort + Sync>(
+// Has two workers do three operations each, by eight tries of each, on a tree of their own, with memory from this heap: whether
+// there was memory for it.
+fn are_worked<R: Threads + Abort + Sync, A: Allocator + Copy + Send + Sync>(
     rt: &R,
+    alloc: A,
     heap: &Heap,
     number: u64,
     gate: &Counting<Waiting>,
 ) -> bool {
-    let parts = Parts::by_owner(heap, &OPS, &OWNERS, 2).expect(rt, "no memory");
-    let (tree, pass) = Tree::reserve(heap, &[5, 7], 16).expect(rt, "no memory");
+    let parts = Parts::by_owner(alloc, &OPS, &OWNERS, 2).expect(rt, "no memory");
+    let (tree, pass) = Tree::reserve(alloc, &[5, 7], 16).expect(rt, "no memory");
     heap.refuse(Refusal::At(number));
-    let worked = work(rt, heap, &tree, pass, &parts, 8, gate);
+    let worked = work(rt, alloc, &tree, pass, &parts, 8, gate);
     heap.stop();
     worked.is_ok()
 }
@@ -68,7 +71,7 @@ fn halves<R: Threads + Abort + AllocGlobal + Sync>(rt: &R, number: u64) -> Optio
         growths: number,
     };
     let gate = Counting::new(rt.alloc(), 2, waiting).expect(rt, "no memory");
-    if are_worked(rt, &heap, number, &gate) {
+    if are_worked(rt, &heap, &heap, number, &gate) {
         return None;
     }
     let (one, other) = (gate.tally(0), gate.tally(1));
