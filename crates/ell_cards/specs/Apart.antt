@@ -14,7 +14,7 @@ use Rattle.ell_cards.specs.Models.{TablePlan, Has, IsTold, Knows, StandsAt, flat
 
 -- what a child word holds of a node's number: its low 43 bits
 abbrev pub cut_node : ℕ → ℕ
-cut_node x = x % 8796093022208
+cut_node x = x % 274877906944
 
 -- a word of a card that is a node is a number of 43 bits
 abbrev pub InfoIsLow : Field → ℕ → Type 0

@@ -2,14 +2,14 @@ use Rattle.std.specs.Prelude.{ℕ, zero, suc, ◌+◌, ◌*◌, ◌/◌, ◌%◌
 
 -- The slot in which a card lies, and its turn there: 2^21 card numbers are a turn, of which each slot has one.
 abbrev pub slot_of : ℕ → ℕ
-slot_of c = c % 2097152
+slot_of c = c % 67108864
 
 abbrev pub turn_of : ℕ → ℕ
-turn_of c = c / 2097152
+turn_of c = c / 67108864
 
 -- whether a turn is the first one, or one that child words tell from the first, as they hold its low 20 bits
 abbrev pub has_slots : ℕ → Bool
-has_slots turn = turn == 0 || not (turn % 1048576 == 0)
+has_slots turn = turn == 0 || not (turn % 1024 == 0)
 
 -- whether a number has a slot in a table with these slots: its slot is one of the table, up to the last one, and its turn
 -- is the first one, or one that child words tell from the first
@@ -37,7 +37,7 @@ is_noted n (suc (suc (suc k))) = false
 
 -- the card that lies in a slot in use, by the slot's word
 abbrev pub card_by : ℕ → ℕ → ℕ
-card_by slot n = 2097152 * turn_in n + slot
+card_by slot n = 67108864 * turn_in n + slot
 
 -- the stamp with which a word sets its slot free, if it does
 abbrev pub freed_by : ℕ → Option ℕ

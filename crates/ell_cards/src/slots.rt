@@ -27,10 +27,10 @@ use ell_word::card_of;
 use std::marker::Brand;
 
 /// How many numbers of cards a turn has. Each slot has one of them.
-const NUMBERS_PER_TURN: u64 = 2_097_152;
+const NUMBERS_PER_TURN: u64 = 67_108_864;
 
 /// How many turns child words tell apart: of two turns that are a multiple of this apart, they hold the same.
-const TURNS_TOLD_APART: u64 = 1_048_576;
+const TURNS_TOLD_APART: u64 = 1_024;
 
 /// How many slots are left to deletes: the last ones of the table, which a pass takes for no other change.
 const LEFT_TO_DELETES: u64 = 2;
@@ -115,7 +115,7 @@ impl Slots {
     /// Returns whether a slot is for each change, as all are but the last ones, which are left to deletes.
     #[inline(always)]
     fn is_for_all(self, slot: u64) -> bool
-        requires slot { slot < 2097152 }
+        requires slot { slot < 67108864 }
         ensures { result ≡ nat_le (slot + 2) self.last }
     {
         slot + LEFT_TO_DELETES <= self.last
@@ -574,7 +574,7 @@ impl<M: Memory> CardTable<M> {
         requires empty { seat.old.me.1 ≡ [] }
         requires slots { self.now.plan.slots ≡ Some slots }
         requires slot { has_slot_in slots.last card ≡ true }
-        requires low { slots.last < 2097152 }
+        requires low { slots.last < 67108864 }
         requires hand { HoldsWaiting seat.old.me.0.tree card }
         requires free { word % 8 ≡ 7 }
         requires safe { stamp_in word < seat.old.me.0.period.safe }

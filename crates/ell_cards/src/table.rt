@@ -408,7 +408,7 @@ impl<M: Memory> CardTable<M> {
 }
 
 /// How many tags a child word tells apart.
-const TAGS: u64 = 2_097_152;
+const TAGS: u64 = 67_108_864;
 
 // The word of the child word that follows one: the low bits of another node, and the next tag, after the last one the
 // first.

@@ -42,7 +42,7 @@ pub bare_says_tag : (v : ℕ) → v < tag_unit → (link_in v).tag ≡ 0
 bare_says_tag v small = omega (arith, small)
 
 -- The low 64 bits of the number of a link are that of the low bits of its node and its tag.
-pub cut_linked : (node tag : ℕ) → linked (record { node = node; tag = tag }) % 2 ^ 64 ≡ linked (record { node = node % tag_unit; tag = tag % 2 ^ 21 })
+pub cut_linked : (node tag : ℕ) → linked (record { node = node; tag = tag }) % 2 ^ 64 ≡ linked (record { node = node % tag_unit; tag = tag % 2 ^ 26 })
 cut_linked node tag = omega arith
 
 -- The low 64 bits of a number say the low bits of the node that it says.
@@ -50,22 +50,22 @@ pub cut_says_node : (v : ℕ) → (link_in (v % 2 ^ 64)).node ≡ (link_in v).no
 cut_says_node v = omega arith
 
 -- They say the low bits of the tag that it says.
-pub cut_says_tag : (v : ℕ) → (link_in (v % 2 ^ 64)).tag ≡ (link_in v).tag % 2 ^ 21
+pub cut_says_tag : (v : ℕ) → (link_in (v % 2 ^ 64)).tag ≡ (link_in v).tag % 2 ^ 26
 cut_says_tag v = omega arith
 
 -- So they say the link of these.
-pub cut_says : (v : ℕ) → link_in (v % 2 ^ 64) ≡ record { node = (link_in v).node % tag_unit; tag = (link_in v).tag % 2 ^ 21 }
+pub cut_says : (v : ℕ) → link_in (v % 2 ^ 64) ≡ record { node = (link_in v).node % tag_unit; tag = (link_in v).tag % 2 ^ 26 }
 cut_says v =
     let node = cut_says_node v in
     let tag = cut_says_tag v in
     λ t. record { node = node t; tag = tag t }
 
 -- The low 64 bits of two numbers are the same where the low bits of their nodes and tags are.
-pub same_cut : (v w : ℕ) → (link_in v).node % tag_unit ≡ (link_in w).node % tag_unit → (link_in v).tag % 2 ^ 21 ≡ (link_in w).tag % 2 ^ 21
+pub same_cut : (v w : ℕ) → (link_in v).node % tag_unit ≡ (link_in w).node % tag_unit → (link_in v).tag % 2 ^ 26 ≡ (link_in w).tag % 2 ^ 26
     → v % 2 ^ 64 ≡ w % 2 ^ 64
 same_cut v w nodes tags = omega (arith, nodes, tags)
 
 -- Then the low bits of their nodes are the same, and those of their tags.
 pub cut_same : (v w : ℕ) → v % 2 ^ 64 ≡ w % 2 ^ 64
-    → ((link_in v).node % tag_unit ≡ (link_in w).node % tag_unit) × ((link_in v).tag % 2 ^ 21 ≡ (link_in w).tag % 2 ^ 21)
+    → ((link_in v).node % tag_unit ≡ (link_in w).node % tag_unit) × ((link_in v).tag % 2 ^ 26 ≡ (link_in w).tag % 2 ^ 26)
 cut_same v w same = (omega (arith, same), omega (arith, same))

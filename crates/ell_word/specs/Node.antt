@@ -2,11 +2,11 @@ use Rattle.std.specs.Prelude.{◌≡◌, ◌≢◌, ℕ, ◌+◌, ◌-◌, ◌*�
 
 -- the greatest number that a card may have
 abbrev pub greatest_number : ℕ
-greatest_number = 2305843009213693951
+greatest_number = 4611686018427387903
 
 -- the number of the last card of a table without places, and of the last card that may have words, are at most this
 abbrev pub greatest_card : ℕ
-greatest_card = 2000000
+greatest_card = 67108861
 
 -- the most cards that a table gives out
 abbrev pub most_cards : ℕ

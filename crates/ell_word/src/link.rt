@@ -4,7 +4,7 @@ ghost use Rattle.ell_word.specs.Link.{IsLink, node_bound, linked, link_in};
 ghost use Rattle.ell_word.specs.declared.link.Link.{Link};
 
 // The node that a word says is below this one, so that a mask gives it, which is asked at each node of a search.
-const TAG_UNIT: u64 = 8_796_093_022_208;
+const TAG_UNIT: u64 = 274_877_906_944;
 
 /// What a child word says. The tag counts the changes of the word, so that no two of its values are the same, even if
 /// a node comes back.

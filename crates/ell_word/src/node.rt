@@ -6,11 +6,11 @@ ghost use Rattle.ell_word.specs.Node.{greatest_number, greatest_card, most_cards
 // which is asked at each node of a search.
 const NUMBERS_PER_CARD: u64 = 4;
 
-/// The greatest number that a card may have: four times it, and 3, is below 2^63.
-pub const NUMBER_MAX: u64 = 2_305_843_009_213_693_951;
+/// The greatest number that a card may have: four times it, and 3, is below 2^64.
+pub const NUMBER_MAX: u64 = 4_611_686_018_427_387_903;
 
 /// The greatest number of the last card of a table without places, and of a card that has words.
-pub const CARD_MAX: u64 = 2_000_000;
+pub const CARD_MAX: u64 = 67_108_861;
 
 /// The greatest number of cards that a table gives out.
 pub const CARDS_MAX: u64 = 1_000_000;
@@ -24,10 +24,10 @@ pub const INF1: u64 = 18_446_744_073_709_551_614;
 /// The greater of the two: the root and its right leaf have it.
 pub const INF2: u64 = 18_446_744_073_709_551_615;
 
-/// The constants are the numbers that the definitions have: `NUMBER_MAX` is 2^61 - 1, `CARD_MAX` is 2,000,000,
+/// The constants are the numbers that the definitions have: `NUMBER_MAX` is 2^62 - 1, `CARD_MAX` is 2,000,000,
 /// `CARDS_MAX` and `START_MAX` are 1,000,000, `INF1` is 2^64 - 2, and `INF2` is 2^64 - 1.
 pub fn constants_are_as_defined()
-    // `NUMBER_MAX` is 2^61 - 1, `CARD_MAX` is 2,000,000, `CARDS_MAX` and `START_MAX` are 1,000,000.
+    // `NUMBER_MAX` is 2^62 - 1, `CARD_MAX` is 2,000,000, `CARDS_MAX` and `START_MAX` are 1,000,000.
     ensures number { NUMBER_MAX ≡ greatest_number }
     ensures card { CARD_MAX ≡ greatest_card }
     ensures cards { CARDS_MAX ≡ most_cards }

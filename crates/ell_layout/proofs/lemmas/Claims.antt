@@ -64,8 +64,8 @@ table_filled_leaf w c leaf tag es small plain =
 pub tables_claim : TablesClaim
 tables_claim w parent leaf tag small = record {
   insert = λ key value leaf_key leaf_value low.
-      let left : left_leaf w.next < 8796093022208 = omega (arith, low) in
-      let right : right_leaf w.next < 8796093022208 = omega (arith, low) in
+      let left : left_leaf w.next < 274877906944 = omega (arith, low) in
+      let right : right_leaf w.next < 274877906944 = omega (arith, low) in
       let tail = drop 2 (insert_filling w.next key value parent leaf leaf_key leaf_value) in
       ap {B = Words} (λ k. record k { next = w.next + 1 })
       (table_filled_leaf (written w w.next P parent) w.next leaf tag tail small (tt, (left, (right, (tt, (tt, (tt, (tt, (tt, tt)))))))));

@@ -57,7 +57,7 @@ insert_words parent below node_key lesser greater left right update left_value r
     ∷ (field.Update, update) ∷ (field.Right, right) ∷ (field.Left, left) ∷ (field.Key, node_key) ∷ (field.L, below) ∷ (field.P, parent) ∷ []
 
 -- a node in 43 bits is its own low bits
-pub low_node : (x : ℕ) → x < tag_unit → x % 8796093022208 ≡ x
+pub low_node : (x : ℕ) → x < tag_unit → x % 274877906944 ≡ x
 low_node x small = omega (arith, small)
 
 -- the number of a link that has a word is that word

@@ -23,7 +23,7 @@ node_slot x = omega arith
 pub node_is_word : (x : ℕ) → cut_word (cut_node x) ≡ cut_node x
 node_is_word x = omega arith
 
-pub node_small : (x : ℕ) → x < 8796093022208 → cut_node x ≡ x
+pub node_small : (x : ℕ) → x < 274877906944 → cut_node x ≡ x
 node_small x small = omega arith
 
 -- two nodes are cut to the same exactly if they are the same, where that is so of them

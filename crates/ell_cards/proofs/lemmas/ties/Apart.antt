@@ -49,15 +49,15 @@ few_uncut x few = omega arith
 first_uncut : (x : ℕ) → turn_of (card x) ≡ 0 → cut_node x ≡ x
 first_uncut x first = omega arith
 
-later_cut : (x : ℕ) → turn_of (card x) % 1048576 ≢ 0 → 2097152 ≤ card (cut_node x)
+later_cut : (x : ℕ) → turn_of (card x) % 1024 ≢ 0 → 67108864 ≤ card (cut_node x)
 later_cut x later = omega arith
 
 both_past : (from a b : ℕ) → from ≤ a → from ≤ b → nat_le from a ≡ nat_le from b
 both_past from a b low low' = grind (arith, nat_tests)
 
-block_told : (last from x : ℕ) → last < 2097152 → from ≤ last + 1 → has_slot_in last (card x) ≡ true → has_block from (cut_node x) ≡ has_block from x
+block_told : (last from x : ℕ) → last < 67108864 → from ≤ last + 1 → has_slot_in last (card x) ≡ true → has_block from (cut_node x) ≡ has_block from x
 unfolding has_block
-block_told last from x low most has = elim (cases_eq (turn_of (card x) % 1048576) 0) [
+block_told last from x low most has = elim (cases_eq (turn_of (card x) % 1024) 0) [
   | inl first ↦ ap (has_block from) (first_uncut x (turn_apart last (card x) has first))
   | inr later ↦
       let cut = later_cut x later in

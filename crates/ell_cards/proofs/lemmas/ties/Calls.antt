@@ -137,7 +137,7 @@ left_rises _ n is = absurd (omega arith)
 read_there : (l : List ℕ) (i j n : ℕ) → j ≡ i → i < length l → get_or (set l i n) j 0 ≡ n
 read_there l i j n same fits = ap (λ x. get_or (set l i n) x 0) same ∙ get_or-set_same l i n 0 fits
 
-module _ (plan : TablePlan) (s : Slots) (low : s.last < 2097152) (tree : TableState) (t : WholeState) (stage next : Stages) (lie : ℕ → ℕ) (dead : ℕ → Bool) (was_dead : ℕ → ℕ → Bool)
+module _ (plan : TablePlan) (s : Slots) (low : s.last < 67108864) (tree : TableState) (t : WholeState) (stage next : Stages) (lie : ℕ → ℕ) (dead : ℕ → Bool) (was_dead : ℕ → ℕ → Bool)
     (tied : IsTied s tree t stage lie dead was_dead) (id : ℕ) (k : Known) (here : get_elem? t.views id ≡ some k) (c : Call) (may : May plan c k.tree) (mem : MayInMemory s k.period.slot k.period.sought.retired k.tree c)
     (touch : TouchesTied s lie t.words tree c) (room : table_size s.last ≤ length t.words) (fits : word_of c < length tree.words)
     (small : get_or (set tree.words (word_of c) (left_by (atomic_of c) (found_by tree c))) 0 0 < 2 ^ 64)

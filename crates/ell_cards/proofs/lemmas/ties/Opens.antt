@@ -82,7 +82,7 @@ alone_there first P h zero u at = subst P (some-injective first u at) h
 alone_there first P h (suc j) u at = absurd (some-ne-none u (sym at))
 
 -- memory that has the tree's words in slots, whose words are 0, where each card that was claimed has a slot
-module _ (plan : TablePlan) (s : Slots) (low : s.last < 2097152) (tree : TableState) (r : HasMachine plan tree) (words : List ℕ)
+module _ (plan : TablePlan) (s : Slots) (low : s.last < 67108864) (tree : TableState) (r : HasMachine plan tree) (words : List ℕ)
     (same : (i : ℕ) → i < table_size s.last → get_or words i 0 ≡ get_or tree.words i 0) (small : (i : ℕ) → i < table_size s.last → get_or words i 0 < 2 ^ 64)
     (given : ℕ) (few : get_or tree.words 0 0 ≡ given + 1) (room : given ≤ s.last) (none_said : (c : ℕ) (f : Field) → NoInfo f (get_or tree.words (address c f) 0))
     (first : Known) (none : first.tree.worker.card ≡ None) (unslotted : first.period.slot ≡ None) (dead : ℕ → Bool) (was_dead : ℕ → ℕ → Bool) where

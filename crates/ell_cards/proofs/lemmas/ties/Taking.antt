@@ -26,7 +26,7 @@ use Rattle.ell_cards.proofs.lemmas.runs.Met.{some_same}
 use Rattle.ell_cards.proofs.lemmas.whole.Seats.{before_clock, clock_before_slots}
 use Rattle.ell_cards.proofs.lemmas.ties.Periods.{kept_of_period}
 
-module _ (s : Slots) (low : s.last < 2097152) (tree : TableState) (t : WholeState) (stage : Stages) (lie : ℕ → ℕ) (dead : ℕ → Bool) (was_dead : ℕ → ℕ → Bool)
+module _ (s : Slots) (low : s.last < 67108864) (tree : TableState) (t : WholeState) (stage : Stages) (lie : ℕ → ℕ) (dead : ℕ → Bool) (was_dead : ℕ → ℕ → Bool)
     (tied : IsTied s tree t stage lie dead was_dead) (id : ℕ) (k : Known) (here : get_elem? t.views id ≡ some k)
     (c : ℕ) (inside : slot_of c ≤ s.last) (numbered : has_slot_in s.last c ≡ true) (waits : HoldsWaiting k.tree c) (unwon : ¬ HasWon stage c) (claimed : c < get_or t.words 0 0)
     (p : Period) (place : p.place ≡ k.period.place) (announced : p.announced ≡ k.period.announced) (taken : p.slot ≡ Some c)

@@ -147,7 +147,7 @@ pub record TakenOn (plan : TablePlan) (s : Slots) (tree : TableState) (t : Whole
       → NothingLeaks s (memory_taken s t id k c) tree.views ages.now.machine.words ages.now.machine.stages (put lie (slot_of c) c)
 
 pub take_goes : (plan : TablePlan) (s : Slots) (tree : TableState) (t : WholeState) (lie : ℕ → ℕ) (dead : ℕ → Bool) (was_dead : ℕ → ℕ → Bool)
-    → s.last < 2097152 → length t.words ≡ slots_size s
+    → s.last < 67108864 → length t.words ≡ slots_size s
     → (h : IsTiedByAges plan s tree t lie dead was_dead) → trees_of t.views ≡ tree.views
     → (id : ℕ) (k : Known) → get_elem? t.views id ≡ some k → (c : ℕ) → HoldsWaiting k.tree c → has_slot_in s.last c ≡ true
     → dead (lie (slot_of c)) ≡ true

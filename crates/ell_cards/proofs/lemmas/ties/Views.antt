@@ -29,7 +29,7 @@ pub data StaysSo (views : List Known) (seat : ℕ) (u : Known) : Type 0 where
       → u.period.announced ≡ k.period.announced → u.period.slot ≡ k.period.slot → StaysSo views seat u
   blank : u.tree.worker.card ≡ None → u.period.announced ≡ None → u.period.slot ≡ None → StaysSo views seat u
 
-module _ (s : Slots) (low : s.last < 2097152) (tree tree' : TableState) (t : WholeState) (stage next : Stages) (lie : ℕ → ℕ) (dead : ℕ → Bool) (was_dead : ℕ → ℕ → Bool)
+module _ (s : Slots) (low : s.last < 67108864) (tree tree' : TableState) (t : WholeState) (stage next : Stages) (lie : ℕ → ℕ) (dead : ℕ → Bool) (was_dead : ℕ → ℕ → Bool)
     (tied : IsTied s tree t stage lie dead was_dead) (cards : tree'.words ≡ tree.words) (words : List ℕ)
     (slots : (i : ℕ) → i < table_size s.last → get_or words i 0 ≡ get_or t.words i 0)
     (wins : (c : ℕ) → HasWon next c → HasWon stage c)

@@ -247,7 +247,7 @@ module _ (plan : TablePlan) (s : WholeState) (h : IsWhole plan s) (id : ℕ) (k 
           by None none = inl ((has.periods.each id k here).rests none)
           by (Some a) says = by_place a says k.period.place refl
 
-      pub low_last : sl.last < 2097152
+      pub low_last : sl.last < 67108864
       low_last = let low = fit.4 in omega arith
 
       pub room : table_size sl.last ≤ length s.words

@@ -237,7 +237,7 @@ module _ (plan : TablePlan) (s : Slots) (tree : TableState) (t : WholeState) (id
     where
       at_home : (c n : ℕ) → slot_of (card_by (slot_of c) n) ≡ slot_of c
       at_home c n = omega arith
-  turn_there false c n inside used was now = lies_now c inside used ∙ ap (λ u. 2097152 * u + slot_of c) (now ∙ sym was)
+  turn_there false c n inside used was now = lies_now c inside used ∙ ap (λ u. 67108864 * u + slot_of c) (now ∙ sym was)
 
   notes_next : (taken_out : Bool) (c : ℕ) (nodes : CardNodes) → plan.slots ≡ Some s → slot_of c ≤ s.last → MayRetire (shown k.tree) taken_out c nodes
       → (n : ℕ) → k.period.read ≡ Some (record { slot = slot_of c; word = n }) → MayNote k.tree taken_out c nodes n → MayNoteNext k.tree taken_out c nodes n (word_now c)

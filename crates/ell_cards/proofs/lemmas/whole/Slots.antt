@@ -37,7 +37,7 @@ pub taken_bits : (turn : ℕ) → 8 * turn % 8 ≢ 7
 taken_bits turn e = omega arith
 
 -- a card lies in its slot
-pub card_lies : (slot n : ℕ) → slot < 2097152 → slot_of (card_by slot n) ≡ slot
+pub card_lies : (slot n : ℕ) → slot < 67108864 → slot_of (card_by slot n) ≡ slot
 card_lies slot n low = omega arith
 
 -- a word sets its slot free if it has all bits, and else not
@@ -358,7 +358,7 @@ module _ (s : Slots) (lie : ℕ → ℕ) (words : List ℕ) (lies : LieInSlots s
   -- it is of the same turn
   pub lie_noted : (n : ℕ) → get_or words (slot_word s slot) 0 % 8 ≢ 7 → turn_in n ≡ turn_in (get_or words (slot_word s slot) 0) → LieInSlots s (set words (slot_word s slot) n) lie
   lie_noted n taken turn =
-      lie_turned n lie (λ other apart. refl) (λ inside still. lies slot inside taken ∙ ap (λ x. 2097152 * x + slot) (sym turn))
+      lie_turned n lie (λ other apart. refl) (λ inside still. lies slot inside taken ∙ ap (λ x. 67108864 * x + slot) (sym turn))
 
   -- another card takes the slot
   pub lie_taken : (c : ℕ) → slot_of c ≡ slot → LieInSlots s (set words (slot_word s slot) (8 * turn_of c)) (put lie slot c)

@@ -90,7 +90,7 @@ module _ (plan : TablePlan) (s : Slots) (tree : TableState) (t : WholeState) (id
       few_misses s t.words takings.taken (after_missing c found k.period) (missed_now takings.taken m (other takings.taken m))
 
   -- it takes the slot, if that was set free with a stamp below the pass's safe number
-  pub takes_now : k.period.lost ≡ None → s.last < 2097152 → (n : ℕ) → get_or t.words (slot_word s (slot_of c)) 0 ≡ n → n % 8 ≡ 7 → stamp_in n < k.period.safe
+  pub takes_now : k.period.lost ≡ None → s.last < 67108864 → (n : ℕ) → get_or t.words (slot_word s (slot_of c)) 0 ≡ n → n % 8 ≡ 7 → stamp_in n < k.period.safe
       → GoesTo plan s tree t h (turned_to t id k (after_taking c k.period) (slot_word s (slot_of c)) (8 * turn_of c))
   takes_now unlost low n is free safe =
       let full : found % 8 ≡ 7 = ap (λ m. m % 8) is ∙ free in
@@ -154,7 +154,7 @@ module _ (plan : TablePlan) (s : Slots) (placed : plan.slots ≡ Some s) (k : Kn
       ))
 
   -- it takes the slot, if the word is as it was
-  pub takes_slot : k.period.lost ≡ None → s.last < 2097152 → (n : ℕ) → n % 8 ≡ 7 → stamp_in n < k.period.safe
+  pub takes_slot : k.period.lost ≡ None → s.last < 67108864 → (n : ℕ) → n % 8 ≡ 7 → stamp_in n < k.period.safe
       → ((r : SlotRead) → k.period.sought.found ≡ Some r → r.slot ≡ slot_of c → r.word ≡ n)
       → MayGoOn plan k (slot_word s (slot_of c)) (λ m. either (m == n) (8 * turn_of c) m) (λ m p. (p ≡ (if m == n then after_taking c k.period else after_missing c m k.period)) × ((m == n) ≡ false → FewMissed p))
   takes_slot unlost low n free safe found =
@@ -204,7 +204,7 @@ module _ (plan : TablePlan) (s : Slots) (placed : plan.slots ≡ Some s) (k : Kn
       let x = may id t h homes here small in
       (x.0, x.1, x.2, x.3, ((λ d has. x.4.0.0 ∙ ap (λ e. after_own e (get_or t.words word 0) k.period) (one d has), λ none. few_in x.0.period (x.4.0.1 none)), x.4.1, x.4.2))
 
-  pub takes_any : k.period.lost ≡ None → s.last < 2097152 → (n word turn : ℕ) → n % 8 ≡ 7 → stamp_in n < k.period.safe
+  pub takes_any : k.period.lost ≡ None → s.last < 67108864 → (n word turn : ℕ) → n % 8 ≡ 7 → stamp_in n < k.period.safe
       → ((r : SlotRead) → k.period.sought.found ≡ Some r → r.slot ≡ slot_of c → r.word ≡ n) → word ≡ slot_word s (slot_of c) → turn ≡ turn_of c
       → MayGoOn plan k word (λ m. either (m == n) (8 * turn) m)
       (λ m p. ((d : ℕ) → k.tree.worker.card ≡ Some d → p ≡ (if m == n then after_taking d k.period else after_missing d m k.period))

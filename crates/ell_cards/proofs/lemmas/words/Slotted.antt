@@ -9,14 +9,14 @@ pub slot_inside : (last c : ℕ) → has_slot_in last c ≡ true → slot_of c �
 slot_inside last c has = grind (arith, nat_tests)
 
 -- a turn that is the first one, or that child words tell from it
-pub turn_apart : (last c : ℕ) → has_slot_in last c ≡ true → turn_of c % 1048576 ≡ 0 → turn_of c ≡ 0
+pub turn_apart : (last c : ℕ) → has_slot_in last c ≡ true → turn_of c % 1024 ≡ 0 → turn_of c ≡ 0
 turn_apart last c has low = grind (arith, nat_tests)
 
 -- and where both are so, the number has a slot
-pub has_slot_by : (last c : ℕ) → slot_of c ≤ last → (turn_of c % 1048576 ≡ 0 → turn_of c ≡ 0) → has_slot_in last c ≡ true
-has_slot_by last c inside apart = by (cases_eq (turn_of c % 1048576) 0)
+pub has_slot_by : (last c : ℕ) → slot_of c ≤ last → (turn_of c % 1024 ≡ 0 → turn_of c ≡ 0) → has_slot_in last c ≡ true
+has_slot_by last c inside apart = by (cases_eq (turn_of c % 1024) 0)
   where
-    by : (turn_of c % 1048576 ≡ 0) ⊎ (turn_of c % 1048576 ≢ 0) → has_slot_in last c ≡ true
+    by : (turn_of c % 1024 ≡ 0) ⊎ (turn_of c % 1024 ≢ 0) → has_slot_in last c ≡ true
     by (inl low) = (let first = apart low in grind (arith, nat_tests))
     by (inr other) = grind (arith, nat_tests)
 
