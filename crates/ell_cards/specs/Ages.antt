@@ -55,7 +55,7 @@ pub record ForgotWhen (plan : TablePlan) (tree : TableState) (seat : ℕ) (dead 
 -- node.
 abbrev pub NotesThere : Slots → List ℕ → (ℕ → ℕ) → ℕ → ℕ → Type 0
 NotesThere s words lie c i =
-    slot_of c ≤ s.last → lie (slot_of c) ≡ c → slice_index words (slot_word s (slot_of c)) % 8 ≢ 7
+    slot_of c ≤ s.last → lie (slot_of c) ≡ c → slice_index words (slot_word s (slot_of c)) % 8 ≢ 0
     → is_noted (slice_index words (slot_word s (slot_of c))) i ≡ true
 
 abbrev pub IsNotedThere : Slots → List ℕ → (ℕ → ℕ) → ℕ → Type 0
@@ -75,7 +75,7 @@ pub record AgesAreSound (plan : TablePlan) (s : Slots) (tree : TableState) (t : 
   pub noted : (slot k : ℕ) → slot ≤ s.last → is_noted (slice_index t.words (slot_word s slot)) k ≡ true
       → IsOut plan tree now.machine now.uses (4 * lie slot + k)
   pub read : (seat : ℕ) (k : Known) (r : SlotRead) → get_elem? t.views seat ≡ some k → k.period.read ≡ Some r
-      → r.word % 8 ≢ 7 → (i : ℕ) → is_noted r.word i ≡ true
+      → r.word % 8 ≢ 0 → (i : ℕ) → is_noted r.word i ≡ true
       → IsOut plan tree now.machine now.uses (4 * card_by r.slot r.word + i)
       × IsNotedThere s t.words lie (4 * card_by r.slot r.word + i)
   pub lost : (seat c : ℕ) (k : Known) → get_elem? t.views seat ≡ some k → k.period.lost ≡ Some c
@@ -119,7 +119,7 @@ KnowsDeadNode v x = (c : ℕ) × KnowsDead v c x
 pub record KnowsDeadCard (k : Known) (c : ℕ) : Type 0 where
   pub read : SlotRead
   pub has : k.period.read ≡ Some read
-  pub used : read.word % 8 ≢ 7
+  pub used : read.word % 8 ≢ 0
   pub lies : card_by read.slot read.word ≡ c
   pub each : (i : ℕ) → i < 3 → (is_noted read.word i ≡ true) ⊎ KnowsDeadNode k.tree (4 * c + i)
 

@@ -1,4 +1,4 @@
-use Rattle.std.specs.Prelude.{◌≡◌, ◌↔◌, ℕ, zero, suc, ◌⊎◌, ◌==◌, ◌||◌, ◌&&◌, not, Bool, true, false}
+use Rattle.std.specs.Prelude.{◌≡◌, ◌↔◌, ℕ, zero, suc, ◌⊎◌, ◌==◌, ◌||◌, ◌&&◌, ◌-◌, ◌/◌, ◌%◌, if◌then◌else◌, not, Bool, true, false}
 use Rattle.ell_cards.specs.declared.card_nodes.CardNodes.{CardNodes}
 use Rattle.ell_cards.specs.SlotWords.{is_noted, turn_in}
 
@@ -31,6 +31,16 @@ abbrev pub all_noted : CardNodes → ℕ → Bool
 all_noted nodes word =
     (not nodes.internal || is_noted word 0) && (not nodes.left || is_noted word 1)
     && (not nodes.right || is_noted word 2)
+
+-- the word of a slot that notes its card's internal node too, or its left leaf, or its right one, if that is asked for
+abbrev pub noting_first : Bool → ℕ → ℕ
+noting_first too n = if too && n % 2 == 1 then n - 1 else n
+
+abbrev pub noting_second : Bool → ℕ → ℕ
+noting_second too n = if too && n / 2 % 2 == 1 then n - 2 else n
+
+abbrev pub noting_third : Bool → ℕ → ℕ
+noting_third too n = if too && n / 4 % 2 == 1 then n - 4 else n
 
 -- another word of the slot notes them too, and is of the same turn
 pub record NotesToo (nodes : CardNodes) (word noted : ℕ) : Type 0 where

@@ -43,10 +43,10 @@ pub record IsInFlaggedHand (views : List View) (c : ℕ) : Type 0 where
 -- pass has that card in hand still, and so is to note it.
 pub record NothingLeaks (s : Slots) (t : WholeState) (trees : List View) (w : Words) (stage : Stages) (lie : ℕ → ℕ)
     : Type 0 where
-  pub used : (slot : ℕ) → slot ≤ s.last → slice_index t.words (slot_word s slot) % 8 ≢ 7
+  pub used : (slot : ℕ) → slot ≤ s.last → slice_index t.words (slot_word s slot) % 8 ≢ 0
       → HasWon stage (lie slot) ⊎ IsHeld t.views (lie slot)
-  pub bits : (slot i : ℕ) → slot ≤ s.last → slice_index t.words (slot_word s slot) % 8 ≢ 7
+  pub bits : (slot i : ℕ) → slot ≤ s.last → slice_index t.words (slot_word s slot) % 8 ≢ 0
       → is_noted (slice_index t.words (slot_word s slot)) i ≡ true → HasWon stage (lie slot)
-  pub owed : (slot i c : ℕ) → slot ≤ s.last → slice_index t.words (slot_word s slot) % 8 ≢ 7 → i < 3
+  pub owed : (slot i c : ℕ) → slot ≤ s.last → slice_index t.words (slot_word s slot) % 8 ≢ 0 → i < 3
       → is_noted (slice_index t.words (slot_word s slot)) i ≡ false → Kills w stage c (4 * lie slot + i)
       → IsInFlaggedHand trees c

@@ -41,7 +41,7 @@ LiesThereStill v false c word = turn_in word ≡ turn_of c
 
 -- so a pass may note these nodes of the card in that word
 pub record MayNote (v : View) (taken_out : Bool) (c : ℕ) (nodes : CardNodes) (word : ℕ) : Type 0 where
-  pub used : word % 8 ≢ 7
+  pub used : word % 8 ≢ 0
   pub there : LiesThereStill v taken_out c word
   pub dead : KnowsDeadNodes v (card_by (slot_of c) word) nodes
 

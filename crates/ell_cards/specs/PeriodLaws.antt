@@ -46,7 +46,7 @@ SafeNumbersAreSafe = (plan : TablePlan) (s : Slots) (t : WholeState) → plan.sl
 -- the word of a slot sets it free with a stamp below the safe number of some pass
 pub record IsSafelyFree (s : Slots) (t : WholeState) (slot : ℕ) : Type 0 where
   pub there : slot ≤ s.last
-  pub free : slice_index t.words (slot_word s slot) % 8 ≡ 7
+  pub free : slice_index t.words (slot_word s slot) % 8 ≡ 0
   pub pass : ℕ
   pub knows : Known
   pub sits : get_elem? t.views pass ≡ some knows
@@ -64,7 +64,7 @@ FreeSlotsAreUntouched = (plan : TablePlan) (s : Slots) (t : WholeState) → plan
 -- If by the word of its slot, which is in use, the card of a node lies there, the word notes the node.
 abbrev pub IsNotedInSlot : Slots → WholeState → ℕ → Type 0
 IsNotedInSlot s t x =
-    slot_of (card x) ≤ s.last → slice_index t.words (slot_word s (slot_of (card x))) % 8 ≢ 7
+    slot_of (card x) ≤ s.last → slice_index t.words (slot_word s (slot_of (card x))) % 8 ≢ 0
     → card_by (slot_of (card x)) (slice_index t.words (slot_word s (slot_of (card x)))) ≡ card x
     → is_noted (slice_index t.words (slot_word s (slot_of (card x)))) (x % 4) ≡ true
 
@@ -86,7 +86,7 @@ RetiredNodesAreNoted = (plan : TablePlan) (s : Slots) (t : WholeState) → plan.
 pub record LeaksNoSlot (plan : TablePlan) (s : Slots) (t : WholeState) (h : IsWhole plan t) : Type 0 where
   pub machine : HasMachine plan h.tree
   pub lie : ℕ → ℕ
-  pub lies : (slot : ℕ) → slot ≤ s.last → slice_index t.words (slot_word s slot) % 8 ≢ 7
+  pub lies : (slot : ℕ) → slot ≤ s.last → slice_index t.words (slot_word s slot) % 8 ≢ 0
       → lie slot ≡ card_by slot (slice_index t.words (slot_word s slot))
   pub leaks : NothingLeaks s t h.tree.views machine.words machine.stages lie
 
@@ -97,7 +97,7 @@ NoSlotLeaks = (plan : TablePlan) (s : Slots) (t : WholeState) → plan.slots ≡
 
 -- a slot is in use
 abbrev pub IsInUse : Slots → WholeState → ℕ → Type 0
-IsInUse s t slot = (slot ≤ s.last) × (slice_index t.words (slot_word s slot) % 8 ≢ 7)
+IsInUse s t slot = (slot ≤ s.last) × (slice_index t.words (slot_word s slot) % 8 ≢ 0)
 
 -- a pass is busy: it has a card in hand, or has lost a flag and not set the slot of that card free yet
 abbrev pub IsBusy : Known → Type 0
@@ -116,7 +116,7 @@ SlotsInUseAreFew = (plan : TablePlan) (s : Slots) (t : WholeState) → plan.slot
 -- a slot is free, with a stamp no less than this number
 abbrev pub IsYoung : Slots → WholeState → ℕ → ℕ → Type 0
 IsYoung s t safe slot =
-    (slot ≤ s.last) × (slice_index t.words (slot_word s slot) % 8 ≡ 7)
+    (slot ≤ s.last) × (slice_index t.words (slot_word s slot) % 8 ≡ 0)
     × (safe ≤ stamp_in (slice_index t.words (slot_word s slot)))
 
 -- how many slots are for a delete, or for another change

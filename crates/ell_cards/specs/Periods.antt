@@ -18,7 +18,7 @@ use Rattle.ell_cards.specs.declared.view.Told.TheVariants.{Met, Key}
 use Rattle.ell_cards.specs.declared.view.View.{View}
 use Rattle.ell_cards.specs.Models.{TablePlan, IsFree, IsTold}
 use Rattle.ell_cards.specs.Seeking.{could_have, could_take, found_again, is_done, missed_none, missed_one, no_seek, no_survey, retires, retires_if, sought_on}
-use Rattle.ell_cards.specs.SlotWords.{slot_of, card_by, free_word, freed_by, has_slot_in}
+use Rattle.ell_cards.specs.SlotWords.{slot_of, card_by, free_word, freed_by, has_slot_in, taken_word}
 
 -- the state of a table, with all that its passes know
 abbrev pub WholeState : Type 0
@@ -50,7 +50,7 @@ slots_size s = clock_word s + 9 + 8 * s.places + 64 * (s.last / 64 + 1)
 -- These cards lie in the slots of a table, one each, by the words of those that are in use.
 abbrev pub LieInSlots : Slots → List ℕ → (ℕ → ℕ) → Type 0
 LieInSlots s words lie =
-    (slot : ℕ) → slot ≤ s.last → slice_index words (slot_word s slot) % 8 ≢ 7
+    (slot : ℕ) → slot ≤ s.last → slice_index words (slot_word s slot) % 8 ≢ 0
     → lie slot ≡ card_by slot (slice_index words (slot_word s slot))
 
 -- the stamp of a card that was set free, if it lies in its slot
@@ -67,7 +67,7 @@ pending_by (Some stamp) = Some (stamp.card, stamp.reading)
 -- the word of a slot as a table opens with so many start keys: each slot is free, with the stamp 0, unless the card of
 -- the root or of a start key lies there
 abbrev pub opening_word : ℕ → ℕ → ℕ
-opening_word given slot = if nat_lt given slot then free_word 0 else 0
+opening_word given slot = if nat_lt given slot then free_word 0 else taken_word 0
 
 -- the words of cards, and behind them those of periods, where nobody has a place but the first pass, and those of slots
 -- that are all free

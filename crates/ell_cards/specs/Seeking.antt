@@ -17,7 +17,7 @@ slots_before s c = (s.last + 1) * (turn_of c - turn_of c / 1024) + slot_of c
 -- whether a pass with a safe number could take a slot, by the slot's word: that was set free with a stamp below the
 -- safe number
 abbrev pub could_take : ℕ → ℕ → Bool
-could_take n safe = n % 8 == 7 && nat_lt (stamp_in n) safe
+could_take n safe = n % 8 == 0 && nat_lt (stamp_in n) safe
 
 -- the last two slots are for deletes alone: whether a change may have a slot, or that of a card
 abbrev pub is_slot_for : Slots → Bool → ℕ → Bool

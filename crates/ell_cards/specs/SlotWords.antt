@@ -16,9 +16,10 @@ has_slots turn = turn == 0 || not (turn % 1024 == 0)
 abbrev pub has_slot_in : ℕ → ℕ → Bool
 has_slot_in last c = nat_le (slot_of c) last && has_slots (turn_of c)
 
--- The word of a slot that is in use says which of the three nodes of its card are known to be dead, a bit each, and at
--- which turn that card is. Once all three are dead, and the slot is set free, the word has all three bits, and the
--- reading of the clock with which that was done: then it no longer tells which card lay there.
+-- The word of a slot that is in use says which of the three nodes of its card are not known to be dead, a bit each, and
+-- at which turn that card is. Once all three are dead, and the slot is set free, the word has none of the bits, and the
+-- reading of the clock with which that was done: then it no longer tells which card lay there. So the word 0 is that of a
+-- slot that is free from the start.
 abbrev pub turn_in : ℕ → ℕ
 turn_in n = n / 8
 
@@ -26,13 +27,17 @@ abbrev pub stamp_in : ℕ → ℕ
 stamp_in n = n / 8
 
 abbrev pub free_word : ℕ → ℕ
-free_word reading = 8 * reading + 7
+free_word reading = 8 * reading
+
+-- the word of a slot that was just taken: none of the three nodes is dead
+abbrev pub taken_word : ℕ → ℕ
+taken_word turn = 8 * turn + 7
 
 -- whether a node of the card, by its place among the three, is noted as dead
 abbrev pub is_noted : ℕ → ℕ → Bool
-is_noted n zero = n % 2 == 1
-is_noted n (suc zero) = n / 2 % 2 == 1
-is_noted n (suc (suc zero)) = n / 4 % 2 == 1
+is_noted n zero = n % 2 == 0
+is_noted n (suc zero) = n / 2 % 2 == 0
+is_noted n (suc (suc zero)) = n / 4 % 2 == 0
 is_noted n (suc (suc (suc k))) = false
 
 -- the card that lies in a slot in use, by the slot's word
@@ -41,4 +46,4 @@ card_by slot n = 67108864 * turn_in n + slot
 
 -- the stamp with which a word sets its slot free, if it does
 abbrev pub freed_by : ℕ → Option ℕ
-freed_by n = if n % 8 == 7 then Some (stamp_in n) else None
+freed_by n = if n % 8 == 0 then Some (stamp_in n) else None

@@ -37,11 +37,11 @@ pub record MissesWereTaken (s : Slots) (words : List ℕ) (taken : ℕ → ℕ) 
 pub record TakingsAreSound (s : Slots) (t : WholeState) (lie : ℕ → ℕ) : Type 0 where
   pub taken : ℕ → ℕ
   pub past : (slot : ℕ) → slot ≤ s.last → taken slot ≤ slice_index t.words (clock_word s)
-  pub stamped : (slot : ℕ) → slot ≤ s.last → slice_index t.words (slot_word s slot) % 8 ≡ 7
+  pub stamped : (slot : ℕ) → slot ≤ s.last → slice_index t.words (slot_word s slot) % 8 ≡ 0
       → taken slot ≤ stamp_in (slice_index t.words (slot_word s slot))
   pub pending : (i c reading : ℕ) (k : Known) → get_elem? t.views i ≡ some k
       → k.period.stamp ≡ Some (record { card = c; reading = reading }) → slot_of c ≤ s.last
-      → slice_index t.words (slot_word s (slot_of c)) % 8 ≢ 7 → lie (slot_of c) ≡ c
+      → slice_index t.words (slot_word s (slot_of c)) % 8 ≢ 0 → lie (slot_of c) ≡ c
       → taken (slot_of c) ≤ reading
   pub misses : (i : ℕ) (k : Known) → get_elem? t.views i ≡ some k → k.tree.worker.operation ≢ None
       → MissesWereTaken s t.words taken k.period

@@ -24,7 +24,7 @@ use Rattle.ell_cards.specs.Models.{TablePlan, IsFree, IsTold, MayPart}
 use Rattle.ell_cards.specs.PeriodLaws.{IsInPeriod}
 use Rattle.ell_cards.specs.Periods.{WholeState, IsAtRest, slot_word, slots_size, AreOpeningWords, after_give, after_taking, given_period}
 use Rattle.ell_cards.specs.Shown.{IsWord, cut_by, IsNear}
-use Rattle.ell_cards.specs.SlotWords.{has_slot_in, slot_of, turn_of}
+use Rattle.ell_cards.specs.SlotWords.{has_slot_in, slot_of, turn_of, taken_word}
 use Rattle.ell_cards.specs.Starts.{MayStart, IsReached}
 use Rattle.ell_cards.specs.States.{TableState}
 use Rattle.ell_cards.specs.Holding.{HoldsWaiting}
@@ -157,7 +157,7 @@ PeriodsKeepTies = (s : Slots) (tree : TableState) (t : WholeState) (stage : Stag
 -- the memory where a pass has taken the slot of its card in hand
 abbrev pub memory_taken : Slots → WholeState → ℕ → Known → ℕ → WholeState
 memory_taken s t id k c = record {
-  words = slice_set t.words (slot_word s (slot_of c)) (8 * turn_of c);
+  words = slice_set t.words (slot_word s (slot_of c)) (taken_word (turn_of c));
   homes = t.homes;
   views = slice_set t.views id (record { tree = k.tree; period = after_taking c k.period });
 }

@@ -1,8 +1,7 @@
 //! Some of the three nodes of a card.
-ghost use Rattle.std.specs.Prelude.{◌≡◌, ◌<◌, ◌%◌, ℕ};
+ghost use Rattle.std.specs.Prelude.{◌≡◌, ◌%◌};
 ghost use Rattle.ell_cards.specs.CardNodes.{all_nodes, all_noted, has_node, node_alone, nodes_of_both};
-ghost use Rattle.ell_cards.specs.CardNodes.{NotesToo};
-ghost use Rattle.ell_cards.specs.SlotWords.{is_noted};
+ghost use Rattle.ell_cards.specs.CardNodes.{NotesToo, noting_first, noting_second, noting_third};
 
 /// Some of the three nodes of a card.
 #[derive(Clone, Copy)]
@@ -57,9 +56,9 @@ impl CardNodes {
     pub(crate) fn are_noted(self, word: u64) -> bool
         ensures { result ≡ all_noted self word }
     {
-        (!self.internal || word % 2 == 1)
-            && (!self.left || word / 2 % 2 == 1)
-            && (!self.right || word / 4 % 2 == 1)
+        (!self.internal || word % 2 == 0)
+            && (!self.left || word / 2 % 2 == 0)
+            && (!self.right || word / 4 % 2 == 0)
     }
 
     /// Returns another word for the slot, which notes them too.
@@ -67,15 +66,32 @@ impl CardNodes {
     pub(crate) fn noted_in(self, word: u64) -> u64
         ensures { NotesToo self word result }
     {
-        word | self.bits()
+        let first = noting_first(self.internal, word);
+        let second = noting_second(self.left, first);
+        noting_third(self.right, second)
     }
+}
 
-    // Returns the bits that note them in the word of the card's slot.
-    #[inline(always)]
-    fn bits(self) -> u64
-        ensures low { result < 8 }
-        ensures each { (i : ℕ) → is_noted result i ≡ has_node self i }
-    {
-        u64::from(self.internal) + 2 * u64::from(self.left) + 4 * u64::from(self.right)
-    }
+// Returns a word that notes the internal node too, or the word itself.
+#[inline(always)]
+fn noting_first(too: bool, word: u64) -> u64
+    ensures { result ≡ noting_first too word }
+{
+    if too && word % 2 == 1 { word - 1 } else { word }
+}
+
+// Returns a word that notes the left leaf too, or the word itself.
+#[inline(always)]
+fn noting_second(too: bool, word: u64) -> u64
+    ensures { result ≡ noting_second too word }
+{
+    if too && word / 2 % 2 == 1 { word - 2 } else { word }
+}
+
+// Returns a word that notes the right leaf too, or the word itself.
+#[inline(always)]
+fn noting_third(too: bool, word: u64) -> u64
+    ensures { result ≡ noting_third too word }
+{
+    if too && word / 4 % 2 == 1 { word - 4 } else { word }
 }

@@ -17,6 +17,7 @@ ghost use Rattle.ell_cards.specs.Inside.{IsNewTable};
 ghost use Rattle.ell_cards.specs.Stepping.{MaySplit, MayHave, PartsShare};
 ghost use Rattle.ell_cards.specs.Periods.{AreWholeWords, most_claims, last_for, slot_word, slots_of, slots_size, whole_size, words_of_free_slots};
 ghost use Rattle.ell_cards.specs.Shown.{IsWord};
+ghost use Rattle.ell_cards.specs.SlotWords.{taken_word};
 ghost use Rattle.ell_cards.specs.Starts.{MayStart, OpensBy, most_places};
 ghost use Rattle.ell_cards.specs.Whole.{IsWhole, first_known};
 ghost use Rattle.atomic_table.specs.Table.{opening};
@@ -28,7 +29,7 @@ use crate::pass::{Pass, Standing};
 use crate::period::last_slot;
 use crate::rule::{Joined, PartedBy, SplitBy};
 use crate::share::{Share, WHOLE_SHARE};
-use crate::slots::FREE_FROM_START;
+use crate::slots::{FREE_FROM_START, USED_FROM_START};
 use crate::table::CardTable;
 use crate::view::{Plan, Slots, TableKind};
 use atomic_table::Table;
@@ -525,12 +526,12 @@ fn use_slots(words: &mut [u64], slots: Slots, upto: u64)
     requires few { slots.places ≤ greatest_card }
     requires size { length words.old ≡ slots_size slots }
     ensures size { length words.new ≡ slots_size slots }
-    ensures used { (slot : ℕ) → slot ≤ upto → slice_index words.new (slot_word slots slot) ≡ 0 }
+    ensures used { (slot : ℕ) → slot ≤ upto → slice_index words.new (slot_word slots slot) ≡ taken_word 0 }
     ensures same { (i : ℕ) → ((slot : ℕ) → slot ≤ upto → i ≢ slot_word slots slot)
         → slice_index words.new i ≡ slice_index words.old i }
 {
     for slot in 0..upto + 1 {
-        words[slots.slot_word(slot)] = 0;
+        words[slots.slot_word(slot)] = USED_FROM_START;
     }
 }
 

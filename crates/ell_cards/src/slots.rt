@@ -36,7 +36,10 @@ const TURNS_TOLD_APART: u64 = 1_024;
 const LEFT_TO_DELETES: u64 = 2;
 
 /// The word of a slot that is free from the start, with the stamp 0.
-pub(crate) const FREE_FROM_START: u64 = 7;
+pub(crate) const FREE_FROM_START: u64 = 0;
+
+/// The word of a slot that is in use from the start.
+pub(crate) const USED_FROM_START: u64 = 7;
 
 /// Returns the slot in which a card lies.
 #[inline(always)]
@@ -91,7 +94,7 @@ fn is_done(taken_out: bool, card: u64, nodes: CardNodes, word: u64) -> bool
 fn is_free_before(word: u64, safe: u64) -> bool
     ensures { result ≡ could_take word safe }
 {
-    word % 8 == 7 && stamp_in(word) < safe
+    word % 8 == 0 && stamp_in(word) < safe
 }
 
 // Returns where a slot has its word among those of the slots. Passes that claim cards one after the other take slots
@@ -323,7 +326,7 @@ impl<M: Memory> CardTable<M> {
         requires read { seat.old.me.0.period.read ≡ Some (record { slot = slot_of card; word = word }) }
         requires may { MayNote seat.old.me.0.tree taken_out card nodes word }
         requires notes { NotesToo nodes word noted }
-        requires left { noted % 8 ≢ 7 }
+        requires left { noted % 8 ≢ 0 }
         ensures period { seat.new.me.0.period ≡
             after_noting (result == word) taken_out card nodes result seat.old.me.0.period }
         ensures next { MayNoteNext seat.old.me.0.tree taken_out card nodes word result }
@@ -359,7 +362,7 @@ impl<M: Memory> CardTable<M> {
         ensures seat { (seat.new.table_id ≡ seat.old.table_id) × (seat.new.me.1 ≡ []) }
     {
         let reading = self.stamp(seat, slots, slot_of(card), word);
-        self.exchange_noted::<Brand>(seat, slots, card, nodes, taken_out, word, 8 * reading + 7)
+        self.exchange_noted::<Brand>(seat, slots, card, nodes, taken_out, word, 8 * reading)
     }
 
     // Notes such nodes by an exchange of the word that was read, which leaves some of them, for one that notes them
@@ -396,7 +399,7 @@ impl<M: Memory> CardTable<M> {
         ensures seat { (seat.new.table_id ≡ seat.old.table_id) × (seat.new.me.1 ≡ []) }
     {
         let noted = nodes.noted_in(word);
-        if noted % 8 == 7 {
+        if noted % 8 == 0 {
             self.note_last(seat, slots, card, nodes, taken_out, word)
         } else {
             self.note_more(seat, slots, card, nodes, taken_out, word, noted)
@@ -435,7 +438,7 @@ impl<M: Memory> CardTable<M> {
             }
             let found = self.note_word(seat, slots, card, nodes, taken_out, word);
             if found == word {
-                return nodes.noted_in(word) % 8 == 7;
+                return nodes.noted_in(word) % 8 == 0;
             }
             word = found;
         }
@@ -455,10 +458,10 @@ impl<M: Memory> CardTable<M> {
         ensures tree { seat.new.me.0.tree ≡ seat.old.me.0.tree }
         ensures seat { (seat.new.table_id ≡ seat.old.table_id) × (seat.new.me.1 ≡ []) }
     {
-        let word = 8 * turn_of(card);
+        let word = 8 * turn_of(card) + 7;
         let reading = self.stamp(seat, slots, slot_of(card), word);
         let address = self.slot_address(slots, slot_of(card));
-        self.period_exchange::<Brand>(seat, address, word, 8 * reading + 7);
+        self.period_exchange::<Brand>(seat, address, word, 8 * reading);
     }
 
     /// Sets the slot of a card free if the pass has laid the card aside, as it lost the card's flag. It does nothing if
@@ -576,7 +579,7 @@ impl<M: Memory> CardTable<M> {
         requires slot { has_slot_in slots.last card ≡ true }
         requires low { slots.last < 67108864 }
         requires hand { HoldsWaiting seat.old.me.0.tree card }
-        requires free { word % 8 ≡ 7 }
+        requires free { word % 8 ≡ 0 }
         requires safe { stamp_in word < seat.old.me.0.period.safe }
         requires unlost { seat.old.me.0.period.lost ≡ None }
         requires found { (r : SlotRead) → seat.old.me.0.period.sought.found ≡ Some r → r.slot ≡ slot_of card
@@ -589,7 +592,7 @@ impl<M: Memory> CardTable<M> {
         ensures seat { (seat.new.table_id ≡ seat.old.table_id) × (seat.new.me.1 ≡ []) }
     {
         let address = self.slot_address(slots, slot_of(card));
-        self.period_exchange::<Brand>(seat, address, word, 8 * turn_of(card)) == word
+        self.period_exchange::<Brand>(seat, address, word, 8 * turn_of(card) + 7) == word
     }
 
     // Counts the number of a card whose slot the pass is to take, and lets the clock go on and looks at all places

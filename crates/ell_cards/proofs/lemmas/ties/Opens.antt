@@ -21,7 +21,7 @@ use Rattle.ell_cards.specs.Models.{TablePlan}
 use Rattle.ell_cards.specs.Periods.{WholeState, IsAtRest, AreOpeningWords, period_by, slot_word}
 use Rattle.ell_cards.specs.Apart.{cut_node}
 use Rattle.ell_cards.specs.Shown.{IsWord, cut_field, cut_word}
-use Rattle.ell_cards.specs.SlotWords.{slot_of, card_by, free_word, has_slot_in, is_noted}
+use Rattle.ell_cards.specs.SlotWords.{slot_of, card_by, free_word, has_slot_in, is_noted, taken_word}
 use Rattle.ell_cards.specs.Starts.{MayStart, SlotsFit, IsReached}
 use Rattle.ell_cards.specs.RunLaws.{StartIsKept}
 use Rattle.ell_cards.specs.Leaks.{Kills, NothingLeaks}
@@ -173,7 +173,7 @@ module _ (plan : TablePlan) (s : Slots) (cards all : List ℕ) (may : MayStart p
   abbrev pub periods_opened : HasPeriods plan s tree_opened opened
   periods_opened = record {
     lie = lies_opened (length plan.start);
-    lies = λ slot inside. subst (λ n. n % 8 ≢ 7 → lies_opened (length plan.start) slot ≡ card_by slot n) (sym (h.slots slot inside))
+    lies = λ slot inside. subst (λ n. n % 8 ≢ 0 → lies_opened (length plan.start) slot ≡ card_by slot n) (sym (h.slots slot inside))
         (lies_or_free (length plan.start) slot);
     dead = out_opened;
     began = λ q. 0;
@@ -201,21 +201,21 @@ module _ (plan : TablePlan) (s : Slots) (cards all : List ℕ) (may : MayStart p
       none_killed c x (inl takes) = none_out starts.kept.words starts.kept.stages starts.unwon c x takes
       none_killed c x (inr (on, never)) = let long = ended_long (starts.kept.stages (card x)) never.0 in let none = ap length (starts.unwon (card x)) in omega arith
 
-      opens_with : (slot : ℕ) → slot ≤ s.last → get_or all (slot_word s slot) 0 % 8 ≢ 7 → get_or all (slot_word s slot) 0 ≡ 0
+      opens_with : (slot : ℕ) → slot ≤ s.last → get_or all (slot_word s slot) 0 % 8 ≢ 0 → get_or all (slot_word s slot) 0 ≡ taken_word 0
       opens_with slot low used = by (nat_lt (length plan.start) slot) (h.slots slot low)
         where
-          by : (b : Bool) → get_or all (slot_word s slot) 0 ≡ (if b then free_word 0 else 0) → get_or all (slot_word s slot) 0 ≡ 0
+          by : (b : Bool) → get_or all (slot_word s slot) 0 ≡ (if b then free_word 0 else taken_word 0) → get_or all (slot_word s slot) 0 ≡ taken_word 0
           by true is = absurd (used (ap (λ n. n % 8) is))
           by false is = is
 
-      is_given : (slot : ℕ) → slot ≤ s.last → get_or all (slot_word s slot) 0 % 8 ≢ 7 → slot ≤ length plan.start
+      is_given : (slot : ℕ) → slot ≤ s.last → get_or all (slot_word s slot) 0 % 8 ≢ 0 → slot ≤ length plan.start
       is_given slot low used = by (nat_lt (length plan.start) slot) refl (h.slots slot low)
         where
-          by : (b : Bool) → nat_lt (length plan.start) slot ≡ b → get_or all (slot_word s slot) 0 ≡ (if b then free_word 0 else 0) → slot ≤ length plan.start
+          by : (b : Bool) → nat_lt (length plan.start) slot ≡ b → get_or all (slot_word s slot) 0 ≡ (if b then free_word 0 else taken_word 0) → slot ≤ length plan.start
           by true e is = absurd (used (ap (λ n. n % 8) is))
           by false e is = ltb-false (length plan.start) slot e
 
-      given_won : (slot : ℕ) → slot ≤ s.last → get_or all (slot_word s slot) 0 % 8 ≢ 7 → HasWon starts.kept.stages (lies_opened (length plan.start) slot)
+      given_won : (slot : ℕ) → slot ≤ s.last → get_or all (slot_word s slot) 0 % 8 ≢ 0 → HasWon starts.kept.stages (lies_opened (length plan.start) slot)
       given_won slot low used =
           let few = is_given slot low used in
           let first = starts.kept.next in

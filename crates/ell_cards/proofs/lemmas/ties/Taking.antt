@@ -17,7 +17,7 @@ use Rattle.ell_cards.specs.declared.view.Period.{Period}
 use Rattle.ell_cards.specs.declared.view.Slots.{Slots}
 use Rattle.ell_cards.specs.Periods.{WholeState, slot_word}
 use Rattle.ell_cards.specs.Shown.{cut_field}
-use Rattle.ell_cards.specs.SlotWords.{has_slot_in, slot_of, turn_of}
+use Rattle.ell_cards.specs.SlotWords.{has_slot_in, slot_of, turn_of, taken_word}
 use Rattle.ell_cards.specs.States.{TableState}
 use Rattle.ell_cards.specs.Holding.{HoldsWaiting}
 use Rattle.ell_cards.specs.Tied.{LiesThere, HasWon, HasStored, IsKept, IsTied}
@@ -45,14 +45,14 @@ module _ (s : Slots) (low : s.last < 67108864) (tree : TableState) (t : WholeSta
   lie' = put lie slot c
 
   abbrev words : List ℕ
-  words = set t.words (slot_word s slot) (8 * turn_of c)
+  words = set t.words (slot_word s slot) (taken_word (turn_of c))
 
   abbrev now : Known
   now = record { tree = k.tree; period = p }
 
   -- the words of slots beside the slot's own are as they were
   slots_stay : (i : ℕ) → i < table_size s.last → get_or words i 0 ≡ get_or t.words i 0
-  slots_stay i below = get_or-set_other t.words (slot_word s slot) i (8 * turn_of c) 0
+  slots_stay i below = get_or-set_other t.words (slot_word s slot) i (taken_word (turn_of c)) 0
       (λ e. (let before = before_clock s i below in let behind = clock_before_slots s slot in omega arith))
 
   card_now : lie' slot ≡ c

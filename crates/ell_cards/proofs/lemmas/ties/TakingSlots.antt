@@ -27,7 +27,7 @@ use Rattle.ell_cards.specs.Leaks.{Kills, NothingLeaks}
 use Rattle.ell_cards.specs.Machines.{HasMachine}
 use Rattle.ell_cards.specs.Models.{TablePlan}
 use Rattle.ell_cards.specs.Periods.{WholeState, slot_word, slots_size, after_taking}
-use Rattle.ell_cards.specs.SlotWords.{has_slot_in, slot_of, turn_of, is_noted}
+use Rattle.ell_cards.specs.SlotWords.{has_slot_in, slot_of, turn_of, is_noted, taken_word}
 use Rattle.ell_cards.specs.States.{TableState, seat_worker}
 use Rattle.ell_cards.specs.Holding.{HoldsWaiting}
 use Rattle.ell_cards.specs.Tied.{IsTied}
@@ -126,11 +126,11 @@ module _ (plan : TablePlan) (tree : TableState) (dead : ℕ → Bool) (now : Are
 noted_taken : (plan : TablePlan) (s : Slots) (tree : TableState) (t : WholeState) (lie : ℕ → ℕ) (dead : ℕ → Bool) (now : AreDead plan tree dead) (seat : ℕ) (v : View)
     → get_elem? tree.views seat ≡ some v → (c : ℕ) → HoldsWaiting v c → slot_of c ≤ s.last
     → (x : ℕ) → IsOut plan tree now.machine now.uses x → IsNotedThere s t.words lie x
-    → IsNotedThere s (set t.words (slot_word s (slot_of c)) (8 * turn_of c)) (put lie (slot_of c) c) x
+    → IsNotedThere s (set t.words (slot_word s (slot_of c)) (taken_word (turn_of c))) (put lie (slot_of c) c) x
 noted_taken plan s tree t lie dead now seat v there c hand inside x out is low lies used = elim (cases_eq (slot_of (card x)) (slot_of c)) [
   | inl e ↦ absurd (hand_not_out plan tree dead now seat v there c hand x (sym lies ∙ (ap (put lie (slot_of c) c) e ∙ put_same lie (slot_of c) c)) out)
   | inr apart ↦
-      let stays = get_or-set_other t.words (slot_word s (slot_of c)) (slot_word s (slot_of (card x))) (8 * turn_of c) 0 (λ e. apart (omega arith)) in
+      let stays = get_or-set_other t.words (slot_word s (slot_of c)) (slot_word s (slot_of (card x))) (taken_word (turn_of c)) 0 (λ e. apart (omega arith)) in
       subst (λ n. is_noted n (x % 4) ≡ true) (sym stays)
       (is low (sym (put_other lie (slot_of c) c (slot_of (card x)) apart) ∙ lies) (λ full. used (ap (λ n. n % 8) stays ∙ full)))
 ]
@@ -188,7 +188,7 @@ take_goes plan s tree t lie dead was_dead low size h same id k here c hand numbe
     p = after_taking c k.period
 
     words : List ℕ
-    words = set t.words (slot_word s (slot_of c)) (8 * turn_of c)
+    words = set t.words (slot_word s (slot_of c)) (taken_word (turn_of c))
 
     sits : (seat : ℕ) (u : Known) → get_elem? t.views seat ≡ some u → get_elem? tree.views seat ≡ some u.tree
     sits seat u at = ap (λ l. get_elem? l seat) (sym same) ∙ tree_at t.views seat u at
@@ -217,9 +217,9 @@ take_goes plan s tree t lie dead was_dead low size h same id k here c hand numbe
         → IsOut plan tree r h.ages.now.uses (4 * put lie (slot_of c) c slot + i)
     noted slot i low is = elim (cases_eq slot (slot_of c)) [
       | inl e ↦ absurd (none_noted (turn_of c) i (subst (λ n. is_noted n i ≡ true)
-          (ap (λ x. get_or words (slot_word s x) 0) e ∙ get_or-set_same t.words (slot_word s (slot_of c)) (8 * turn_of c) 0 room) is))
+          (ap (λ x. get_or words (slot_word s x) 0) e ∙ get_or-set_same t.words (slot_word s (slot_of c)) (taken_word (turn_of c)) 0 room) is))
       | inr apart ↦
-          let stays = get_or-set_other t.words (slot_word s (slot_of c)) (slot_word s slot) (8 * turn_of c) 0 (λ e. apart (omega arith)) in
+          let stays = get_or-set_other t.words (slot_word s (slot_of c)) (slot_word s slot) (taken_word (turn_of c)) 0 (λ e. apart (omega arith)) in
           subst (λ d. IsOut plan tree r h.ages.now.uses (4 * d + i)) (sym (put_other lie (slot_of c) c slot apart))
           (h.ages.noted slot i low (subst (λ n. is_noted n i ≡ true) stays is))
     ]

@@ -130,7 +130,7 @@ module _ (plan : TablePlan) where
   pub noted_same : (s : Slots) (old words : List ℕ) (lie : ℕ → ℕ) → ((slot : ℕ) → slot ≤ s.last → get_or words (slot_word s slot) 0 ≡ get_or old (slot_word s slot) 0)
       → (x : ℕ) → IsNotedThere s old lie x → IsNotedThere s words lie x
   noted_same s old words lie same x is inside lies =
-      subst (λ n. n % 8 ≢ 7 → is_noted n (x % 4) ≡ true) (sym (same (slot_of (card x)) inside)) (is inside lies)
+      subst (λ n. n % 8 ≢ 0 → is_noted n (x % 4) ≡ true) (sym (same (slot_of (card x)) inside)) (is inside lies)
 
   -- what the words of slots note as dead, and what passes have read of them, is out after a turn, if those words are as they were
   module _ (s : Slots) (tree tree' : TableState) (t : WholeState) (lie : ℕ → ℕ) (dead : ℕ → Bool) (was_dead : ℕ → ℕ → Bool) (h : AgesAreSound plan s tree t lie dead was_dead)
@@ -141,7 +141,7 @@ module _ (plan : TablePlan) where
         out_on tree h.now.machine h.now.uses by tree' on (4 * lie slot + k) (h.noted slot k low (subst (λ n. is_noted n k ≡ true) (same slot low) is))
 
     pub read_on : (words : List ℕ) → ((slot : ℕ) → slot ≤ s.last → get_or words (slot_word s slot) 0 ≡ get_or t.words (slot_word s slot) 0)
-        → (seat : ℕ) (k : Known) (r : SlotRead) → get_elem? t.views seat ≡ some k → k.period.read ≡ Some r → r.word % 8 ≢ 7 → (i : ℕ) → is_noted r.word i ≡ true
+        → (seat : ℕ) (k : Known) (r : SlotRead) → get_elem? t.views seat ≡ some k → k.period.read ≡ Some r → r.word % 8 ≢ 0 → (i : ℕ) → is_noted r.word i ≡ true
         → IsOut plan tree' on.next on.used (4 * card_by r.slot r.word + i) × IsNotedThere s words lie (4 * card_by r.slot r.word + i)
     read_on words same seat k r at has used i is =
         let was = h.read seat k r at has used i is in
@@ -229,7 +229,7 @@ module _ (plan : TablePlan) where
         → ((j q a : ℕ) (u : Known) → j ≢ id → get_elem? t.views j ≡ some u → u.period.place ≡ Some q → u.period.announced ≡ Some a → was_dead' q ≡ was_dead q)
         → ((slot i : ℕ) → slot ≤ s.last → is_noted (get_or words (slot_word s slot) 0) i ≡ true → OutNow (4 * lie' slot + i))
         → ((x : ℕ) → OutNow x → IsNotedThere s t.words lie x → IsNotedThere s words lie' x)
-        → ((r : SlotRead) → now.period.read ≡ Some r → r.word % 8 ≢ 7 → (i : ℕ) → is_noted r.word i ≡ true → OutNow (4 * card_by r.slot r.word + i) × IsNotedThere s words lie' (4 * card_by r.slot r.word + i))
+        → ((r : SlotRead) → now.period.read ≡ Some r → r.word % 8 ≢ 0 → (i : ℕ) → is_noted r.word i ≡ true → OutNow (4 * card_by r.slot r.word + i) × IsNotedThere s words lie' (4 * card_by r.slot r.word + i))
         → ((c : ℕ) → now.period.lost ≡ Some c → IsAside h.now.machine.stages tree.views c)
         → AgesAreSound plan s tree (record { words = words; homes = t.homes; views = set t.views id now }) lie' dead' was_dead'
     ages_of_period each still mine others noted keeps read lost = record {
@@ -251,8 +251,8 @@ module _ (plan : TablePlan) where
           (at_set t.views id seat now u at);
     }
       where
-        kept : (r : SlotRead) → (r.word % 8 ≢ 7 → (i : ℕ) → is_noted r.word i ≡ true → OutNow (4 * card_by r.slot r.word + i) × IsNotedThere s t.words lie (4 * card_by r.slot r.word + i))
-            → r.word % 8 ≢ 7 → (i : ℕ) → is_noted r.word i ≡ true → OutNow (4 * card_by r.slot r.word + i) × IsNotedThere s words lie' (4 * card_by r.slot r.word + i)
+        kept : (r : SlotRead) → (r.word % 8 ≢ 0 → (i : ℕ) → is_noted r.word i ≡ true → OutNow (4 * card_by r.slot r.word + i) × IsNotedThere s t.words lie (4 * card_by r.slot r.word + i))
+            → r.word % 8 ≢ 0 → (i : ℕ) → is_noted r.word i ≡ true → OutNow (4 * card_by r.slot r.word + i) × IsNotedThere s words lie' (4 * card_by r.slot r.word + i)
         kept r was used i is = (let old = was used i is in (old.0, keeps _ old.0 old.1))
 
         own : (seat q a : ℕ) (u : Known) → seat ≡ id → now ≡ u → u.period.place ≡ Some q → u.period.announced ≡ Some a

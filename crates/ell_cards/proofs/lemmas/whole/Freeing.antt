@@ -118,7 +118,7 @@ module _ (plan : TablePlan) (s : Slots) (tree : TableState) (t : WholeState) (id
   low_slot y x is = omega arith
 
   -- a node that the card in hand has taken out, of which the pass knows the low bits, is one of the card that lies in its slot
-  pub taken_lies : plan.slots ≡ Some s → (slot : ℕ) → slot ≤ s.last → get_or t.words (slot_word s slot) 0 % 8 ≢ 7 → (x : ℕ) → slot_of (card x) ≡ slot
+  pub taken_lies : plan.slots ≡ Some s → (slot : ℕ) → slot ≤ s.last → get_or t.words (slot_word s slot) 0 % 8 ≢ 0 → (x : ℕ) → slot_of (card x) ≡ slot
       → HasTakenOut (shown k.tree) x → KnowsDeadNode k.tree (4 * card_by slot (get_or t.words (slot_word s slot) 0) + x % 4)
   taken_lies placed slot inside used x at taken =
       let was = taken_out_whole k.tree (passes_name_met plan tree reached id k.tree there).0 x taken in
@@ -153,7 +153,7 @@ module _ (plan : TablePlan) (s : Slots) (tree : TableState) (t : WholeState) (id
               h.ages.now.each h.ages.still (λ q a at an. h.ages.since id q a k here at an) (λ j q a u other at placed an. refl)
               (same_noted plan s tree t id k here h (set t.words (slot_word s slot) n) (same_again plan s tree t id k here h size (slot_word s slot) (omega arith)))
               (λ x out is. same_slots (set t.words (slot_word s slot) n) same x is)
-              (λ r has used i is. subst (λ (x : SlotRead). x.word % 8 ≢ 7 → is_noted x.word i ≡ true → OutThere (set t.words (slot_word s slot) n) (4 * card_by x.slot x.word + i)) (same_Some _ r has) (reads i) used is)
+              (λ r has used i is. subst (λ (x : SlotRead). x.word % 8 ≢ 0 → is_noted x.word i ≡ true → OutThere (set t.words (slot_word s slot) n) (4 * card_by x.slot x.word + i)) (same_Some _ r has) (reads i) used is)
               (λ c has. h.ages.lost id c k here has);
           tied = tie_of_period s tree t h.ages.now.machine.stages h.lie h.dead h.dead h.was_dead h.was_dead h.tied id k here (record (after_read slot n k.period) { sought = sought }) refl (set t.words (slot_word s slot) n)
               (λ j low. word_again t.words (slot_word s slot) (omega arith) j)
@@ -180,7 +180,7 @@ module _ (plan : TablePlan) (s : Slots) (tree : TableState) (t : WholeState) (id
       noted_now : (i : ℕ) → is_noted now i ≡ true → NotesThere s t.words h.lie (h.lie slot) i
       noted_now i is low lies used = subst (λ x. is_noted (get_or t.words (slot_word s x) 0) i ≡ true) (sym (h.tied.own slot inside)) is
 
-      reads : (i : ℕ) → now % 8 ≢ 7 → is_noted now i ≡ true → OutThere (set t.words (slot_word s slot) now) (4 * card_by slot now + i)
+      reads : (i : ℕ) → now % 8 ≢ 0 → is_noted now i ≡ true → OutThere (set t.words (slot_word s slot) now) (4 * card_by slot now + i)
       reads i used is = subst (λ c. OutThere (set t.words (slot_word s slot) now) (4 * c + i)) (h.lies slot inside used) (
         h.ages.noted slot i inside is,
         same_slots (set t.words (slot_word s slot) now) same (4 * h.lie slot + i) (noted_at plan s t.words h.lie (h.lie slot) i (few_noted now i is) (noted_now i is)),
@@ -253,7 +253,7 @@ module _ (plan : TablePlan) (s : Slots) (tree : TableState) (t : WholeState) (id
       ]
 
   -- what is noted is noted where the word of a slot becomes another one, which notes what it did, or sets the slot free
-  pub noted_then : (slot n : ℕ) → slot ≤ s.last → get_or t.words (slot_word s slot) 0 % 8 ≢ 7 → (n % 8 ≢ 7 → (i : ℕ) → is_noted (get_or t.words (slot_word s slot) 0) i ≡ true → is_noted n i ≡ true)
+  pub noted_then : (slot n : ℕ) → slot ≤ s.last → get_or t.words (slot_word s slot) 0 % 8 ≢ 0 → (n % 8 ≢ 0 → (i : ℕ) → is_noted (get_or t.words (slot_word s slot) 0) i ≡ true → is_noted n i ≡ true)
       → (x : ℕ) → IsNotedThere s t.words h.lie x → IsNotedThere s (set t.words (slot_word s slot) n) h.lie x
   noted_then slot n inside was keeps x is low lies used = elim (cases_eq (slot_of (card x)) slot) [
     | inl e ↦
@@ -270,13 +270,13 @@ module _ (plan : TablePlan) (s : Slots) (tree : TableState) (t : WholeState) (id
 
   -- A slot's word becomes another one, by which the same cards lie in slots, and what it notes is dead. It notes what the
   -- other one did, or sets the slot free.
-  turns_now : (slot n : ℕ) (sought : Seek) → slot ≤ s.last → get_or t.words (slot_word s slot) 0 % 8 ≢ 7 → (n % 8 ≢ 7 → (i : ℕ) → is_noted (get_or t.words (slot_word s slot) 0) i ≡ true → is_noted n i ≡ true)
+  turns_now : (slot n : ℕ) (sought : Seek) → slot ≤ s.last → get_or t.words (slot_word s slot) 0 % 8 ≢ 0 → (n % 8 ≢ 0 → (i : ℕ) → is_noted (get_or t.words (slot_word s slot) 0) i ≡ true → is_noted n i ≡ true)
       → HasRetired (set t.words (slot_word s slot) n) sought.retired → LieInSlots s (set t.words (slot_word s slot) n) h.lie
       → PeriodsAreSound s (turned_to t id k (record (k.period) { sought = sought }) (slot_word s slot) n) h.lie h.dead h.began h.was_dead
       → ((i : ℕ) → is_noted n i ≡ true → OutNow (4 * h.lie slot + i))
-      → (n % 8 ≢ 7 → (i : ℕ) → is_noted n i ≡ true → (is_noted (get_or t.words (slot_word s slot) 0) i ≡ true) ⊎ HasWon h.ages.now.machine.stages (h.lie slot))
-      → SameSearch k.period.sought sought → (SearchesAreSound s t → (n % 8 ≢ 7) ⊎ ((j : ℕ) (u : Known) → get_elem? t.views j ≡ some u → u.period.sought.safe ≤ stamp_in n))
-      → ((taken : TakingsAreSound s t h.lie) → (n % 8 ≢ 7) ⊎ (taken.taken slot ≤ stamp_in n))
+      → (n % 8 ≢ 0 → (i : ℕ) → is_noted n i ≡ true → (is_noted (get_or t.words (slot_word s slot) 0) i ≡ true) ⊎ HasWon h.ages.now.machine.stages (h.lie slot))
+      → SameSearch k.period.sought sought → (SearchesAreSound s t → (n % 8 ≢ 0) ⊎ ((j : ℕ) (u : Known) → get_elem? t.views j ≡ some u → u.period.sought.safe ≤ stamp_in n))
+      → ((taken : TakingsAreSound s t h.lie) → (n % 8 ≢ 0) ⊎ (taken.taken slot ≤ stamp_in n))
       → GoesTo plan s tree t h (turned_to t id k (record (k.period) { sought = sought }) (slot_word s slot) n)
   turns_now slot n sought inside was keeps mine lies sound notes won search turned aged = record {
     periods = record {
@@ -319,7 +319,7 @@ module _ (plan : TablePlan) (s : Slots) (tree : TableState) (t : WholeState) (id
       ]
 
   -- more nodes of the card that lies in a slot are noted as dead
-  pub notes_now : (slot n m : ℕ) (sought : Seek) → slot ≤ s.last → get_or t.words (slot_word s slot) 0 ≡ n → turn_in m ≡ turn_in n → n % 8 ≢ 7 → m % 8 ≢ 7
+  pub notes_now : (slot n m : ℕ) (sought : Seek) → slot ≤ s.last → get_or t.words (slot_word s slot) 0 ≡ n → turn_in m ≡ turn_in n → n % 8 ≢ 0 → m % 8 ≢ 0
       → ((i : ℕ) → is_noted n i ≡ true → is_noted m i ≡ true)
       → ((i : ℕ) → is_noted m i ≡ true → (is_noted n i ≡ true) ⊎ KnowsDeadNode k.tree (4 * card_by slot n + i))
       → HasRetired (set t.words (slot_word s slot) m) sought.retired → SameSearch k.period.sought sought
@@ -337,14 +337,14 @@ module _ (plan : TablePlan) (s : Slots) (tree : TableState) (t : WholeState) (id
       ])
       search (λ searches. inl some_bit') (λ taken. inl some_bit')
     where
-      used : get_or t.words (slot_word s slot) 0 % 8 ≢ 7
+      used : get_or t.words (slot_word s slot) 0 % 8 ≢ 0
       used e = some_bit (ap (λ x. x % 8) (sym is) ∙ e)
 
       lies_there : h.lie slot ≡ card_by slot n
       lies_there = h.lies slot inside used ∙ ap (card_by slot) is
 
   -- or the slot is set free, if all nodes of the card are dead
-  pub frees_now : (slot reading : ℕ) (sought : Seek) → slot ≤ s.last → (n : ℕ) → get_or t.words (slot_word s slot) 0 ≡ n → n % 8 ≢ 7
+  pub frees_now : (slot reading : ℕ) (sought : Seek) → slot ≤ s.last → (n : ℕ) → get_or t.words (slot_word s slot) 0 ≡ n → n % 8 ≢ 0
       → k.period.stamp ≡ Some (record { card = card_by slot n; reading = reading })
       → HasRetired (set t.words (slot_word s slot) (free_word reading)) sought.retired
       → SameSearch k.period.sought sought → k.period.announced ≢ None → k.period.began ≤ reading
@@ -363,7 +363,7 @@ module _ (plan : TablePlan) (s : Slots) (tree : TableState) (t : WholeState) (id
       stamp = has ∙ ap (λ c. Some (record { card = c; reading = reading })) (sym lies_there)
 
       -- the slot was taken no later than the stamp was read
-      aged : (taken : TakingsAreSound s t h.lie) → (free_word reading % 8 ≢ 7) ⊎ (taken.taken slot ≤ stamp_in (free_word reading))
+      aged : (taken : TakingsAreSound s t h.lie) → (free_word reading % 8 ≢ 0) ⊎ (taken.taken slot ≤ stamp_in (free_word reading))
       aged taken =
           let home = h.tied.own slot inside in
           let low = taken.pending id (h.lie slot) reading k here stamp (subst (λ x. x ≤ s.last) (sym home) inside)

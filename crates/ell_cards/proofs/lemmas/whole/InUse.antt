@@ -135,14 +135,14 @@ won_open : (s : Stage) → IsWonStage s → is_start s ≡ false → has_ended s
 won_open s (claimed, settled) unstarted un = grind arith
 
 -- a word that sets no slot free leaves a node unnoted
-pub some_unnoted : (n : ℕ) → n % 8 ≢ 7 → (i : ℕ) × (i < 3) × (is_noted n i ≡ false)
+pub some_unnoted : (n : ℕ) → n % 8 ≢ 0 → (i : ℕ) × (i < 3) × (is_noted n i ≡ false)
 some_unnoted n used = elim (cases_Bool (is_noted n 0)) [
   | inr e ↦ (0, omega arith, e)
   | inl a ↦ elim (cases_Bool (is_noted n 1)) [
     | inr e ↦ (1, omega arith, e)
     | inl b ↦ elim (cases_Bool (is_noted n 2)) [
       | inr e ↦ (2, omega arith, e)
-      | inl c ↦ absurd (used (low_bits n ∙ full (is_noted n 0) (is_noted n 1) (is_noted n 2) a b c))
+      | inl c ↦ absurd (used (let low = low_bits n in let all = full (is_noted n 0) (is_noted n 1) (is_noted n 2) a b c in omega arith))
     ]
   ]
 ]
@@ -251,7 +251,7 @@ module _ (plan : TablePlan) (s : Slots) (tree : TableState) (t : WholeState) (fl
   ])
 
   -- the card of a slot in live is listed
-  module _ (slot : ℕ) (inside : slot ≤ s.last) (used : get_or t.words (slot_word s slot) 0 % 8 ≢ 7) where
+  module _ (slot : ℕ) (inside : slot ≤ s.last) (used : get_or t.words (slot_word s slot) 0 % 8 ≢ 0) where
     abbrev c : ℕ
     c = h.lie slot
 

@@ -279,7 +279,7 @@ module _ (s : Slots) (t : WholeState) (k : Seek) (row : RowIsSo s t.words k) (wh
   word slot = get_or t.words (slot_word s slot) 0
 
   abbrev is_free : ℕ → Bool
-  is_free slot = word slot % 8 == 7
+  is_free slot = word slot % 8 == 0
 
   untaken : (slot : ℕ) → slot ≤ s.last → is_slot_for s k.for_delete slot ≡ true → could_take (word slot) k.safe ≡ false
   untaken slot inside for =
@@ -295,10 +295,10 @@ module _ (s : Slots) (t : WholeState) (k : Seek) (row : RowIsSo s t.words k) (wh
   young_slot : (slot : ℕ) → slot < slots_for s k.for_delete → is_free slot ≡ true → IsYoung s t k.safe slot
   young_slot slot low free =
       let at = inside_for k.for_delete slot low in
-      let full = eqb-true (word slot % 8) 7 free in
+      let full = eqb-true (word slot % 8) 0 free in
       (at.0, full, late (word slot) k.safe free (untaken slot at.0 at.1))
     where
-      late : (n safe : ℕ) → (n % 8 == 7) ≡ true → could_take n safe ≡ false → safe ≤ stamp_in n
+      late : (n safe : ℕ) → (n % 8 == 0) ≡ true → could_take n safe ≡ false → safe ≤ stamp_in n
       late n safe free none = grind (arith, nat_tests)
 
   pub used_slots : List ℕ
@@ -312,7 +312,7 @@ module _ (s : Slots) (t : WholeState) (k : Seek) (row : RowIsSo s t.words k) (wh
   unfolding used_slots
   used_all = all_listed (IsInUse s t) (chosen (λ slot. not (is_free slot)) (slots_for s k.for_delete)) (λ slot has.
       let is = chosen_only (λ x. not (is_free x)) (slots_for s k.for_delete) slot has in
-      ((inside_for k.for_delete slot is.0).0, λ full. true≢false (sym is.1 ∙ ap not (eq-eqb (word slot % 8) 7 full))))
+      ((inside_for k.for_delete slot is.0).0, λ full. true≢false (sym is.1 ∙ ap not (eq-eqb (word slot % 8) 0 full))))
 
   pub few_free : (young : List ℕ) → ((slot : ℕ) → IsYoung s t k.safe slot → Contains young slot) → slots_for s k.for_delete ≤ length used_slots + length young
   unfolding used_slots

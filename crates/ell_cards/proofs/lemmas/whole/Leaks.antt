@@ -17,7 +17,7 @@ use Rattle.ell_cards.specs.Holding.{HoldsWaiting}
 use Rattle.ell_cards.specs.Leaks.{Holds, IsHeld, IsInFlaggedHand, Kills, NothingLeaks}
 use Rattle.ell_cards.specs.Leaks.Holds.{waiting, lost}
 use Rattle.ell_cards.specs.Periods.{WholeState, slot_word}
-use Rattle.ell_cards.specs.SlotWords.{is_noted, slot_of, turn_of}
+use Rattle.ell_cards.specs.SlotWords.{is_noted, slot_of, turn_of, taken_word}
 use Rattle.ell_cards.specs.Tied.{HasWon}
 use Rattle.ell_cards.proofs.lemmas.seats.Seats.{set_there}
 use Rattle.ell_cards.proofs.lemmas.words.NotedBits.{none_noted}
@@ -42,7 +42,7 @@ module _ (s : Slots) (t : WholeState) (trees : List View) (w : Words) (stage : S
   now = record { tree = k.tree; period = p }
 
   -- where the words of slots are as they were, and the pass holds what it held
-  pub leaks_same : (words : List ℕ) → ((slot : ℕ) → slot ≤ s.last → get_or words (slot_word s slot) 0 % 8 ≢ 7 → Holds k (lie slot) → Holds now (lie slot)) → ((slot : ℕ) → get_or words (slot_word s slot) 0 ≡ get_or t.words (slot_word s slot) 0)
+  pub leaks_same : (words : List ℕ) → ((slot : ℕ) → slot ≤ s.last → get_or words (slot_word s slot) 0 % 8 ≢ 0 → Holds k (lie slot) → Holds now (lie slot)) → ((slot : ℕ) → get_or words (slot_word s slot) 0 ≡ get_or t.words (slot_word s slot) 0)
       → NothingLeaks s (record { words = words; homes = t.homes; views = set t.views id now }) trees w stage lie
   leaks_same words holds same = record {
     used = λ slot low used. elim (h.used slot low (λ full. used (ap (λ n. n % 8) (same slot) ∙ full))) [
@@ -67,9 +67,9 @@ module _ (s : Slots) (t : WholeState) (trees : List View) (w : Words) (stage : S
     at_other : (other : ℕ) → other ≤ s.last → other ≢ slot → get_or W (slot_word s other) 0 ≡ get_or t.words (slot_word s other) 0
     at_other other low apart = get_or-set_other t.words (slot_word s slot) (slot_word s other) n 0 (λ e. apart (omega arith))
 
-    pub leaks_turned : ((other : ℕ) → other ≤ s.last → get_or W (slot_word s other) 0 % 8 ≢ 7 → Holds k (lie other) → Holds now (lie other)) → (n % 8 ≢ 7 → old % 8 ≢ 7)
-        → (n % 8 ≢ 7 → (i : ℕ) → is_noted n i ≡ true → (is_noted old i ≡ true) ⊎ HasWon stage (lie slot))
-        → (n % 8 ≢ 7 → (i : ℕ) → is_noted old i ≡ true → is_noted n i ≡ true)
+    pub leaks_turned : ((other : ℕ) → other ≤ s.last → get_or W (slot_word s other) 0 % 8 ≢ 0 → Holds k (lie other) → Holds now (lie other)) → (n % 8 ≢ 0 → old % 8 ≢ 0)
+        → (n % 8 ≢ 0 → (i : ℕ) → is_noted n i ≡ true → (is_noted old i ≡ true) ⊎ HasWon stage (lie slot))
+        → (n % 8 ≢ 0 → (i : ℕ) → is_noted old i ≡ true → is_noted n i ≡ true)
         → NothingLeaks s (record { words = W; homes = t.homes; views = set t.views id now }) trees w stage lie
     leaks_turned holds was new more = record {
       used = used;
@@ -77,19 +77,19 @@ module _ (s : Slots) (t : WholeState) (trees : List View) (w : Words) (stage : S
       owed = λ other i c low live few is. h.owed other i c low (used_at other low live) few (not_noted other i low live is);
     }
       where
-        used_at : (other : ℕ) → other ≤ s.last → get_or W (slot_word s other) 0 % 8 ≢ 7 → get_or t.words (slot_word s other) 0 % 8 ≢ 7
+        used_at : (other : ℕ) → other ≤ s.last → get_or W (slot_word s other) 0 % 8 ≢ 0 → get_or t.words (slot_word s other) 0 % 8 ≢ 0
         used_at other low live = elim (cases_eq other slot) [
           | inl e ↦ λ full. was (λ f. live (ap (λ m. m % 8) (at_slot other e) ∙ f)) (ap (λ x. get_or t.words (slot_word s x) 0 % 8) (sym e) ∙ full)
           | inr apart ↦ λ full. live (ap (λ m. m % 8) (at_other other low apart) ∙ full)
         ]
 
-        used : (other : ℕ) → other ≤ s.last → get_or W (slot_word s other) 0 % 8 ≢ 7 → HasWon stage (lie other) ⊎ IsHeld (set t.views id now) (lie other)
+        used : (other : ℕ) → other ≤ s.last → get_or W (slot_word s other) 0 % 8 ≢ 0 → HasWon stage (lie other) ⊎ IsHeld (set t.views id now) (lie other)
         used other low live = elim (h.used other low (used_at other low live)) [
           | inl won ↦ inl won
           | inr held ↦ inr (held_on t.views id k now here (lie other) (holds other low live) held)
         ]
 
-        bits : (other i : ℕ) → other ≤ s.last → get_or W (slot_word s other) 0 % 8 ≢ 7 → is_noted (get_or W (slot_word s other) 0) i ≡ true → HasWon stage (lie other)
+        bits : (other i : ℕ) → other ≤ s.last → get_or W (slot_word s other) 0 % 8 ≢ 0 → is_noted (get_or W (slot_word s other) 0) i ≡ true → HasWon stage (lie other)
         bits other i low live is = elim (cases_eq other slot) [
           | inl e ↦ elim (new (λ f. live (ap (λ m. m % 8) (at_slot other e) ∙ f)) i (subst (λ m. is_noted m i ≡ true) (at_slot other e) is)) [
             | inl noted ↦ h.bits other i low (used_at other low live) (subst (λ x. is_noted (get_or t.words (slot_word s x) 0) i ≡ true) (sym e) noted)
@@ -99,7 +99,7 @@ module _ (s : Slots) (t : WholeState) (trees : List View) (w : Words) (stage : S
         ]
 
         -- what is not noted was not noted
-        not_noted : (other i : ℕ) → other ≤ s.last → get_or W (slot_word s other) 0 % 8 ≢ 7 → is_noted (get_or W (slot_word s other) 0) i ≡ false
+        not_noted : (other i : ℕ) → other ≤ s.last → get_or W (slot_word s other) 0 % 8 ≢ 0 → is_noted (get_or W (slot_word s other) 0) i ≡ false
             → is_noted (get_or t.words (slot_word s other) 0) i ≡ false
         not_noted other i low live is = elim (cases_eq other slot) [
           | inl e ↦ by (is_noted (get_or t.words (slot_word s other) 0) i) refl (λ was_noted.
@@ -116,16 +116,16 @@ module _ (s : Slots) (t : WholeState) (trees : List View) (w : Words) (stage : S
   module _ (c : ℕ) (hand : HoldsWaiting k.tree c) (inside : slot_of c ≤ s.last) (room : slot_word s (slot_of c) < length t.words) (own : (slot : ℕ) → slot ≤ s.last → slot_of (lie slot) ≡ slot)
       (unlost : k.period.lost ≡ None) (slotted : p.slot ≡ Some c) (fresh : (d i : ℕ) → i < 3 → Kills w stage d (4 * c + i) → ⊥) where
     abbrev V : List ℕ
-    V = set t.words (slot_word s (slot_of c)) (8 * turn_of c)
+    V = set t.words (slot_word s (slot_of c)) (taken_word (turn_of c))
 
     abbrev lie' : ℕ → ℕ
     lie' = put lie (slot_of c) c
 
-    taken_at : (other : ℕ) → other ≡ slot_of c → get_or V (slot_word s other) 0 ≡ 8 * turn_of c
-    taken_at other e = ap (λ x. get_or V (slot_word s x) 0) e ∙ get_or-set_same t.words (slot_word s (slot_of c)) (8 * turn_of c) 0 room
+    taken_at : (other : ℕ) → other ≡ slot_of c → get_or V (slot_word s other) 0 ≡ taken_word (turn_of c)
+    taken_at other e = ap (λ x. get_or V (slot_word s x) 0) e ∙ get_or-set_same t.words (slot_word s (slot_of c)) (taken_word (turn_of c)) 0 room
 
     not_at : (other : ℕ) → other ≤ s.last → other ≢ slot_of c → get_or V (slot_word s other) 0 ≡ get_or t.words (slot_word s other) 0
-    not_at other low apart = get_or-set_other t.words (slot_word s (slot_of c)) (slot_word s other) (8 * turn_of c) 0 (λ e. apart (omega arith))
+    not_at other low apart = get_or-set_other t.words (slot_word s (slot_of c)) (slot_word s other) (taken_word (turn_of c)) 0 (λ e. apart (omega arith))
 
     lies_at : (other : ℕ) → other ≡ slot_of c → lie' other ≡ c
     lies_at other e = ap lie' e ∙ put_same lie (slot_of c) c
@@ -139,7 +139,7 @@ module _ (s : Slots) (t : WholeState) (trees : List View) (w : Words) (stage : S
     pub leaks_taken : NothingLeaks s (record { words = V; homes = t.homes; views = set t.views id now }) trees w stage lie'
     leaks_taken = record { used = used; bits = bits; owed = owed }
       where
-        used : (other : ℕ) → other ≤ s.last → get_or V (slot_word s other) 0 % 8 ≢ 7 → HasWon stage (lie' other) ⊎ IsHeld (set t.views id now) (lie' other)
+        used : (other : ℕ) → other ≤ s.last → get_or V (slot_word s other) 0 % 8 ≢ 0 → HasWon stage (lie' other) ⊎ IsHeld (set t.views id now) (lie' other)
         used other low live = elim (cases_eq other (slot_of c)) [
           | inl e ↦ inr (subst (IsHeld (set t.views id now)) (sym (lies_at other e)) (record { seat = id; knows = now; there = set_there t.views id now k here; holds = waiting slotted hand }))
           | inr apart ↦ subst (λ d. HasWon stage d ⊎ IsHeld (set t.views id now) d) (sym (put_other lie (slot_of c) c other apart))
@@ -149,14 +149,14 @@ module _ (s : Slots) (t : WholeState) (trees : List View) (w : Words) (stage : S
               ])
         ]
 
-        bits : (other i : ℕ) → other ≤ s.last → get_or V (slot_word s other) 0 % 8 ≢ 7 → is_noted (get_or V (slot_word s other) 0) i ≡ true → HasWon stage (lie' other)
+        bits : (other i : ℕ) → other ≤ s.last → get_or V (slot_word s other) 0 % 8 ≢ 0 → is_noted (get_or V (slot_word s other) 0) i ≡ true → HasWon stage (lie' other)
         bits other i low live is = elim (cases_eq other (slot_of c)) [
           | inl e ↦ absurd (none_noted (turn_of c) i (subst (λ m. is_noted m i ≡ true) (taken_at other e) is))
           | inr apart ↦ subst (HasWon stage) (sym (put_other lie (slot_of c) c other apart))
               (h.bits other i low (λ full. live (ap (λ m. m % 8) (not_at other low apart) ∙ full)) (subst (λ m. is_noted m i ≡ true) (not_at other low apart) is))
         ]
 
-        owed : (other i d : ℕ) → other ≤ s.last → get_or V (slot_word s other) 0 % 8 ≢ 7 → i < 3 → is_noted (get_or V (slot_word s other) 0) i ≡ false
+        owed : (other i d : ℕ) → other ≤ s.last → get_or V (slot_word s other) 0 % 8 ≢ 0 → i < 3 → is_noted (get_or V (slot_word s other) 0) i ≡ false
             → Kills w stage d (4 * lie' other + i) → IsInFlaggedHand trees d
         owed other i d low live few is kills = elim (cases_eq other (slot_of c)) [
           | inl e ↦ absurd (fresh d i few (subst (λ x. Kills w stage d (4 * x + i)) (lies_at other e) kills))

@@ -357,7 +357,7 @@ module _ (plan : TablePlan) (sl : Slots) (tree : TableState) (t : WholeState) (i
   ]
 
   -- what the card that a pass lets go made dead is noted
-  let_go_noted : (d : ℕ) → LetsCardGo c → HasFlagged k.tree d → (slot i : ℕ) → slot ≤ sl.last → get_or t.words (slot_word sl slot) 0 % 8 ≢ 7 → i < 3
+  let_go_noted : (d : ℕ) → LetsCardGo c → HasFlagged k.tree d → (slot i : ℕ) → slot ≤ sl.last → get_or t.words (slot_word sl slot) 0 % 8 ≢ 0 → i < 3
       → is_noted (get_or t.words (slot_word sl slot) 0) i ≡ false → Kills m.words m.stages d (4 * lie slot + i) → ⊥
   let_go_noted d go hand slot i low used few is kills =
       let may_go = lets_go sl k.period.slot k.period.sought.retired k.tree c go mem in
@@ -387,7 +387,7 @@ module _ (plan : TablePlan) (sl : Slots) (tree : TableState) (t : WholeState) (i
       now : Known
       now = record { tree = v'; period = p }
 
-      used_before : (slot : ℕ) → slot ≤ sl.last → get_or W (slot_word sl slot) 0 % 8 ≢ 7 → get_or t.words (slot_word sl slot) 0 % 8 ≢ 7
+      used_before : (slot : ℕ) → slot ≤ sl.last → get_or W (slot_word sl slot) 0 % 8 ≢ 0 → get_or t.words (slot_word sl slot) 0 % 8 ≢ 0
       used_before slot low used full = used (ap (λ n. n % 8) (same slot low) ∙ full)
 
       flagged : (d : ℕ) → FlagsCard c d → HoldsWaiting k.tree d → (b : Bool) → is_won (atomic_of c) (found_by tree c) ≡ b → HasWon m'.stages d ⊎ IsHeld (set t.views id now) d
@@ -401,7 +401,7 @@ module _ (plan : TablePlan) (sl : Slots) (tree : TableState) (t : WholeState) (i
         | inr flags ↦ flagged d flags waits (is_won (atomic_of c) (found_by tree c)) refl
       ]
 
-      used : (slot : ℕ) → slot ≤ sl.last → get_or W (slot_word sl slot) 0 % 8 ≢ 7 → HasWon m'.stages (lie slot) ⊎ IsHeld (set t.views id now) (lie slot)
+      used : (slot : ℕ) → slot ≤ sl.last → get_or W (slot_word sl slot) 0 % 8 ≢ 0 → HasWon m'.stages (lie slot) ⊎ IsHeld (set t.views id now) (lie slot)
       used slot low live = elim (was.used slot low (used_before slot low live)) [
         | inl won ↦ inl (won_later m.stages m'.stages later (lie slot) won)
         | inr h ↦ elim (cases_eq h.seat id) [
@@ -412,10 +412,10 @@ module _ (plan : TablePlan) (sl : Slots) (tree : TableState) (t : WholeState) (i
         ]
       ]
 
-      bits : (slot i : ℕ) → slot ≤ sl.last → get_or W (slot_word sl slot) 0 % 8 ≢ 7 → is_noted (get_or W (slot_word sl slot) 0) i ≡ true → HasWon m'.stages (lie slot)
+      bits : (slot i : ℕ) → slot ≤ sl.last → get_or W (slot_word sl slot) 0 % 8 ≢ 0 → is_noted (get_or W (slot_word sl slot) 0) i ≡ true → HasWon m'.stages (lie slot)
       bits slot i low live is = won_later m.stages m'.stages later (lie slot) (was.bits slot i low (used_before slot low live) (subst (λ n. is_noted n i ≡ true) (same slot low) is))
 
-      owed : (slot i d : ℕ) → slot ≤ sl.last → get_or W (slot_word sl slot) 0 % 8 ≢ 7 → i < 3 → is_noted (get_or W (slot_word sl slot) 0) i ≡ false
+      owed : (slot i d : ℕ) → slot ≤ sl.last → get_or W (slot_word sl slot) 0 % 8 ≢ 0 → i < 3 → is_noted (get_or W (slot_word sl slot) 0) i ≡ false
           → Kills m'.words m'.stages d (4 * lie slot + i) → IsInFlaggedHand after_it.views d
       owed slot i d low live few is kills = by (has_ended (m'.stages d)) refl
         where

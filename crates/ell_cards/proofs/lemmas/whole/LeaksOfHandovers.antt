@@ -83,7 +83,7 @@ module _ (plan : TablePlan) (sl : Slots) (tree tree' : TableState) (t : WholeSta
     owed = λ slot i d low used few is kills. by slot i d low used few is kills (has_ended (m'.stages d)) refl;
   }
     where
-      by : (slot i d : ℕ) → slot ≤ sl.last → get_or t.words (slot_word sl slot) 0 % 8 ≢ 7 → i < 3 → is_noted (get_or t.words (slot_word sl slot) 0) i ≡ false → Kills m'.words m'.stages d (4 * lie slot + i) → (b : Bool) → has_ended (m'.stages d) ≡ b
+      by : (slot i d : ℕ) → slot ≤ sl.last → get_or t.words (slot_word sl slot) 0 % 8 ≢ 0 → i < 3 → is_noted (get_or t.words (slot_word sl slot) 0) i ≡ false → Kills m'.words m'.stages d (4 * lie slot + i) → (b : Bool) → has_ended (m'.stages d) ≡ b
           → IsInFlaggedHand tree'.views d
       by slot i d low used few is kills false un = killer_in_hand plan tree' m' d (4 * lie slot + i) un kills
       by slot i d low used few is kills true ended =

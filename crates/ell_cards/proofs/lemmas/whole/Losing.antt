@@ -22,7 +22,7 @@ use Rattle.ell_cards.specs.Leaks.Holds.{waiting, lost}
 use Rattle.ell_cards.specs.Machines.{HasMachine}
 use Rattle.ell_cards.specs.Models.{TablePlan}
 use Rattle.ell_cards.specs.Periods.{WholeState, slot_word, slots_size, after_freeing, pending_by, HasPlace, own, spare, PeriodHolds, PeriodsAreSound, grace_of}
-use Rattle.ell_cards.specs.SlotWords.{card_by, free_word, is_noted, slot_of, turn_in, turn_of}
+use Rattle.ell_cards.specs.SlotWords.{card_by, free_word, is_noted, slot_of, turn_in, turn_of, taken_word}
 use Rattle.ell_cards.specs.Starts.{IsReached}
 use Rattle.ell_cards.specs.States.{TableState}
 use Rattle.ell_cards.specs.Stepping.{MayGoOn}
@@ -131,7 +131,7 @@ module _ (plan : TablePlan) (s : Slots) (tree : TableState) (t : WholeState) (id
 
   -- where that card lies in no slot that is in use
   unlost_now : (c : ℕ) → k.period.lost ≡ Some c
-      → (NothingLeaks s t tree.views h.ages.now.machine.words h.ages.now.machine.stages h.lie → (slot : ℕ) → slot ≤ s.last → get_or t.words (slot_word s slot) 0 % 8 ≢ 7 → h.lie slot ≡ c → ⊥)
+      → (NothingLeaks s t tree.views h.ages.now.machine.words h.ages.now.machine.stages h.lie → (slot : ℕ) → slot ≤ s.last → get_or t.words (slot_word s slot) 0 % 8 ≢ 0 → h.lie slot ≡ c → ⊥)
       → GoesTo plan s tree t h (record { words = t.words; homes = t.homes; views = set t.views id freed })
   unlost_now c lost_it gone = record {
     periods = lost_now plan s tree t id k here h None k.period.sought refl (λ d none. absurd (some_not_none none refl)) (λ d none. absurd (some_not_none none refl)) (λ d none. absurd (some_not_none none refl));
@@ -141,7 +141,7 @@ module _ (plan : TablePlan) (s : Slots) (tree : TableState) (t : WholeState) (id
     takings = λ was. takings_same s t h.lie was id k here freed t.words t.homes (omega arith) (λ slot low. refl) refl refl refl refl (omega arith) (λ works. works);
   }
     where
-      by : NothingLeaks s t tree.views h.ages.now.machine.words h.ages.now.machine.stages h.lie → (slot : ℕ) → slot ≤ s.last → get_or t.words (slot_word s slot) 0 % 8 ≢ 7
+      by : NothingLeaks s t tree.views h.ages.now.machine.words h.ages.now.machine.stages h.lie → (slot : ℕ) → slot ≤ s.last → get_or t.words (slot_word s slot) 0 % 8 ≢ 0
           → Holds k (h.lie slot) → Holds freed (h.lie slot)
       by was slot low used (waiting at waits) = waiting at waits
       by was slot low used (lost at) = absurd (gone was slot low used (sym (same_Some c (h.lie slot) (sym lost_it ∙ at))))
@@ -151,8 +151,8 @@ module _ (plan : TablePlan) (s : Slots) (tree : TableState) (t : WholeState) (id
     in_slot = get_or t.words (slot_word s (slot_of c)) 0
 
     -- its slot's word is this as long as it lies there
-    stands : NothingLeaks s t tree.views h.ages.now.machine.words h.ages.now.machine.stages h.lie → (slot : ℕ) → slot ≤ s.last → get_or t.words (slot_word s slot) 0 % 8 ≢ 7 → h.lie slot ≡ c
-        → in_slot ≡ 8 * turn_of c
+    stands : NothingLeaks s t tree.views h.ages.now.machine.words h.ages.now.machine.stages h.lie → (slot : ℕ) → slot ≤ s.last → get_or t.words (slot_word s slot) 0 % 8 ≢ 0 → h.lie slot ≡ c
+        → in_slot ≡ taken_word (turn_of c)
     stands was slot low used lies = by (get_or t.words (slot_word s slot) 0) refl
       where
         at : slot ≡ slot_of c
@@ -164,10 +164,10 @@ module _ (plan : TablePlan) (s : Slots) (tree : TableState) (t : WholeState) (id
         turn_is : (slot n d : ℕ) → slot ≡ slot_of d → card_by slot n ≡ d → turn_in n ≡ turn_of d
         turn_is slot n d at is = omega (arith, at, is)
 
-        whole : (n turn : ℕ) → n % 8 ≡ 0 → turn_in n ≡ turn → n ≡ 8 * turn
+        whole : (n turn : ℕ) → n % 8 ≡ 7 → turn_in n ≡ turn → n ≡ taken_word turn
         whole n turn low is = omega (arith, low, is)
 
-        by : (n : ℕ) → get_or t.words (slot_word s slot) 0 ≡ n → in_slot ≡ 8 * turn_of c
+        by : (n : ℕ) → get_or t.words (slot_word s slot) 0 ≡ n → in_slot ≡ taken_word (turn_of c)
         by n is =
             let low_bits = unnoted (get_or t.words (slot_word s slot) 0) none in
             let turn = turn_is slot (get_or t.words (slot_word s slot) 0) c at (sym (h.lies slot low used) ∙ lies) in
@@ -187,11 +187,11 @@ module _ (plan : TablePlan) (s : Slots) (tree : TableState) (t : WholeState) (id
     found = get_or t.words (slot_word s (slot_of c)) 0
 
     -- it sets the slot free
-    frees_it : (reading : ℕ) → (k.period.announced ≢ None → k.period.began ≤ reading) → k.period.stamp ≡ Some (record { card = c; reading = reading }) → found ≡ 8 * turn_of c
+    frees_it : (reading : ℕ) → (k.period.announced ≢ None → k.period.began ≤ reading) → k.period.stamp ≡ Some (record { card = c; reading = reading }) → found ≡ taken_word (turn_of c)
         → GoesTo plan s tree t h (turned_to t id k (after_freeing k.period) (slot_word s (slot_of c)) (free_word reading))
     frees_it reading late stamp is =
-        let card_is : card_by (slot_of c) (8 * turn_of c) ≡ c = omega arith in
-        let first = frees_now plan s tree t id k here there h size reached (slot_of c) reading k.period.sought inside (8 * turn_of c) is (λ full. omega arith)
+        let card_is : card_by (slot_of c) (taken_word (turn_of c)) ≡ c = omega arith in
+        let first = frees_now plan s tree t id k here there h size reached (slot_of c) reading k.period.sought inside (taken_word (turn_of c)) is (λ full. omega arith)
         (stamp ∙ ap (λ d. Some (record { card = d; reading = reading })) (sym card_is)) (λ d at hand. kept d at hand) refl in_period (late in_period) in
         let t1 = turned_to t id k k.period (slot_word s (slot_of c)) (free_word reading) in
         let here1 = set_there t.views id k k here in
@@ -207,7 +207,7 @@ module _ (plan : TablePlan) (s : Slots) (tree : TableState) (t : WholeState) (id
         keeps : (x : ℕ) → IsNotedThere s t.words h.lie x → IsNotedThere s W h.lie x
         keeps x was = noted_then plan s tree t id k here there h size reached (slot_of c) (free_word reading) inside (λ full. absurd (by (ap (λ n. n % 8) (sym is) ∙ full))) (λ some. absurd (some (omega arith))) x was
           where
-            by : 8 * turn_of c % 8 ≡ 7 → ⊥
+            by : taken_word (turn_of c) % 8 ≡ 0 → ⊥
             by e = omega (arith, e)
 
         kept : (d : ℕ) → k.period.slot ≡ Some d → k.tree.worker.card ≡ Some d
@@ -220,13 +220,13 @@ module _ (plan : TablePlan) (s : Slots) (tree : TableState) (t : WholeState) (id
 
         -- the slot is free then
         gone : (h1 : HasPeriods plan s tree (turned_to t id k k.period (slot_word s (slot_of c)) (free_word reading))) → (slot : ℕ) → slot ≤ s.last
-            → get_or W (slot_word s slot) 0 % 8 ≢ 7 → h1.lie slot ≡ c → ⊥
+            → get_or W (slot_word s slot) 0 % 8 ≢ 0 → h1.lie slot ≡ c → ⊥
         gone h1 slot low used lies =
             let at : slot ≡ slot_of c = sym (h1.tied.own slot low) ∙ ap slot_of lies in
             used (ap (λ x. get_or W (slot_word s x) 0 % 8) at ∙ (ap (λ n. n % 8) (get_or-set_same t.words (slot_word s (slot_of c)) (free_word reading) 0 (let low_slot = inside in omega arith)) ∙ omega arith))
 
     -- or that was free already, or had another card
-    stays_so : found ≢ 8 * turn_of c → GoesTo plan s tree t h (turned_to t id k (after_freeing k.period) (slot_word s (slot_of c)) found)
+    stays_so : found ≢ taken_word (turn_of c) → GoesTo plan s tree t h (turned_to t id k (after_freeing k.period) (slot_word s (slot_of c)) found)
     stays_so other =
         let first = stays plan s tree t id k here h size (slot_word s (slot_of c)) (let low = inside in omega arith) in
         let t1 = turned_to t id k k.period (slot_word s (slot_of c)) found in
@@ -235,24 +235,24 @@ module _ (plan : TablePlan) (s : Slots) (tree : TableState) (t : WholeState) (id
         (λ was slot low used lies. same_not (stands plan s tree t1 id k here1 first.periods c lost_it taken was slot low used lies)) in
         subst (λ l. GoesTo plan s tree t h (record { words = t1.words; homes = t.homes; views = l })) (set_twice t.views id k freed_then) (record { periods = second.periods; leaks = λ was. second.leaks (first.leaks was); searches = λ was. second.searches (first.searches was); takings = λ was. second.takings (first.takings was) })
       where
-        same_not : get_or (set t.words (slot_word s (slot_of c)) found) (slot_word s (slot_of c)) 0 ≡ 8 * turn_of c → ⊥
+        same_not : get_or (set t.words (slot_word s (slot_of c)) found) (slot_word s (slot_of c)) 0 ≡ taken_word (turn_of c) → ⊥
         same_not is = other (sym (word_again t.words (slot_word s (slot_of c)) (let low = inside in omega arith) (slot_word s (slot_of c))) ∙ is)
 
 -- that is a step of the table
 pub frees_aside : (plan : TablePlan) (s : Slots) → plan.slots ≡ Some s → (k : Known) (c reading : ℕ) → k.period.lost ≡ Some c → k.period.slot ≡ Some c
     → (k.period.announced ≢ None → k.period.began ≤ reading) → k.period.stamp ≡ Some (record { card = c; reading = reading })
-    → MayGoOn plan k (slot_word s (slot_of c)) (λ x. either (x == 8 * turn_of c) (free_word reading) x) (λ x p. p ≡ after_freeing k.period)
+    → MayGoOn plan k (slot_word s (slot_of c)) (λ x. either (x == taken_word (turn_of c)) (free_word reading) x) (λ x p. p ≡ after_freeing k.period)
 frees_aside plan s placed k c reading lost_it taken late stamp =
-    goes_on_there plan s placed k (slot_word s (slot_of c)) (λ x. either (x == 8 * turn_of c) (free_word reading) x) (λ x p. p ≡ after_freeing k.period) (λ t. after_freeing k.period)
-    (λ tree t id reached here there h size. (by tree t id reached here there h size (cases_eq (get_or t.words (slot_word s (slot_of c)) 0) (8 * turn_of c)), refl))
+    goes_on_there plan s placed k (slot_word s (slot_of c)) (λ x. either (x == taken_word (turn_of c)) (free_word reading) x) (λ x p. p ≡ after_freeing k.period) (λ t. after_freeing k.period)
+    (λ tree t id reached here there h size. (by tree t id reached here there h size (cases_eq (get_or t.words (slot_word s (slot_of c)) 0) (taken_word (turn_of c))), refl))
   where
     after : (tree : TableState) (t : WholeState) → HasPeriods plan s tree t → (id : ℕ) → Bool → Type 0
     after tree t h id b = GoesTo plan s tree t h (turned_to t id k (after_freeing k.period) (slot_word s (slot_of c)) (either b (free_word reading) (get_or t.words (slot_word s (slot_of c)) 0)))
 
     by : (tree : TableState) (t : WholeState) (id : ℕ) → IsReached plan tree → get_elem? t.views id ≡ some k → get_elem? tree.views id ≡ some k.tree → (h : HasPeriods plan s tree t) → length t.words ≡ slots_size s
-        → (get_or t.words (slot_word s (slot_of c)) 0 ≡ 8 * turn_of c) ⊎ (get_or t.words (slot_word s (slot_of c)) 0 ≢ 8 * turn_of c)
-        → after tree t h id (get_or t.words (slot_word s (slot_of c)) 0 == 8 * turn_of c)
+        → (get_or t.words (slot_word s (slot_of c)) 0 ≡ taken_word (turn_of c)) ⊎ (get_or t.words (slot_word s (slot_of c)) 0 ≢ taken_word (turn_of c))
+        → after tree t h id (get_or t.words (slot_word s (slot_of c)) 0 == taken_word (turn_of c))
     by tree t id reached here there h size (inl is) =
-        subst (after tree t h id) (sym (eq-eqb (get_or t.words (slot_word s (slot_of c)) 0) (8 * turn_of c) is)) (frees_it plan s tree t id k here there h size reached c lost_it taken reading late stamp is)
+        subst (after tree t h id) (sym (eq-eqb (get_or t.words (slot_word s (slot_of c)) 0) (taken_word (turn_of c)) is)) (frees_it plan s tree t id k here there h size reached c lost_it taken reading late stamp is)
     by tree t id reached here there h size (inr other) =
-        subst (after tree t h id) (sym (ne_eqb (get_or t.words (slot_word s (slot_of c)) 0) (8 * turn_of c) other)) (stays_so plan s tree t id k here there h size reached c lost_it taken other)
+        subst (after tree t h id) (sym (ne_eqb (get_or t.words (slot_word s (slot_of c)) 0) (taken_word (turn_of c)) other)) (stays_so plan s tree t id k here there h size reached c lost_it taken other)

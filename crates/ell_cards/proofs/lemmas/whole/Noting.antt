@@ -177,7 +177,7 @@ module _ (plan : TablePlan) (s : Slots) (tree : TableState) (t : WholeState) (id
   word_now c = get_or t.words (slot_word s (slot_of c)) 0
 
   -- in use, it is of the card that lies there
-  lies_now : (c : ℕ) → slot_of c ≤ s.last → word_now c % 8 ≢ 7 → h.lie (slot_of c) ≡ card_by (slot_of c) (word_now c)
+  lies_now : (c : ℕ) → slot_of c ≤ s.last → word_now c % 8 ≢ 0 → h.lie (slot_of c) ≡ card_by (slot_of c) (word_now c)
   lies_now c inside used = h.lies (slot_of c) inside used
 
   -- if by that word none of the nodes is left, they are noted there
@@ -228,7 +228,7 @@ module _ (plan : TablePlan) (s : Slots) (tree : TableState) (t : WholeState) (id
       }
 
   -- a word that stands there instead of one that was read notes more than that, if some are left by it
-  turn_there : (taken_out : Bool) (c n : ℕ) → slot_of c ≤ s.last → word_now c % 8 ≢ 7 → LiesThereStill k.tree taken_out c n → LiesThereStill k.tree taken_out c (word_now c)
+  turn_there : (taken_out : Bool) (c n : ℕ) → slot_of c ≤ s.last → word_now c % 8 ≢ 0 → LiesThereStill k.tree taken_out c n → LiesThereStill k.tree taken_out c (word_now c)
       → h.lie (slot_of c) ≡ card_by (slot_of c) n
   turn_there true c n inside used was now =
       let lies = met_lies plan s tree t h.ages.now.machine h.lie h.dead h.was_dead h.tied id k here there (ready_there plan s tree t h id k here) was.0 was.1 in
@@ -252,12 +252,12 @@ module _ (plan : TablePlan) (s : Slots) (tree : TableState) (t : WholeState) (id
       turn_same : (slot n m : ℕ) → card_by slot n ≡ card_by slot m → turn_in n ≡ turn_in m
       turn_same slot n m is = omega (arith, is)
 
-      kept : (i : ℕ) → is_noted n i ≡ true → h.lie (slot_of c) ≡ card_by (slot_of c) n → word_now c % 8 ≢ 7 → is_noted (word_now c) i ≡ true
+      kept : (i : ℕ) → is_noted n i ≡ true → h.lie (slot_of c) ≡ card_by (slot_of c) n → word_now c % 8 ≢ 0 → is_noted (word_now c) i ≡ true
       kept i was lies used =
           let there = noted_as plan s t.words h.lie (card_by (slot_of c) n) i (few_noted n i was) (h.ages.read id k (record { slot = slot_of c; word = n }) here read note.used i was).1 in
           let at : slot_of (card_by (slot_of c) n) ≡ slot_of c = sym (ap slot_of lies) ∙ h.tied.own (slot_of c) inside in
           subst (λ y. is_noted (get_or t.words (slot_word s y) 0) i ≡ true) at
-          (there (subst (λ y. y ≤ s.last) (sym at) inside) (ap h.lie at ∙ lies) (subst (λ y. get_or t.words (slot_word s y) 0 % 8 ≢ 7) (sym at) used))
+          (there (subst (λ y. y ≤ s.last) (sym at) inside) (ap h.lie at ∙ lies) (subst (λ y. get_or t.words (slot_word s y) 0 % 8 ≢ 0) (sym at) used))
 
   -- the pass reads the word
   pub notes_read : (taken_out : Bool) (c : ℕ) (nodes : CardNodes) → slot_of c ≤ s.last → MayRetire (shown k.tree) taken_out c nodes
@@ -276,7 +276,7 @@ module _ (plan : TablePlan) (s : Slots) (tree : TableState) (t : WholeState) (id
 
   -- and exchanges it for one that notes them too
   pub notes_them : (taken_out : Bool) (c : ℕ) (nodes : CardNodes) (n m : ℕ) → slot_of c ≤ s.last → MayRetire (shown k.tree) taken_out c nodes → MayNote k.tree taken_out c nodes n
-      → NotesToo nodes n m → m % 8 ≢ 7 → word_now c ≡ n
+      → NotesToo nodes n m → m % 8 ≢ 0 → word_now c ≡ n
       → GoesTo plan s tree t h (turned_to t id k (record (k.period) { sought = retires taken_out nodes k.period.sought }) (slot_word s (slot_of c)) m)
   notes_them taken_out c nodes n m inside may note too left is =
       notes_now plan s tree t id k here there h size reached (slot_of c) n m (retires taken_out nodes k.period.sought) inside is too.turn note.used left
@@ -296,7 +296,7 @@ module _ (plan : TablePlan) (s : Slots) (tree : TableState) (t : WholeState) (id
       stands d at = ap (λ y. get_or W (slot_word s y) 0) at ∙ get_or-set_same t.words (slot_word s (slot_of c)) m 0 (omega arith)
 
   -- or it sets the slot free, as they are the last
-  pub notes_last : (taken_out : Bool) (c : ℕ) (nodes : CardNodes) (n reading : ℕ) → slot_of c ≤ s.last → MayRetire (shown k.tree) taken_out c nodes → n % 8 ≢ 7
+  pub notes_last : (taken_out : Bool) (c : ℕ) (nodes : CardNodes) (n reading : ℕ) → slot_of c ≤ s.last → MayRetire (shown k.tree) taken_out c nodes → n % 8 ≢ 0
       → ((i : ℕ) → i < 3 → (is_noted n i ≡ true) ⊎ (has_node nodes i ≡ true)) → (k.period.announced ≢ None → k.period.began ≤ reading) → k.period.stamp ≡ Some (record { card = card_by (slot_of c) n; reading = reading }) → word_now c ≡ n
       → GoesTo plan s tree t h (turned_to t id k (record (k.period) { sought = retires taken_out nodes k.period.sought }) (slot_word s (slot_of c)) (free_word reading))
   notes_last taken_out c nodes n reading inside may used last late stamp is =
@@ -363,7 +363,7 @@ module _ (plan : TablePlan) (s : Slots) (placed : plan.slots ≡ Some s) (taken_
           subst (after tree t h id) (sym (ne_eqb (get_or t.words at 0) n other)) (notes_read plan s tree t id k here there h size reached taken_out c nodes inside may)
 
   -- it exchanges that word for one that notes the nodes too
-  pub notes_nodes : (n m : ℕ) → k.period.read ≡ Some (record { slot = slot_of c; word = n }) → MayNote k.tree taken_out c nodes n → NotesToo nodes n m → m % 8 ≢ 7
+  pub notes_nodes : (n m : ℕ) → k.period.read ≡ Some (record { slot = slot_of c; word = n }) → MayNote k.tree taken_out c nodes n → NotesToo nodes n m → m % 8 ≢ 0
       → MayGoOn plan k at (λ x. either (x == n) m x) (Tells n)
   notes_nodes n m read note too left =
       exchanges n m read note (λ tree t id reached here there h size is. notes_them plan s tree t id k here there h size reached taken_out c nodes n m inside may note too left is)

@@ -20,7 +20,7 @@ use Rattle.ell_cards.specs.Periods.{slots_of, last_for, clock_word, place_word, 
 use Rattle.ell_cards.specs.Aside.{IsAside}
 use Rattle.ell_cards.specs.Ages.{is_beyond, ForgotWhen, AgesAreSound}
 use Rattle.ell_cards.specs.RunLaws.{StartIsKept}
-use Rattle.ell_cards.specs.SlotWords.{slot_of, card_by, free_word, freed_by, is_noted}
+use Rattle.ell_cards.specs.SlotWords.{slot_of, card_by, free_word, freed_by, is_noted, taken_word}
 use Rattle.ell_cards.specs.States.{TableState}
 use Rattle.ell_cards.specs.Starts.{MayStart, SlotsFit, most_places}
 use Rattle.ell_cards.proofs.lemmas.runs.Alive.{start_uses}
@@ -73,10 +73,10 @@ lies_at_home given slot low = by (nat_lt given slot)
     by false = omega (arith, low)
 
 -- a slot's word tells whether it is free
-pub lies_or_free : (given slot : ℕ) → opening_word given slot % 8 ≢ 7 → lies_opened given slot ≡ card_by slot (opening_word given slot)
+pub lies_or_free : (given slot : ℕ) → opening_word given slot % 8 ≢ 0 → lies_opened given slot ≡ card_by slot (opening_word given slot)
 lies_or_free given slot = by (nat_lt given slot)
   where
-    by : (b : Bool) → (if b then free_word 0 else 0) % 8 ≢ 7 → (if b then 4611686018427387904 + slot else slot) ≡ card_by slot (if b then free_word 0 else 0)
+    by : (b : Bool) → (if b then free_word 0 else taken_word 0) % 8 ≢ 0 → (if b then 4611686018427387904 + slot else slot) ≡ card_by slot (if b then free_word 0 else taken_word 0)
     by true used = absurd (used refl)
     by false used = omega arith
 
@@ -84,7 +84,7 @@ lies_or_free given slot = by (nat_lt given slot)
 pub noted_opened : (given slot k : ℕ) → is_noted (opening_word given slot) k ≡ true → greatest_number < (4 * lies_opened given slot + k) / 4
 noted_opened given slot k = by (nat_lt given slot) k
   where
-    by : (b : Bool) (k : ℕ) → is_noted (if b then free_word 0 else 0) k ≡ true → greatest_number < (4 * (if b then 4611686018427387904 + slot else slot) + k) / 4
+    by : (b : Bool) (k : ℕ) → is_noted (if b then free_word 0 else taken_word 0) k ≡ true → greatest_number < (4 * (if b then 4611686018427387904 + slot else slot) + k) / 4
     by true zero is = omega arith
     by true (suc zero) is = omega arith
     by true (suc (suc zero)) is = omega arith
@@ -132,7 +132,7 @@ module _ (s : Slots) (given : ℕ) (cards : List ℕ) (size : length cards ≡ t
       get_or-set_other (set behind (clock_word s) 1) (place_word s 0) i 1 0 no_place
       ∙ get_or-set_other behind (clock_word s) i 1 0 no_clock
 
-  opens_so : (words : List ℕ) → length words ≡ slots_size s → ((slot : ℕ) → slot ≤ given → get_or words (slot_word s slot) 0 ≡ 0)
+  opens_so : (words : List ℕ) → length words ≡ slots_size s → ((slot : ℕ) → slot ≤ given → get_or words (slot_word s slot) 0 ≡ taken_word 0)
       → ((i : ℕ) → ((slot : ℕ) → slot ≤ given → i ≢ slot_word s slot) → get_or words i 0 ≡ get_or placed_words i 0) → AreOpeningWords s given cards words
   opens_so words long used same = record {
     size = long;
@@ -154,8 +154,8 @@ module _ (s : Slots) (given : ℕ) (cards : List ℕ) (size : length cards ≡ t
       by slot inside (inl past) =
           same (slot_word s slot) (λ d low e. omega arith)
           ∙ (other (slot_word s slot) (λ e. omega arith) (λ e. omega arith)
-          ∙ (free_slot slot inside ∙ sym (ap (λ b. if b then free_word 0 else 0) (is_below given slot past))))
-      by slot inside (inr low) = used slot low ∙ sym (ap (λ b. if b then free_word 0 else 0) (not_below given slot low))
+          ∙ (free_slot slot inside ∙ sym (ap (λ b. if b then free_word 0 else taken_word 0) (is_below given slot past))))
+      by slot inside (inr low) = used slot low ∙ sym (ap (λ b. if b then free_word 0 else taken_word 0) (not_below given slot low))
 
 -- a list that was written over all of another one
 written_back : (n : ℕ) (l m : List ℕ) → length l ≤ n → length m ≤ length l → take n (l ++ drop (length l) m) ≡ l
@@ -163,27 +163,27 @@ written_back n l m fits short = ap (λ k. take n (l ++ k)) (drop_all (length l) 
 
 -- the slots below a number are marked as used, and all other words are as they were
 pub record UsedBelow (s : Slots) (n : ℕ) (old words : List ℕ) : Type 0 where
-  pub used : (slot : ℕ) → slot < n → get_or words (slot_word s slot) 0 ≡ 0
+  pub used : (slot : ℕ) → slot < n → get_or words (slot_word s slot) 0 ≡ taken_word 0
   pub same : (i : ℕ) → ((slot : ℕ) → slot < n → i ≢ slot_word s slot) → get_or words i 0 ≡ get_or old i 0
 
 pub used_none : (s : Slots) (words : List ℕ) → UsedBelow s 0 words words
 used_none s words = record { used = λ slot low. omega arith; same = λ i apart. refl }
 
 pub used_more : (s : Slots) (n : ℕ) (old words : List ℕ) → UsedBelow s n old words → slot_word s n < length words
-    → UsedBelow s (n + 1) old (set words (slot_word s n) 0)
+    → UsedBelow s (n + 1) old (set words (slot_word s n) (taken_word 0))
 used_more s n old words h room = record {
   used = λ slot low. elim (cases_eq slot n) [
-    | inl e ↦ subst (λ x. get_or (set words (slot_word s n) 0) (slot_word s x) 0 ≡ 0) (sym e) (get_or-set_same words (slot_word s n) 0 0 room)
-    | inr other ↦ get_or-set_other words (slot_word s n) (slot_word s slot) 0 0 (λ e. other (omega arith)) ∙ h.used slot (omega arith)
+    | inl e ↦ subst (λ x. get_or (set words (slot_word s n) (taken_word 0)) (slot_word s x) 0 ≡ taken_word 0) (sym e) (get_or-set_same words (slot_word s n) (taken_word 0) 0 room)
+    | inr other ↦ get_or-set_other words (slot_word s n) (slot_word s slot) (taken_word 0) 0 (λ e. other (omega arith)) ∙ h.used slot (omega arith)
   ];
   same = λ i apart.
-      get_or-set_other words (slot_word s n) i 0 0 (apart n (omega arith))
+      get_or-set_other words (slot_word s n) i (taken_word 0) 0 (apart n (omega arith))
       ∙ h.same i (λ slot low. apart slot (omega arith));
 }
 
 -- so a table opens where its slots are used that far
 pub opens_used : (o : Option Slots) (s : Slots) (given n : ℕ) (cards free used : List ℕ) → o ≡ Some s → length cards ≡ table_size s.last → free ≡ words_of_free_slots s cards
-    → n ≡ length free → length used ≡ slots_size s → ((slot : ℕ) → slot ≤ given → get_or used (slot_word s slot) 0 ≡ 0)
+    → n ≡ length free → length used ≡ slots_size s → ((slot : ℕ) → slot ≤ given → get_or used (slot_word s slot) 0 ≡ taken_word 0)
     → ((i : ℕ) → ((slot : ℕ) → slot ≤ given → i ≢ slot_word s slot) → get_or used i 0 ≡ get_or free i 0)
     → AreWholeWords o given cards (take n (used ++ drop (length used) free))
 opens_used o s given n cards free used placed size are all long marked same =
@@ -206,7 +206,7 @@ module _ (s : Slots) (given : ℕ) (cards all : List ℕ) (size : length cards �
   free_is_out clock c r = inside (nat_le (slot_of c) s.last) refl
     where
       stamped : (o : Bool) → lies_opened given (slot_of c) ≡ (if o then 4611686018427387904 + slot_of c else slot_of c) → (there : Bool) → (lies_opened given (slot_of c) == c) ≡ there
-          → (if there then freed_by (if o then free_word 0 else 0) else None) ≡ Some r → (r ≤ clock) × (out_opened c ≡ true)
+          → (if there then freed_by (if o then free_word 0 else taken_word 0) else None) ≡ Some r → (r ≤ clock) × (out_opened c ≡ true)
       stamped true lies true here is =
           let same = eqb-true (lies_opened given (slot_of c)) c here in
           let stamp = same_Some 0 r is in

@@ -90,8 +90,8 @@ row_inside s k i = below (slots_before s k.from + i) s.last
 less_takes : (n safe less : ℕ) → less ≤ safe → could_take n safe ≡ false → could_take n less ≡ false
 less_takes n safe less order none = grind (arith, nat_tests)
 
-used_takes : (n safe : ℕ) → n % 8 ≢ 7 → could_take n safe ≡ false
-used_takes n safe used = ap (λ b. b && nat_lt (stamp_in n) safe) (ne_eqb (n % 8) 7 used)
+used_takes : (n safe : ℕ) → n % 8 ≢ 0 → could_take n safe ≡ false
+used_takes n safe used = ap (λ b. b && nat_lt (stamp_in n) safe) (ne_eqb (n % 8) 0 used)
 
 late_takes : (n safe : ℕ) → safe ≤ stamp_in n → could_take n safe ≡ false
 late_takes n safe late = grind (arith, nat_tests)
@@ -153,7 +153,7 @@ module _ (s : Slots) (t : WholeState) (h : SearchesAreSound s t) (id : ℕ) (k :
 
     -- or where one of them becomes another one, which is in use, or has a stamp that is late enough
     pub searches_turned : (slot n : ℕ) → slot ≤ s.last → slot_word s slot < length t.words → words ≡ set t.words (slot_word s slot) n
-        → (n % 8 ≢ 7) ⊎ ((j : ℕ) (u : Known) → get_elem? t.views j ≡ some u → u.period.sought.safe ≤ stamp_in n) → SearchesAreSound s after
+        → (n % 8 ≢ 0) ⊎ ((j : ℕ) (u : Known) → get_elem? t.views j ≡ some u → u.period.sought.safe ≤ stamp_in n) → SearchesAreSound s after
     searches_turned slot n inside room is turned = searches_stay (λ other low j u at none. elim (cases_eq other slot) [
       | inl e ↦ subst (λ m. could_take m u.period.sought.safe ≡ false) (sym (here_now other e)) (by j u at)
       | inr apart ↦ subst (λ m. could_take m u.period.sought.safe ≡ false) (sym (there_still other low apart)) none

@@ -14,7 +14,7 @@ use Rattle.ell_cards.specs.declared.view.Period.{Period}
 use Rattle.ell_cards.specs.declared.view.Seek.{Seek}
 use Rattle.ell_cards.specs.declared.view.Slots.{Slots}
 use Rattle.ell_cards.specs.Periods.{WholeState, clock_word, place_word, slot_word, slots_size, stamp_at, pending_by, period_in, word_at_place, announced_by, place_says, last_reading, after_read, after_stamp, after_taking, LieInSlots, HasPlace, own, spare, StandsAs, PeriodHolds, PeriodsAreSound, grace_of}
-use Rattle.ell_cards.specs.SlotWords.{slot_of, turn_of, turn_in, stamp_in, free_word, card_by, freed_by}
+use Rattle.ell_cards.specs.SlotWords.{slot_of, turn_of, turn_in, stamp_in, free_word, card_by, freed_by, taken_word}
 use Rattle.ell_cards.proofs.lemmas.whole.Seats.{before_slots, clock_before_slots, stamp_by, stamps_same, period_was, part_put, part_same, holds_on}
 use Rattle.ell_cards.proofs.lemmas.whole.Steps.{word_again, announced_again, periods_after}
 use Rattle.ell_cards.proofs.lemmas.whole.Trees.{grace_same}
@@ -23,17 +23,17 @@ use Rattle.ell_cards.proofs.lemmas.whole.Trees.{grace_same}
 pub free_stamp : (reading : ℕ) → stamp_in (free_word reading) ≡ reading
 free_stamp reading = omega arith
 
-pub free_bits : (reading : ℕ) → free_word reading % 8 ≡ 7
+pub free_bits : (reading : ℕ) → free_word reading % 8 ≡ 0
 free_bits reading = omega arith
 
 pub free_fits : (reading : ℕ) → reading ≤ last_reading → free_word reading < 2 ^ 64
 free_fits reading past = omega arith
 
 -- and the word of a slot that was taken has its turn, and no bit
-pub taken_turn : (turn : ℕ) → turn_in (8 * turn) ≡ turn
+pub taken_turn : (turn : ℕ) → turn_in (taken_word turn) ≡ turn
 taken_turn turn = omega arith
 
-pub taken_bits : (turn : ℕ) → 8 * turn % 8 ≢ 7
+pub taken_bits : (turn : ℕ) → taken_word turn % 8 ≢ 0
 taken_bits turn e = omega arith
 
 -- a card lies in its slot
@@ -41,11 +41,11 @@ pub card_lies : (slot n : ℕ) → slot < 67108864 → slot_of (card_by slot n) 
 card_lies slot n low = omega arith
 
 -- a word sets its slot free if it has all bits, and else not
-pub freed_with : (n : ℕ) → n % 8 ≡ 7 → freed_by n ≡ Some (stamp_in n)
-freed_with n full = ap (λ b. if b then Some (stamp_in n) else None) (eq-eqb (n % 8) 7 full)
+pub freed_with : (n : ℕ) → n % 8 ≡ 0 → freed_by n ≡ Some (stamp_in n)
+freed_with n full = ap (λ b. if b then Some (stamp_in n) else None) (eq-eqb (n % 8) 0 full)
 
-pub not_freed : (n : ℕ) → n % 8 ≢ 7 → freed_by n ≡ None
-not_freed n some_bit = ap (λ b. if b then Some (stamp_in n) else None) (ne_eqb (n % 8) 7 some_bit)
+pub not_freed : (n : ℕ) → n % 8 ≢ 0 → freed_by n ≡ None
+not_freed n some_bit = ap (λ b. if b then Some (stamp_in n) else None) (ne_eqb (n % 8) 0 some_bit)
 
 -- the stamp of a card by which one lies in its slot, and by the word of that
 abbrev stamp_in_slot : ℕ → ℕ → ℕ → Option ℕ
@@ -58,7 +58,7 @@ stamp_lies there n c lies = ap (λ b. if b then freed_by n else None) (eq-eqb th
 stamp_gone : (there n c : ℕ) → there ≢ c → stamp_in_slot there n c ≡ None
 stamp_gone there n c other = ap (λ b. if b then freed_by n else None) (ne_eqb there c other)
 
-no_stamp : (there n c : ℕ) → n % 8 ≢ 7 → stamp_in_slot there n c ≡ None
+no_stamp : (there n c : ℕ) → n % 8 ≢ 0 → stamp_in_slot there n c ≡ None
 no_stamp there n c some_bit = none (there == c)
   where
     none : (b : Bool) → (if b then freed_by n else None) ≡ None
@@ -217,7 +217,7 @@ module _ (s : Slots) (t : WholeState) (id : ℕ) (k : Known) (here : get_elem? t
       stamp_was c lies = stamp_there s lie t.words c slot found inside lies refl
 
     -- a word that sets nothing free becomes one that does not either
-    pub slot_noted : (sought : Seek) (n' : ℕ) → get_or t.words (slot_word s slot) 0 % 8 ≢ 7 → n' % 8 ≢ 7
+    pub slot_noted : (sought : Seek) (n' : ℕ) → get_or t.words (slot_word s slot) 0 % 8 ≢ 0 → n' % 8 ≢ 0
         → PeriodsAreSound s (record { words = set t.words (slot_word s slot) n'; homes = t.homes; views = set t.views id (record { tree = k.tree; period = record (k.period) { sought = sought } }) }) lie dead began was_dead
     slot_noted sought n' some_bit some_bit' =
         slots_after s t id k here lie dead began was_dead h (turned n') (record (k.period) { sought = sought })
@@ -268,7 +268,7 @@ module _ (s : Slots) (t : WholeState) (id : ℕ) (k : Known) (here : get_elem? t
         ]
 
     -- a slot that was set free, with a stamp below the safe number of the pass
-    module _ (home : slot_of (lie slot) ≡ slot) (full : get_or t.words (slot_word s slot) 0 % 8 ≡ 7) (past : stamp_in (get_or t.words (slot_word s slot) 0) < k.period.safe) where
+    module _ (home : slot_of (lie slot) ≡ slot) (full : get_or t.words (slot_word s slot) 0 % 8 ≡ 0) (past : stamp_in (get_or t.words (slot_word s slot) 0) < k.period.safe) where
       abbrev card : ℕ
       card = lie slot
 
@@ -300,7 +300,7 @@ module _ (s : Slots) (t : WholeState) (id : ℕ) (k : Known) (here : get_elem? t
 
       -- the pass takes it, for another card there
       pub slot_taken : (turn next : ℕ) → slot_of next ≡ slot
-          → PeriodsAreSound s (record { words = set t.words (slot_word s slot) (8 * turn); homes = t.homes; views = set t.views id (record { tree = k.tree; period = after_taking next k.period }) }) (put lie slot next) dead began was_dead
+          → PeriodsAreSound s (record { words = set t.words (slot_word s slot) (taken_word turn); homes = t.homes; views = set t.views id (record { tree = k.tree; period = after_taking next k.period }) }) (put lie slot next) dead began was_dead
       slot_taken turn next at =
           slots_after s t id k here lie dead began was_dead h (turned n') (after_taking next k.period)
           (record { place = refl; other = refl; other_says = refl; announced = refl }) refl (h.each id k here).reading (h.each id k here).surveyed refl refl refl refl (turned_clock n') (turned_place n')
@@ -310,7 +310,7 @@ module _ (s : Slots) (t : WholeState) (id : ℕ) (k : Known) (here : get_elem? t
           stamp
         where
           n' : ℕ
-          n' = 8 * turn
+          n' = taken_word turn
 
           lie' : ℕ → ℕ
           lie' = put lie slot next
@@ -335,11 +335,11 @@ module _ (s : Slots) (t : WholeState) (id : ℕ) (k : Known) (here : get_elem? t
 -- which cards lie in slots, where the word of one becomes another one
 module _ (s : Slots) (lie : ℕ → ℕ) (words : List ℕ) (lies : LieInSlots s words lie) (slot : ℕ) (room : slot_word s slot < length words) where
   lie_turned : (n : ℕ) (lie' : ℕ → ℕ) → ((other : ℕ) → other ≢ slot → lie' other ≡ lie other)
-      → (slot ≤ s.last → n % 8 ≢ 7 → lie' slot ≡ card_by slot n) → LieInSlots s (set words (slot_word s slot) n) lie'
+      → (slot ≤ s.last → n % 8 ≢ 0 → lie' slot ≡ card_by slot n) → LieInSlots s (set words (slot_word s slot) n) lie'
   lie_turned n lie' stay used other inside = elim (cases_eq other slot) [
-    | inl e ↦ subst (λ x. get_or turned (slot_word s x) 0 % 8 ≢ 7 → lie' x ≡ card_by x (get_or turned (slot_word s x) 0)) (sym e)
-        (subst (λ m. m % 8 ≢ 7 → lie' slot ≡ card_by slot m) (sym here) (used (subst (λ x. x ≤ s.last) e inside)))
-    | inr apart ↦ subst (λ m. m % 8 ≢ 7 → lie' other ≡ card_by other m) (sym (stays apart)) (λ taken. stay other apart ∙ lies other inside taken)
+    | inl e ↦ subst (λ x. get_or turned (slot_word s x) 0 % 8 ≢ 0 → lie' x ≡ card_by x (get_or turned (slot_word s x) 0)) (sym e)
+        (subst (λ m. m % 8 ≢ 0 → lie' slot ≡ card_by slot m) (sym here) (used (subst (λ x. x ≤ s.last) e inside)))
+    | inr apart ↦ subst (λ m. m % 8 ≢ 0 → lie' other ≡ card_by other m) (sym (stays apart)) (λ taken. stay other apart ∙ lies other inside taken)
   ]
     where
       turned : List ℕ
@@ -356,12 +356,12 @@ module _ (s : Slots) (lie : ℕ → ℕ) (words : List ℕ) (lies : LieInSlots s
   lie_freed reading = lie_turned (free_word reading) lie (λ other apart. refl) (λ inside taken. absurd (taken (free_bits reading)))
 
   -- it is of the same turn
-  pub lie_noted : (n : ℕ) → get_or words (slot_word s slot) 0 % 8 ≢ 7 → turn_in n ≡ turn_in (get_or words (slot_word s slot) 0) → LieInSlots s (set words (slot_word s slot) n) lie
+  pub lie_noted : (n : ℕ) → get_or words (slot_word s slot) 0 % 8 ≢ 0 → turn_in n ≡ turn_in (get_or words (slot_word s slot) 0) → LieInSlots s (set words (slot_word s slot) n) lie
   lie_noted n taken turn =
       lie_turned n lie (λ other apart. refl) (λ inside still. lies slot inside taken ∙ ap (λ x. 67108864 * x + slot) (sym turn))
 
   -- another card takes the slot
-  pub lie_taken : (c : ℕ) → slot_of c ≡ slot → LieInSlots s (set words (slot_word s slot) (8 * turn_of c)) (put lie slot c)
+  pub lie_taken : (c : ℕ) → slot_of c ≡ slot → LieInSlots s (set words (slot_word s slot) (taken_word (turn_of c))) (put lie slot c)
   lie_taken c at =
-      lie_turned (8 * turn_of c) (put lie slot c) (λ other apart. put_other lie slot c other apart)
+      lie_turned (taken_word (turn_of c)) (put lie slot c) (λ other apart. put_other lie slot c other apart)
       (λ inside taken. put_same lie slot c ∙ (let turn = taken_turn (turn_of c) in omega arith))

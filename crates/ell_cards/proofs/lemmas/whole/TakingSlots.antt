@@ -14,7 +14,7 @@ use Rattle.ell_cards.specs.Ages.{IsOut, IsNotedThere, AreRetired, HasPeriods}
 use Rattle.ell_cards.specs.Models.{TablePlan}
 use Rattle.ell_cards.specs.Periods.{WholeState, slot_word, slots_size, after_missing, after_own, after_read, after_taking, clock_word, pending_by, period_of}
 use Rattle.ell_cards.specs.Seeking.{could_take, missed_one, found_again}
-use Rattle.ell_cards.specs.SlotWords.{has_slot_in, slot_of, turn_of, stamp_in}
+use Rattle.ell_cards.specs.SlotWords.{has_slot_in, slot_of, turn_of, stamp_in, taken_word}
 use Rattle.ell_cards.specs.Starts.{IsReached}
 use Rattle.ell_cards.specs.States.{TableState}
 use Rattle.ell_cards.specs.Stepping.{MayGoOn}
@@ -90,10 +90,10 @@ module _ (plan : TablePlan) (s : Slots) (tree : TableState) (t : WholeState) (id
       few_misses s t.words takings.taken (after_missing c found k.period) (missed_now takings.taken m (other takings.taken m))
 
   -- it takes the slot, if that was set free with a stamp below the pass's safe number
-  pub takes_now : k.period.lost ≡ None → s.last < 67108864 → (n : ℕ) → get_or t.words (slot_word s (slot_of c)) 0 ≡ n → n % 8 ≡ 7 → stamp_in n < k.period.safe
-      → GoesTo plan s tree t h (turned_to t id k (after_taking c k.period) (slot_word s (slot_of c)) (8 * turn_of c))
+  pub takes_now : k.period.lost ≡ None → s.last < 67108864 → (n : ℕ) → get_or t.words (slot_word s (slot_of c)) 0 ≡ n → n % 8 ≡ 0 → stamp_in n < k.period.safe
+      → GoesTo plan s tree t h (turned_to t id k (after_taking c k.period) (slot_word s (slot_of c)) (taken_word (turn_of c)))
   takes_now unlost low n is free safe =
-      let full : found % 8 ≡ 7 = ap (λ m. m % 8) is ∙ free in
+      let full : found % 8 ≡ 0 = ap (λ m. m % 8) is ∙ free in
       let past : stamp_in found < k.period.safe = subst (λ m. stamp_in m < k.period.safe) (sym is) safe in
       let own = h.tied.own (slot_of c) inside in
       let it = take_goes plan s tree t h.lie h.dead h.was_dead low size (record { ages = h.ages; tied = h.tied }) same id k here c hand numbered
@@ -111,11 +111,11 @@ module _ (plan : TablePlan) (s : Slots) (tree : TableState) (t : WholeState) (id
           retired = it.retired h.retired;
         };
         leaks = it.leaks unlost;
-        searches = λ was. searches_turned s t was id k here (record { tree = k.tree; period = after_taking c k.period }) (set t.words (slot_word s (slot_of c)) (8 * turn_of c)) t.homes
-            (let same = get_or-set_other t.words (slot_word s (slot_of c)) (clock_word s) (8 * turn_of c) 0 (λ e. (let behind_clock = clock_before_slots s (slot_of c) in omega arith)) in omega arith)
-            refl (λ a an. (an, refl)) (slot_of c) (8 * turn_of c) inside (omega arith) refl (inl (taken_bits (turn_of c)));
-        takings = λ was. takings_taken s t h.lie was id k here (record { tree = k.tree; period = after_taking c k.period }) t.homes (slot_of c) (8 * turn_of c) c inside (omega arith)
-            (get_or-set_other t.words (slot_word s (slot_of c)) (clock_word s) (8 * turn_of c) 0 (λ e. (let behind_clock = clock_before_slots s (slot_of c) in omega arith)))
+        searches = λ was. searches_turned s t was id k here (record { tree = k.tree; period = after_taking c k.period }) (set t.words (slot_word s (slot_of c)) (taken_word (turn_of c))) t.homes
+            (let same = get_or-set_other t.words (slot_word s (slot_of c)) (clock_word s) (taken_word (turn_of c)) 0 (λ e. (let behind_clock = clock_before_slots s (slot_of c) in omega arith)) in omega arith)
+            refl (λ a an. (an, refl)) (slot_of c) (taken_word (turn_of c)) inside (omega arith) refl (inl (taken_bits (turn_of c)));
+        takings = λ was. takings_taken s t h.lie was id k here (record { tree = k.tree; period = after_taking c k.period }) t.homes (slot_of c) (taken_word (turn_of c)) c inside (omega arith)
+            (get_or-set_other t.words (slot_word s (slot_of c)) (clock_word s) (taken_word (turn_of c)) 0 (λ e. (let behind_clock = clock_before_slots s (slot_of c) in omega arith)))
             (taken_bits (turn_of c)) fresh late refl refl refl;
       }
     where
@@ -154,11 +154,11 @@ module _ (plan : TablePlan) (s : Slots) (placed : plan.slots ≡ Some s) (k : Kn
       ))
 
   -- it takes the slot, if the word is as it was
-  pub takes_slot : k.period.lost ≡ None → s.last < 67108864 → (n : ℕ) → n % 8 ≡ 7 → stamp_in n < k.period.safe
+  pub takes_slot : k.period.lost ≡ None → s.last < 67108864 → (n : ℕ) → n % 8 ≡ 0 → stamp_in n < k.period.safe
       → ((r : SlotRead) → k.period.sought.found ≡ Some r → r.slot ≡ slot_of c → r.word ≡ n)
-      → MayGoOn plan k (slot_word s (slot_of c)) (λ m. either (m == n) (8 * turn_of c) m) (λ m p. (p ≡ (if m == n then after_taking c k.period else after_missing c m k.period)) × ((m == n) ≡ false → FewMissed p))
+      → MayGoOn plan k (slot_word s (slot_of c)) (λ m. either (m == n) (taken_word (turn_of c)) m) (λ m p. (p ≡ (if m == n then after_taking c k.period else after_missing c m k.period)) × ((m == n) ≡ false → FewMissed p))
   takes_slot unlost low n free safe found =
-      goes_on_counted plan s placed k (slot_word s (slot_of c)) (λ m. either (m == n) (8 * turn_of c) m) (λ m p. (p ≡ (if m == n then after_taking c k.period else after_missing c m k.period)) × ((m == n) ≡ false → FewMissed p))
+      goes_on_counted plan s placed k (slot_word s (slot_of c)) (λ m. either (m == n) (taken_word (turn_of c)) m) (λ m p. (p ≡ (if m == n then after_taking c k.period else after_missing c m k.period)) × ((m == n) ≡ false → FewMissed p))
       (λ t. if get_or t.words (slot_word s (slot_of c)) 0 == n then after_taking c k.period else after_missing c (get_or t.words (slot_word s (slot_of c)) 0) k.period)
       (λ tree t id reached here same h size. (
         by tree t id reached here same h size (cases_eq (get_or t.words (slot_word s (slot_of c)) 0) n),
@@ -174,12 +174,12 @@ module _ (plan : TablePlan) (s : Slots) (placed : plan.slots ≡ Some s) (k : Kn
       another t other r is at same = other (ap (λ x. get_or t.words (slot_word s x) 0) (sym at) ∙ (same ∙ found r is at))
 
       after : (t : WholeState) (tree : TableState) → HasPeriods plan s tree t → ℕ → ℕ → Bool → Type 0
-      after t tree h id m b = GoesTo plan s tree t h (turned_to t id k (if b then after_taking c k.period else after_missing c m k.period) (slot_word s (slot_of c)) (either b (8 * turn_of c) m))
+      after t tree h id m b = GoesTo plan s tree t h (turned_to t id k (if b then after_taking c k.period else after_missing c m k.period) (slot_word s (slot_of c)) (either b (taken_word (turn_of c)) m))
 
       by : (tree : TableState) (t : WholeState) (id : ℕ) → IsReached plan tree → get_elem? t.views id ≡ some k → trees_of t.views ≡ tree.views → (h : HasPeriods plan s tree t) → length t.words ≡ slots_size s
           → (get_or t.words (slot_word s (slot_of c)) 0 ≡ n) ⊎ (get_or t.words (slot_word s (slot_of c)) 0 ≢ n)
           → GoesTo plan s tree t h (turned_to t id k (if get_or t.words (slot_word s (slot_of c)) 0 == n then after_taking c k.period else after_missing c (get_or t.words (slot_word s (slot_of c)) 0) k.period) (slot_word s (slot_of c))
-          (either (get_or t.words (slot_word s (slot_of c)) 0 == n) (8 * turn_of c) (get_or t.words (slot_word s (slot_of c)) 0)))
+          (either (get_or t.words (slot_word s (slot_of c)) 0 == n) (taken_word (turn_of c)) (get_or t.words (slot_word s (slot_of c)) 0)))
       by tree t id reached here same h size (inl is) =
           subst (after t tree h id (get_or t.words (slot_word s (slot_of c)) 0)) (sym (eq-eqb (get_or t.words (slot_word s (slot_of c)) 0) n is))
           (takes_now plan s tree t id k here same h size c hand inside numbered reached unlost low n is free safe)
@@ -204,14 +204,14 @@ module _ (plan : TablePlan) (s : Slots) (placed : plan.slots ≡ Some s) (k : Kn
       let x = may id t h homes here small in
       (x.0, x.1, x.2, x.3, ((λ d has. x.4.0.0 ∙ ap (λ e. after_own e (get_or t.words word 0) k.period) (one d has), λ none. few_in x.0.period (x.4.0.1 none)), x.4.1, x.4.2))
 
-  pub takes_any : k.period.lost ≡ None → s.last < 67108864 → (n word turn : ℕ) → n % 8 ≡ 7 → stamp_in n < k.period.safe
+  pub takes_any : k.period.lost ≡ None → s.last < 67108864 → (n word turn : ℕ) → n % 8 ≡ 0 → stamp_in n < k.period.safe
       → ((r : SlotRead) → k.period.sought.found ≡ Some r → r.slot ≡ slot_of c → r.word ≡ n) → word ≡ slot_word s (slot_of c) → turn ≡ turn_of c
-      → MayGoOn plan k word (λ m. either (m == n) (8 * turn) m)
+      → MayGoOn plan k word (λ m. either (m == n) (taken_word turn) m)
       (λ m p. ((d : ℕ) → k.tree.worker.card ≡ Some d → p ≡ (if m == n then after_taking d k.period else after_missing d m k.period))
       × ((m == n) ≡ false → (o : Slots) → plan.slots ≡ Some o → p.sought.missed ≤ o.last + 1))
   takes_any unlost low n word turn free safe found is at id t h homes here small =
-      let may = subst (λ i. MayGoOn plan k i (λ m. either (m == n) (8 * turn) m) (λ m p. (p ≡ (if m == n then after_taking c k.period else after_missing c m k.period)) × ((m == n) ≡ false → FewMissed p))) (sym is)
-      (subst (λ u. MayGoOn plan k (slot_word s (slot_of c)) (λ m. either (m == n) (8 * u) m) (λ m p. (p ≡ (if m == n then after_taking c k.period else after_missing c m k.period)) × ((m == n) ≡ false → FewMissed p))) (sym at)
+      let may = subst (λ i. MayGoOn plan k i (λ m. either (m == n) (taken_word turn) m) (λ m p. (p ≡ (if m == n then after_taking c k.period else after_missing c m k.period)) × ((m == n) ≡ false → FewMissed p))) (sym is)
+      (subst (λ u. MayGoOn plan k (slot_word s (slot_of c)) (λ m. either (m == n) (taken_word u) m) (λ m p. (p ≡ (if m == n then after_taking c k.period else after_missing c m k.period)) × ((m == n) ≡ false → FewMissed p))) (sym at)
       (takes_slot unlost low n free safe found)) in
       let x = may id t h homes here small in
       (x.0, x.1, x.2, x.3, ((λ d has. x.4.0.0 ∙ ap (λ e. if get_or t.words word 0 == n then after_taking e k.period else after_missing e (get_or t.words word 0) k.period) (one d has), λ other. few_in x.0.period (x.4.0.1 other)), x.4.1, x.4.2))

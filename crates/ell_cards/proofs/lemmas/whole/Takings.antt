@@ -61,15 +61,25 @@ all_at_most P (suc n) = let rest = all_at_most P n in let here = by (P n) in ome
     by true = omega arith
     by false = omega arith
 
+late_at : (a m c : ℕ) → m ≡ c → a ≤ c → nat_le a m ≡ true
+late_at a m c e low = grind (arith, nat_tests)
+
+not_late : (a b : ℕ) → b < a → nat_le a b ≡ false
+not_late a b less = grind (arith, nat_tests)
+
+-- what is no later than one number is no later than a greater one
+not_later : (a b c : ℕ) → b ≤ c → nat_le a b ≡ true → nat_le a c ≡ true
+not_later a b c more is = grind (arith, nat_tests)
+
 -- a slot that could be taken is free, with a stamp below the safe number
-could_free : (n safe : ℕ) → could_take n safe ≡ true → (n % 8 ≡ 7) × (stamp_in n < safe)
+could_free : (n safe : ℕ) → could_take n safe ≡ true → (n % 8 ≡ 0) × (stamp_in n < safe)
 could_free n safe h = (grind (arith, nat_tests), grind (arith, nat_tests))
 
 could_later : (n safe more : ℕ) → safe ≤ more → could_take n safe ≡ true → could_take n more ≡ true
 could_later n safe more low h = grind (arith, nat_tests)
 
 -- Where words became other ones, by which each slot that was free is as it was.
-module _ (s : Slots) (old words : List ℕ) (taken : ℕ → ℕ) (stays : (slot : ℕ) → slot ≤ s.last → get_or old (slot_word s slot) 0 % 8 ≡ 7 → get_or words (slot_word s slot) 0 ≡ get_or old (slot_word s slot) 0) where
+module _ (s : Slots) (old words : List ℕ) (taken : ℕ → ℕ) (stays : (slot : ℕ) → slot ≤ s.last → get_or old (slot_word s slot) 0 % 8 ≡ 0 → get_or words (slot_word s slot) 0 ≡ get_or old (slot_word s slot) 0) where
   -- so it is of what a pass has missed and found, if its safe number is no less
   pub misses_still : (p q : Period) → q.sought.missed ≡ p.sought.missed → q.sought.found ≡ p.sought.found → q.began ≡ p.began → p.safe ≤ q.safe
       → MissesWereTaken s old taken p → MissesWereTaken s words taken q
@@ -89,14 +99,14 @@ module _ (s : Slots) (old words : List ℕ) (taken : ℕ → ℕ) (stays : (slot
 module _ (s : Slots) (t : WholeState) (lie : ℕ → ℕ) (h : TakingsAreSound s t lie) (id : ℕ) (k : Known) (here : get_elem? t.views id ≡ some k) (now : Known) (words : List ℕ) (homes : List (Maybe (Unit {0})))
     (past : get_or t.words (clock_word s) 0 ≤ get_or words (clock_word s) 0) where
   -- where each slot that was free is as it was, and one that becomes free has a stamp that is late enough
-  module _ (stays : (slot : ℕ) → slot ≤ s.last → get_or t.words (slot_word s slot) 0 % 8 ≡ 7 → get_or words (slot_word s slot) 0 ≡ get_or t.words (slot_word s slot) 0)
-      (freed : (slot : ℕ) → slot ≤ s.last → get_or words (slot_word s slot) 0 % 8 ≡ 7 → (get_or t.words (slot_word s slot) 0 % 8 ≡ 7) ⊎ (h.taken slot ≤ stamp_in (get_or words (slot_word s slot) 0))) where
-    in_use : (slot : ℕ) → slot ≤ s.last → get_or words (slot_word s slot) 0 % 8 ≢ 7 → get_or t.words (slot_word s slot) 0 % 8 ≢ 7
+  module _ (stays : (slot : ℕ) → slot ≤ s.last → get_or t.words (slot_word s slot) 0 % 8 ≡ 0 → get_or words (slot_word s slot) 0 ≡ get_or t.words (slot_word s slot) 0)
+      (freed : (slot : ℕ) → slot ≤ s.last → get_or words (slot_word s slot) 0 % 8 ≡ 0 → (get_or t.words (slot_word s slot) 0 % 8 ≡ 0) ⊎ (h.taken slot ≤ stamp_in (get_or words (slot_word s slot) 0))) where
+    in_use : (slot : ℕ) → slot ≤ s.last → get_or words (slot_word s slot) 0 % 8 ≢ 0 → get_or t.words (slot_word s slot) 0 % 8 ≢ 0
     in_use slot inside used full = used (ap (λ n. n % 8) (stays slot inside full) ∙ full)
 
     -- the cards that a pass was about to set free
     pending_still : (j : ℕ) (u : Known) → get_elem? t.views j ≡ some u → (c reading : ℕ) → u.period.stamp ≡ Some (record { card = c; reading = reading }) → slot_of c ≤ s.last
-        → get_or words (slot_word s (slot_of c)) 0 % 8 ≢ 7 → lie (slot_of c) ≡ c → h.taken (slot_of c) ≤ reading
+        → get_or words (slot_word s (slot_of c)) 0 % 8 ≢ 0 → lie (slot_of c) ≡ c → h.taken (slot_of c) ≤ reading
     pending_still j u at c reading is inside used lies = h.pending j c reading u at is inside (in_use (slot_of c) inside used) lies
 
     pub takings_on : ((c reading : ℕ) → now.period.stamp ≡ Some (record { card = c; reading = reading }) → (k.period.stamp ≡ Some (record { card = c; reading = reading })) ⊎ (reading ≡ get_or t.words (clock_word s) 0))
@@ -119,7 +129,7 @@ module _ (s : Slots) (t : WholeState) (lie : ℕ → ℕ) (h : TakingsAreSound s
           (at_set t.views id j now u at);
     }
       where
-        own : (c reading : ℕ) → now.period.stamp ≡ Some (record { card = c; reading = reading }) → slot_of c ≤ s.last → get_or words (slot_word s (slot_of c)) 0 % 8 ≢ 7 → lie (slot_of c) ≡ c
+        own : (c reading : ℕ) → now.period.stamp ≡ Some (record { card = c; reading = reading }) → slot_of c ≤ s.last → get_or words (slot_word s (slot_of c)) 0 % 8 ≢ 0 → lie (slot_of c) ≡ c
             → h.taken (slot_of c) ≤ reading
         own c reading is inside used lies = elim (stamps c reading is) [
           | inl was ↦ pending_still id k here c reading was inside used lies
@@ -147,8 +157,8 @@ module _ (s : Slots) (t : WholeState) (lie : ℕ → ℕ) (h : TakingsAreSound s
     takings_same = takings_kept (λ slot inside full. same slot inside) (λ slot inside full. inl (ap (λ n. n % 8) (sym (same slot inside)) ∙ full))
 
   -- where the word of a slot in use becomes another one, which is in use too, or has a stamp that is late enough
-  pub takings_turned : (slot n : ℕ) → slot ≤ s.last → slot_word s slot < length t.words → words ≡ set t.words (slot_word s slot) n → get_or t.words (slot_word s slot) 0 % 8 ≢ 7
-      → (n % 8 ≢ 7) ⊎ (h.taken slot ≤ stamp_in n)
+  pub takings_turned : (slot n : ℕ) → slot ≤ s.last → slot_word s slot < length t.words → words ≡ set t.words (slot_word s slot) n → get_or t.words (slot_word s slot) 0 % 8 ≢ 0
+      → (n % 8 ≢ 0) ⊎ (h.taken slot ≤ stamp_in n)
       → now.period.stamp ≡ k.period.stamp → now.period.sought.missed ≡ k.period.sought.missed → now.period.sought.found ≡ k.period.sought.found → now.period.began ≡ k.period.began
       → k.period.safe ≤ now.period.safe → (now.tree.worker.operation ≢ None → k.tree.worker.operation ≢ None)
       → TakingsAreSound s (record { words = words; homes = homes; views = set t.views id now }) lie
@@ -160,13 +170,13 @@ module _ (s : Slots) (t : WholeState) (lie : ℕ → ℕ) (h : TakingsAreSound s
       there_still : (other : ℕ) → other ≤ s.last → other ≢ slot → get_or words (slot_word s other) 0 ≡ get_or t.words (slot_word s other) 0
       there_still other low apart = ap (λ l. get_or l (slot_word s other) 0) is ∙ get_or-set_other t.words (slot_word s slot) (slot_word s other) n 0 (λ e. apart (omega arith))
 
-      stays : (other : ℕ) → other ≤ s.last → get_or t.words (slot_word s other) 0 % 8 ≡ 7 → get_or words (slot_word s other) 0 ≡ get_or t.words (slot_word s other) 0
+      stays : (other : ℕ) → other ≤ s.last → get_or t.words (slot_word s other) 0 % 8 ≡ 0 → get_or words (slot_word s other) 0 ≡ get_or t.words (slot_word s other) 0
       stays other low full = elim (cases_eq other slot) [
         | inl e ↦ absurd (used (ap (λ x. get_or t.words (slot_word s x) 0 % 8) (sym e) ∙ full))
         | inr apart ↦ there_still other low apart
       ]
 
-      freed : (other : ℕ) → other ≤ s.last → get_or words (slot_word s other) 0 % 8 ≡ 7 → (get_or t.words (slot_word s other) 0 % 8 ≡ 7) ⊎ (h.taken other ≤ stamp_in (get_or words (slot_word s other) 0))
+      freed : (other : ℕ) → other ≤ s.last → get_or words (slot_word s other) 0 % 8 ≡ 0 → (get_or t.words (slot_word s other) 0 % 8 ≡ 0) ⊎ (h.taken other ≤ stamp_in (get_or words (slot_word s other) 0))
       freed other low full = elim (cases_eq other slot) [
         | inl e ↦ elim turned [
           | inl still ↦ absurd (still (ap (λ m. m % 8) (sym (here_now other e)) ∙ full))
@@ -194,7 +204,7 @@ takings_from s t lie h views homes each = record {
 }
   where
     pend : (u : Known) → TakerWas t u → (c reading : ℕ) → u.period.stamp ≡ Some (record { card = c; reading = reading }) → slot_of c ≤ s.last
-        → get_or t.words (slot_word s (slot_of c)) 0 % 8 ≢ 7 → lie (slot_of c) ≡ c → h.taken (slot_of c) ≤ reading
+        → get_or t.words (slot_word s (slot_of c)) 0 % 8 ≢ 0 → lie (slot_of c) ≡ c → h.taken (slot_of c) ≤ reading
     pend u (same_one i k at same) c reading is inside used lies = h.pending i c reading k at (ap (λ (x : Known). x.period.stamp) same ∙ is) inside used lies
     pend u (rests_now i k at stamp free) c reading is inside used lies = h.pending i c reading k at (sym stamp ∙ is) inside used lies
     pend u (nothing_known empty free) c reading is inside used lies = absurd (some_not_none is empty)
@@ -217,7 +227,7 @@ takings_opened s t lie each = record {
 -- A pass takes a slot that is free with a stamp below its safe number, for a card that no pass is about to set free.
 module _ (s : Slots) (t : WholeState) (lie : ℕ → ℕ) (h : TakingsAreSound s t lie) (id : ℕ) (k : Known) (here : get_elem? t.views id ≡ some k) (now : Known) (homes : List (Maybe (Unit {0})))
     (slot n c : ℕ) (inside : slot ≤ s.last) (room : slot_word s slot < length t.words) (clock_apart : get_or (set t.words (slot_word s slot) n) (clock_word s) 0 ≡ get_or t.words (clock_word s) 0)
-    (used : n % 8 ≢ 7) (fresh : (j reading : ℕ) (u : Known) → get_elem? t.views j ≡ some u → u.period.stamp ≡ Some (record { card = c; reading = reading }) → ⊥)
+    (used : n % 8 ≢ 0) (fresh : (j reading : ℕ) (u : Known) → get_elem? t.views j ≡ some u → u.period.stamp ≡ Some (record { card = c; reading = reading }) → ⊥)
     (late : (j : ℕ) (u : Known) → get_elem? t.views j ≡ some u → u.tree.worker.operation ≢ None → (u.period.safe ≤ u.period.began) × (u.period.began ≤ get_or t.words (clock_word s) 0)) where
   abbrev words : List ℕ
   words = set t.words (slot_word s slot) n
@@ -249,17 +259,17 @@ module _ (s : Slots) (t : WholeState) (lie : ℕ → ℕ) (h : TakingsAreSound s
       (λ x low is. later x (taken_later x (omega arith)) is)
     where
       later : (x : ℕ) → h.taken x ≤ taken x → nat_le began (h.taken x) ≡ true → nat_le began (taken x) ≡ true
-      later x more is = grind (arith, nat_tests)
+      later x more is = not_later began (h.taken x) (taken x) more is
 
   one_since : (began : ℕ) → began ≤ clock → h.taken slot < began → taken_since s h.taken began + 1 ≤ taken_since s taken began
   one_since began low before = one_more_many (λ x. nat_le began (h.taken x)) (λ x. nat_le began (taken x)) (s.last + 1) slot
-      (λ x less is. later x (taken_later x (omega arith)) is) (omega arith) (grind (arith, nat_tests)) (is_late (taken slot) (taken_here slot refl))
+      (λ x less is. later x (taken_later x (omega arith)) is) (omega arith) (not_late began (h.taken slot) before) (is_late (taken slot) (taken_here slot refl))
     where
       later : (x : ℕ) → h.taken x ≤ taken x → nat_le began (h.taken x) ≡ true → nat_le began (taken x) ≡ true
-      later x more is = grind (arith, nat_tests)
+      later x more is = not_later began (h.taken x) (taken x) more is
 
       is_late : (m : ℕ) → m ≡ clock → nat_le began m ≡ true
-      is_late m e = grind (arith, nat_tests)
+      is_late m e = late_at began m clock e low
 
   -- what another pass has missed and found
   misses_then : (j : ℕ) (u : Known) → get_elem? t.views j ≡ some u → u.tree.worker.operation ≢ None → MissesWereTaken s words taken u.period
@@ -318,7 +328,7 @@ module _ (s : Slots) (t : WholeState) (lie : ℕ → ℕ) (h : TakingsAreSound s
   }
     where
       pend : (j : ℕ) (u : Known) → get_elem? t.views j ≡ some u → (d reading : ℕ) → u.period.stamp ≡ Some (record { card = d; reading = reading }) → slot_of d ≤ s.last
-          → get_or words (slot_word s (slot_of d)) 0 % 8 ≢ 7 → lie' (slot_of d) ≡ d → taken (slot_of d) ≤ reading
+          → get_or words (slot_word s (slot_of d)) 0 % 8 ≢ 0 → lie' (slot_of d) ≡ d → taken (slot_of d) ≤ reading
       pend j u at d reading is low live lies = elim (cases_eq (slot_of d) slot) [
         | inl e ↦
             let same : c ≡ d = sym (ap lie' e ∙ put_same lie slot c) ∙ lies in

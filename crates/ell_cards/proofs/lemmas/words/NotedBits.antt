@@ -1,71 +1,112 @@
 -- Which of the three nodes of a card a word notes, and how many.
-use Rattle.std.proofs.Common.{◌≡◌, ◌≢◌, ℕ, zero, suc, ◌+◌, ◌*◌, ◌/◌, ◌%◌, ◌<◌, ◌≤◌, ◌==◌, ◌&&◌, ◌||◌, not, Bool, true, false, inl, inr, ◌⊎◌, refl, sym, ap, ◌∙◌, arith, eq-eqb, eqb-true}
-use Rattle.std.specs.Int.Bits.{bit_or, or_zero_l, or_zero_r}
-use Rattle.std.proofs.lemmas.Nat.{or_shr, or_mod}
+use Rattle.std.proofs.Common.{◌≡◌, ◌≢◌, ℕ, zero, suc, ◌+◌, ◌*◌, ◌-◌, ◌/◌, ◌%◌, ◌↔◌, if◌then◌else◌, ◌<◌, ◌≤◌, ◌==◌, ◌&&◌, ◌||◌, not, Bool, true, false, inl, inr, ◌⊎◌, refl, sym, ap, ◌∙◌, arith, eq-eqb, eqb-true}
 use Rattle.std.proofs.lemmas.Bool.{false≢true}
 use Rattle.std.proofs.lemmas.Bool.Decides.{nat_tests}
 use Rattle.ell_cards.specs.declared.card_nodes.CardNodes.{CardNodes}
-use Rattle.ell_cards.specs.CardNodes.{NotesToo, all_noted, has_node}
+use Rattle.ell_cards.specs.CardNodes.{NotesToo, all_noted, has_node, noting_first, noting_second, noting_third}
 use Rattle.ell_cards.specs.Seeking.{how_many_noted, is_done, one_if}
-use Rattle.ell_cards.specs.SlotWords.{is_noted, turn_in, turn_of}
+use Rattle.ell_cards.specs.SlotWords.{is_noted, taken_word, turn_in, turn_of}
 
--- more nodes are noted, and the turn is as it was
-pub noted_turn : (n m : ℕ) → m < 8 → turn_in (bit_or n m) ≡ turn_in n
-noted_turn n m low =
-    let none : m / 8 ≡ 0 = omega arith in
-    or_shr n m 3 ∙ (ap (bit_or (n / 8)) none ∙ or_zero_r (n / 8))
+-- where a word is to note one node more, or not: its turn is as it was, and so is what it notes of the two others
+both_of : (a b : Bool) → (a && b) ≡ true → (a ≡ true) × (b ≡ true)
+both_of true b is = (refl, is)
+both_of false b is = absurd (false≢true is)
 
--- what is noted then was noted, or is one of these
-or_odd : (n m : ℕ) → bit_or n m % 2 ≡ 1 → (n % 2 ≡ 1) ⊎ (m % 2 ≡ 1)
-or_odd n m odd = by (n % 2) (m % 2) (omega arith) (omega arith) (sym (or_mod n m 1) ∙ odd)
+not_both : (a b : Bool) → (a && b) ≡ false → a ≡ true → b ≡ false
+not_both true b is so = is
+not_both false b is so = absurd (false≢true so)
+
+record NotesOne (too : Bool) (n m k : ℕ) : Type 0 where
+  turn : turn_in m ≡ turn_in n
+  each : (i : ℕ) → (is_noted m i ≡ true) ↔ ((is_noted n i ≡ true) ⊎ ((i ≡ k) × (too ≡ true)))
+
+-- what was noted of another one
+kept_bit : (P Q : Bool) → P ≡ Q → (x : Type 0) → ¬ x → (P ≡ true) ↔ ((Q ≡ true) ⊎ x)
+kept_bit P Q same x none = (λ is. inl (sym same ∙ is), λ is. elim is [ inl was ↦ same ∙ was | inr nay ↦ absurd (none nay) ])
+
+notes_first : (too : Bool) (n : ℕ) → NotesOne too n (noting_first too n) 0
+notes_first too n = by (too && n % 2 == 1) refl
   where
-    by : (x y : ℕ) → x < 2 → y < 2 → bit_or x y ≡ 1 → (x ≡ 1) ⊎ (y ≡ 1)
-    by (suc zero) y x_low y_low one = inl refl
-    by zero y x_low y_low one = inr (sym (or_zero_l y) ∙ one)
-    by (suc (suc x)) y x_low y_low one = absurd (omega arith)
+    by : (c : Bool) → (too && n % 2 == 1) ≡ c → NotesOne too n (if c then n - 1 else n) 0
+    by true e =
+        let so = both_of too (n % 2 == 1) e in
+        let odd = eqb-true (n % 2) 1 so.1 in record {
+          turn = omega arith;
+          each = λ i. at odd so.0 i;
+        }
+      where
+        at : n % 2 ≡ 1 → too ≡ true → (i : ℕ) → (is_noted (n - 1) i ≡ true) ↔ ((is_noted n i ≡ true) ⊎ ((i ≡ 0) × (too ≡ true)))
+        at odd so zero = (λ is. inr (refl, so), λ is. eq-eqb ((n - 1) % 2) 0 (omega arith))
+        at odd so (suc zero) = kept_bit _ _ (ap (λ x. x == 0) (let same : (n - 1) / 2 % 2 ≡ n / 2 % 2 = omega arith in same)) _ (λ nay. absurd (omega arith))
+        at odd so (suc (suc zero)) = kept_bit _ _ (ap (λ x. x == 0) (let same : (n - 1) / 4 % 2 ≡ n / 4 % 2 = omega arith in same)) _ (λ nay. absurd (omega arith))
+        at odd so (suc (suc (suc i))) = kept_bit _ _ refl _ (λ nay. absurd (omega arith))
+    by false e = record {
+      turn = refl;
+      each = λ i. (λ is. inl is, λ is. elim is [ inl was ↦ was | inr one ↦ at (not_both too (n % 2 == 1) e one.1) i one.0 ]);
+    }
+      where
+        at : (n % 2 == 1) ≡ false → (i : ℕ) → i ≡ 0 → is_noted n i ≡ true
+        at other zero is = grind (arith, nat_tests)
+        at other (suc zero) is = absurd (omega arith)
+        at other (suc (suc zero)) is = absurd (omega arith)
+        at other (suc (suc (suc i))) is = absurd (omega arith)
 
-pub noted_or : (n m i : ℕ) → is_noted (bit_or n m) i ≡ true → (is_noted n i ≡ true) ⊎ (is_noted m i ≡ true)
-noted_or n m zero is = elim (or_odd n m (grind (arith, nat_tests))) [
-  | inl was ↦ inl (eq-eqb (n % 2) 1 was)
-  | inr one ↦ inr (eq-eqb (m % 2) 1 one)
-]
-noted_or n m (suc zero) is = elim (or_odd (n / 2) (m / 2) (sym (ap (λ x. x % 2) (or_shr n m 1)) ∙ grind (arith, nat_tests))) [
-  | inl was ↦ inl (eq-eqb (n / 2 % 2) 1 was)
-  | inr one ↦ inr (eq-eqb (m / 2 % 2) 1 one)
-]
-noted_or n m (suc (suc zero)) is = elim (or_odd (n / 4) (m / 4) (sym (ap (λ x. x % 2) (or_shr n m 2)) ∙ grind (arith, nat_tests))) [
-  | inl was ↦ inl (eq-eqb (n / 4 % 2) 1 was)
-  | inr one ↦ inr (eq-eqb (m / 4 % 2) 1 one)
-]
-noted_or n m (suc (suc (suc i))) is = absurd (false≢true is)
-
--- and what is one of these is noted then, as is what was noted
-odd_or : (n m : ℕ) → (n % 2 ≡ 1) ⊎ (m % 2 ≡ 1) → bit_or n m % 2 ≡ 1
-odd_or n m odd = or_mod n m 1 ∙ by (n % 2) (m % 2) (omega arith) (omega arith) odd
+notes_second : (too : Bool) (n : ℕ) → NotesOne too n (noting_second too n) 1
+notes_second too n = by (too && n / 2 % 2 == 1) refl
   where
-    by : (x y : ℕ) → x < 2 → y < 2 → (x ≡ 1) ⊎ (y ≡ 1) → bit_or x y ≡ 1
-    by zero zero x_low y_low (inl e) = absurd (omega arith)
-    by zero zero x_low y_low (inr e) = absurd (omega arith)
-    by zero (suc zero) x_low y_low one = refl
-    by (suc zero) zero x_low y_low one = refl
-    by (suc zero) (suc zero) x_low y_low one = refl
-    by zero (suc (suc y)) x_low y_low one = absurd (omega arith)
-    by (suc zero) (suc (suc y)) x_low y_low one = absurd (omega arith)
-    by (suc (suc x)) y x_low y_low one = absurd (omega arith)
+    by : (c : Bool) → (too && n / 2 % 2 == 1) ≡ c → NotesOne too n (if c then n - 2 else n) 1
+    by true e =
+        let so = both_of too (n / 2 % 2 == 1) e in
+        let odd = eqb-true (n / 2 % 2) 1 so.1 in record {
+          turn = omega arith;
+          each = λ i. at odd so.0 i;
+        }
+      where
+        at : n / 2 % 2 ≡ 1 → too ≡ true → (i : ℕ) → (is_noted (n - 2) i ≡ true) ↔ ((is_noted n i ≡ true) ⊎ ((i ≡ 1) × (too ≡ true)))
+        at odd so zero = kept_bit _ _ (ap (λ x. x == 0) (let same : (n - 2) % 2 ≡ n % 2 = omega arith in same)) _ (λ nay. absurd (omega arith))
+        at odd so (suc zero) = (λ is. inr (refl, so), λ is. eq-eqb ((n - 2) / 2 % 2) 0 (omega arith))
+        at odd so (suc (suc zero)) = kept_bit _ _ (ap (λ x. x == 0) (let same : (n - 2) / 4 % 2 ≡ n / 4 % 2 = omega arith in same)) _ (λ nay. absurd (omega arith))
+        at odd so (suc (suc (suc i))) = kept_bit _ _ refl _ (λ nay. absurd (omega arith))
+    by false e = record {
+      turn = refl;
+      each = λ i. (λ is. inl is, λ is. elim is [ inl was ↦ was | inr one ↦ at (not_both too (n / 2 % 2 == 1) e one.1) i one.0 ]);
+    }
+      where
+        at : (n / 2 % 2 == 1) ≡ false → (i : ℕ) → i ≡ 1 → is_noted n i ≡ true
+        at other zero is = absurd (omega arith)
+        at other (suc zero) is = grind (arith, nat_tests)
+        at other (suc (suc zero)) is = absurd (omega arith)
+        at other (suc (suc (suc i))) is = absurd (omega arith)
 
-pub or_noted : (n m i : ℕ) → (is_noted n i ≡ true) ⊎ (is_noted m i ≡ true) → is_noted (bit_or n m) i ≡ true
-or_noted n m zero is = eq-eqb (bit_or n m % 2) 1 (odd_or n m (elim is [ inl was ↦ inl (eqb-true (n % 2) 1 was) | inr one ↦ inr (eqb-true (m % 2) 1 one) ]))
-or_noted n m (suc zero) is =
-    eq-eqb (bit_or n m / 2 % 2) 1
-    (ap (λ x. x % 2) (or_shr n m 1) ∙ odd_or (n / 2) (m / 2) (elim is [ inl was ↦ inl (eqb-true (n / 2 % 2) 1 was) | inr one ↦ inr (eqb-true (m / 2 % 2) 1 one) ]))
-or_noted n m (suc (suc zero)) is =
-    eq-eqb (bit_or n m / 4 % 2) 1
-    (ap (λ x. x % 2) (or_shr n m 2) ∙ odd_or (n / 4) (m / 4) (elim is [ inl was ↦ inl (eqb-true (n / 4 % 2) 1 was) | inr one ↦ inr (eqb-true (m / 4 % 2) 1 one) ]))
-or_noted n m (suc (suc (suc i))) (inl is) = absurd (false≢true is)
-or_noted n m (suc (suc (suc i))) (inr is) = absurd (false≢true is)
+notes_third : (too : Bool) (n : ℕ) → NotesOne too n (noting_third too n) 2
+notes_third too n = by (too && n / 4 % 2 == 1) refl
+  where
+    by : (c : Bool) → (too && n / 4 % 2 == 1) ≡ c → NotesOne too n (if c then n - 4 else n) 2
+    by true e =
+        let so = both_of too (n / 4 % 2 == 1) e in
+        let odd = eqb-true (n / 4 % 2) 1 so.1 in record {
+          turn = omega arith;
+          each = λ i. at odd so.0 i;
+        }
+      where
+        at : n / 4 % 2 ≡ 1 → too ≡ true → (i : ℕ) → (is_noted (n - 4) i ≡ true) ↔ ((is_noted n i ≡ true) ⊎ ((i ≡ 2) × (too ≡ true)))
+        at odd so zero = kept_bit _ _ (ap (λ x. x == 0) (let same : (n - 4) % 2 ≡ n % 2 = omega arith in same)) _ (λ nay. absurd (omega arith))
+        at odd so (suc zero) = kept_bit _ _ (ap (λ x. x == 0) (let same : (n - 4) / 2 % 2 ≡ n / 2 % 2 = omega arith in same)) _ (λ nay. absurd (omega arith))
+        at odd so (suc (suc zero)) = (λ is. inr (refl, so), λ is. eq-eqb ((n - 4) / 4 % 2) 0 (omega arith))
+        at odd so (suc (suc (suc i))) = kept_bit _ _ refl _ (λ nay. absurd (omega arith))
+    by false e = record {
+      turn = refl;
+      each = λ i. (λ is. inl is, λ is. elim is [ inl was ↦ was | inr one ↦ at (not_both too (n / 4 % 2 == 1) e one.1) i one.0 ]);
+    }
+      where
+        at : (n / 4 % 2 == 1) ≡ false → (i : ℕ) → i ≡ 2 → is_noted n i ≡ true
+        at other zero is = absurd (omega arith)
+        at other (suc zero) is = absurd (omega arith)
+        at other (suc (suc zero)) is = grind (arith, nat_tests)
+        at other (suc (suc (suc i))) is = absurd (omega arith)
 
--- a word with all three bits notes all three nodes
-pub noted_by_all : (n i : ℕ) → i < 3 → n % 8 ≡ 7 → is_noted n i ≡ true
+-- a word with none of the three bits notes all three nodes
+pub noted_by_all : (n i : ℕ) → i < 3 → n % 8 ≡ 0 → is_noted n i ≡ true
 noted_by_all n zero few all = grind (arith, nat_tests)
 noted_by_all n (suc zero) few all = grind (arith, nat_tests)
 noted_by_all n (suc (suc zero)) few all = grind (arith, nat_tests)
@@ -79,26 +120,48 @@ few_noted n (suc (suc zero)) is = omega arith
 few_noted n (suc (suc (suc i))) is = absurd (false≢true is)
 
 -- a word that notes nodes too
-pub notes_too : (nodes : CardNodes) (n m : ℕ) → m < 8 → ((i : ℕ) → is_noted m i ≡ has_node nodes i) → NotesToo nodes n (bit_or n m)
-notes_too nodes n m low bits = record {
-  turn = noted_turn n m low;
-  each = λ i. (
-    λ is. elim (noted_or n m i is) [ inl was ↦ inl was | inr new ↦ inr (sym (bits i) ∙ new) ],
-    λ is. elim is [ inl was ↦ or_noted n m i (inl was) | inr new ↦ or_noted n m i (inr (bits i ∙ new)) ],
-  );
-}
+pub notes_too : (nodes : CardNodes) (n : ℕ) → NotesToo nodes n (noting_third nodes.right (noting_second nodes.left (noting_first nodes.internal n)))
+notes_too nodes n =
+    let one = notes_first nodes.internal n in
+    let two = notes_second nodes.left (noting_first nodes.internal n) in
+    let three = notes_third nodes.right (noting_second nodes.left (noting_first nodes.internal n)) in record {
+      turn = three.turn ∙ (two.turn ∙ one.turn);
+      each = λ i. (
+        λ is. elim ((three.each i).0 is) [
+          | inl was ↦ elim ((two.each i).0 was) [
+            | inl first ↦ elim ((one.each i).0 first) [ inl old ↦ inl old | inr x ↦ inr (has 0 i x.0 x.1) ]
+            | inr x ↦ inr (has 1 i x.0 x.1)
+          ]
+          | inr x ↦ inr (has 2 i x.0 x.1)
+        ],
+        λ is. elim is [
+          | inl old ↦ (three.each i).1 (inl ((two.each i).1 (inl ((one.each i).1 (inl old)))))
+          | inr new ↦ at one two three i new
+        ],
+      );
+    }
+  where
+    has : (k i : ℕ) → i ≡ k → has_node nodes k ≡ true → has_node nodes i ≡ true
+    has k i is so = ap (has_node nodes) is ∙ so
+
+    at : NotesOne nodes.internal n (noting_first nodes.internal n) 0 → NotesOne nodes.left (noting_first nodes.internal n) (noting_second nodes.left (noting_first nodes.internal n)) 1 → NotesOne nodes.right (noting_second nodes.left (noting_first nodes.internal n)) (noting_third nodes.right (noting_second nodes.left (noting_first nodes.internal n))) 2
+        → (i : ℕ) → has_node nodes i ≡ true → is_noted (noting_third nodes.right (noting_second nodes.left (noting_first nodes.internal n))) i ≡ true
+    at one two three zero so = (three.each 0).1 (inl ((two.each 0).1 (inl ((one.each 0).1 (inr (refl, so))))))
+    at one two three (suc zero) so = (three.each 1).1 (inl ((two.each 1).1 (inr (refl, so))))
+    at one two three (suc (suc zero)) so = (three.each 2).1 (inr (refl, so))
+    at one two three (suc (suc (suc i))) so = absurd (false≢true so)
 
 -- the low bits of a word, by what it notes
-bit_of : (b : Bool) (n : ℕ) → (n == 1) ≡ b → n < 2 → n ≡ one_if b
-bit_of true n is low = eqb-true n 1 is
+bit_of : (b : Bool) (n : ℕ) → (n == 0) ≡ b → n < 2 → n + one_if b ≡ 1
+bit_of true n is low = (let none = eqb-true n 0 is in omega arith)
 bit_of false n is low = by n low is
   where
-    by : (n : ℕ) → n < 2 → (n == 1) ≡ false → n ≡ 0
-    by zero low is = refl
-    by (suc zero) low is = absurd (false≢true (sym is))
+    by : (n : ℕ) → n < 2 → (n == 0) ≡ false → n + 0 ≡ 1
+    by zero low is = absurd (false≢true (sym is))
+    by (suc zero) low is = refl
     by (suc (suc n)) low is = absurd (omega arith)
 
-pub low_bits : (n : ℕ) → n % 8 ≡ one_if (is_noted n 0) + 2 * one_if (is_noted n 1) + 4 * one_if (is_noted n 2)
+pub low_bits : (n : ℕ) → n % 8 + (one_if (is_noted n 0) + 2 * one_if (is_noted n 1) + 4 * one_if (is_noted n 2)) ≡ 7
 low_bits n =
     let a = bit_of (is_noted n 0) (n % 2) refl (omega arith) in
     let b = bit_of (is_noted n 1) (n / 2 % 2) refl (omega arith) in
@@ -156,14 +219,14 @@ all_by nodes n a b c = by nodes.internal nodes.left nodes.right (is_noted n 0) (
         so false false true = refl
         so false false false = refl
 
-pub all_of_full : (nodes : CardNodes) (n : ℕ) → n % 8 ≡ 7 → all_noted nodes n ≡ true
+pub all_of_full : (nodes : CardNodes) (n : ℕ) → n % 8 ≡ 0 → all_noted nodes n ≡ true
 all_of_full nodes n full = all_by nodes n (noted_by_all n 0 (omega arith) full) (noted_by_all n 1 (omega arith) full) (noted_by_all n 2 (omega arith) full)
 
 -- by a word that notes three nodes the slot is free
-pub three_are_all : (n : ℕ) → 3 ≤ how_many_noted n → n % 8 ≡ 7
+pub three_are_all : (n : ℕ) → 3 ≤ how_many_noted n → n % 8 ≡ 0
 three_are_all n most = by (is_noted n 0) (is_noted n 1) (is_noted n 2) (low_bits n) most
   where
-    by : (a b c : Bool) → n % 8 ≡ one_if a + 2 * one_if b + 4 * one_if c → 3 ≤ one_if a + one_if b + one_if c → n % 8 ≡ 7
+    by : (a b c : Bool) → n % 8 + (one_if a + 2 * one_if b + 4 * one_if c) ≡ 7 → 3 ≤ one_if a + one_if b + one_if c → n % 8 ≡ 0
     by true true true low most = omega arith
     by true true false low most = absurd (omega arith)
     by true false c low most = absurd (by_two c (omega arith))
@@ -184,7 +247,7 @@ or_false : (a b : Bool) → (a || b) ≡ false → (a ≡ false) × (b ≡ false
 or_false true b e = absurd (false≢true (sym e))
 or_false false b e = (refl, e)
 
-pub left_used : (taken_out : Bool) (c : ℕ) (nodes : CardNodes) (n : ℕ) → is_done taken_out c nodes n ≡ false → n % 8 ≢ 7
+pub left_used : (taken_out : Bool) (c : ℕ) (nodes : CardNodes) (n : ℕ) → is_done taken_out c nodes n ≡ false → n % 8 ≢ 0
 left_used taken_out c nodes n left full =
     false≢true (sym (or_false (all_noted nodes n) _ left).0 ∙ all_of_full nodes n full)
 
@@ -248,17 +311,17 @@ done_by taken_out c nodes n done = by (all_noted nodes n) taken_out (turn_in n =
     by false false false x y done = inr (x, λ same. false≢true (sym y ∙ eq-eqb (turn_in n) (turn_of c) same))
 
 -- the word of a slot that was just taken notes nothing
-pub none_noted : (turn k : ℕ) → is_noted (8 * turn) k ≡ true → ⊥
+pub none_noted : (turn k : ℕ) → is_noted (taken_word turn) k ≡ true → ⊥
 none_noted turn zero is = grind arith
 none_noted turn (suc zero) is = grind arith
 none_noted turn (suc (suc zero)) is = grind arith
 none_noted turn (suc (suc (suc k))) is = false≢true is
 
--- a word that notes nothing has none of the three bits
-pub unnoted : (n : ℕ) → ((i : ℕ) → is_noted n i ≡ true → ⊥) → n % 8 ≡ 0
+-- a word that notes nothing has all three bits
+pub unnoted : (n : ℕ) → ((i : ℕ) → is_noted n i ≡ true → ⊥) → n % 8 ≡ 7
 unnoted n none = by (is_noted n 0) (is_noted n 1) (is_noted n 2) refl refl refl
   where
-    by : (a b c : Bool) → is_noted n 0 ≡ a → is_noted n 1 ≡ b → is_noted n 2 ≡ c → n % 8 ≡ 0
+    by : (a b c : Bool) → is_noted n 0 ≡ a → is_noted n 1 ≡ b → is_noted n 2 ≡ c → n % 8 ≡ 7
     by true b c x y z = absurd (none 0 x)
     by false true c x y z = absurd (none 1 y)
     by false false true x y z = absurd (none 2 z)

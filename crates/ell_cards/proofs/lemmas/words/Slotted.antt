@@ -2,7 +2,7 @@
 use Rattle.std.proofs.Common.{◌≡◌, ◌≢◌, ℕ, ◌*◌, ◌%◌, ◌≤◌, ◌⊎◌, true, inl, inr, arith}
 use Rattle.std.proofs.lemmas.Bool.Decides.{nat_tests}
 use Rattle.std.proofs.lemmas.Bool.{cases_eq}
-use Rattle.ell_cards.specs.SlotWords.{card_by, has_slot_in, slot_of, turn_of}
+use Rattle.ell_cards.specs.SlotWords.{card_by, has_slot_in, slot_of, turn_of, taken_word}
 
 -- its slot is one of the table
 pub slot_inside : (last c : ℕ) → has_slot_in last c ≡ true → slot_of c ≤ last
@@ -21,5 +21,5 @@ has_slot_by last c inside apart = by (cases_eq (turn_of c % 1024) 0)
     by (inr other) = grind (arith, nat_tests)
 
 -- a number is that of the card in its slot at its turn
-pub card_there : (c slot turn : ℕ) → slot ≡ slot_of c → turn ≡ turn_of c → card_by slot (8 * turn) ≡ c
+pub card_there : (c slot turn : ℕ) → slot ≡ slot_of c → turn ≡ turn_of c → card_by slot (taken_word turn) ≡ c
 card_there c slot turn at is = omega (arith, at, is)

@@ -11,7 +11,7 @@ loop-slot-preserved c =
     let long = c.loop-slot.auto.words in
     let low = c.loop-slot-test.true in
     let inside = c.requires.inside in
-    subst (λ i. UsedBelow c.args.slots (c.loop-slot.slot + 1) c.args.words.now (slice_set c.loop-slot.words i 0)) (sym c.slot_word.ensures)
+    subst (λ i. UsedBelow c.args.slots (c.loop-slot.slot + 1) c.args.words.now (slice_set c.loop-slot.words i 7)) (sym c.slot_word.ensures)
     (used_more c.args.slots c.loop-slot.slot c.args.words.now c.loop-slot.words c.loop-slot.invariant (omega arith))
 
 pub returns-clause-used : goal.returns-clause-used
