@@ -109,6 +109,7 @@ pub record HasPeriods (plan : TablePlan) (s : Slots) (tree : TableState) (t : Wh
   pub ages : AgesAreSound plan s tree t lie dead was_dead
   pub tied : IsTied s tree t ages.now.machine.stages lie dead was_dead
   pub retired : RetiredStaysNoted plan s tree t ages.now.machine ages.now.uses lie
+  pub flat : plan.flat ≡ true
 
 -- by what a pass knows of some card, a node is dead
 abbrev pub KnowsDeadNode : View → ℕ → Type 0

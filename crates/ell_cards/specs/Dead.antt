@@ -22,7 +22,7 @@ use Rattle.ell_cards.specs.Machines.{HasMachine}
 use Rattle.ell_cards.specs.Laws.{machine_of_table}
 use Rattle.ell_cards.specs.Starts.{IsReached}
 use Rattle.ell_cards.specs.Turns.{Turn, CallIsMade, TableRun}
-use Rattle.ell_cards.specs.Touching.{forgets, Touched, AtNode, OfCard, AtRoot, touched_by, KnowsTakenOut}
+use Rattle.ell_cards.specs.Touching.{forgets, Touched, AtNode, OfCard, AtRoot, touched_by, KnowsOneKey, KnowsTakenOut}
 
 -- what a call touches was not dead at these words and stages: the node, or the internal node of the card
 abbrev pub WasAlive : Words → Stages → Touched → Type 0
@@ -73,22 +73,16 @@ KnowsDeleteEnded v c = Knows v (fact.DOver c) ⊎ Knows v (fact.Backed c)
 -- By what a pass was told, a card replaces a leaf, and a node of it is not the one that it brings: both of its leaves
 -- have one key, and the node is not the right leaf.
 pub record KnowsReplaced (v : View) (c x : ℕ) : Type 0 where
-  pub key : ℕ
-  pub left : IsTold v (Info c field.LeftLeafKey key)
-  pub right : IsTold v (Info c field.RightLeafKey key)
+  pub same : KnowsOneKey v c
   pub other : x ≢ right_leaf c
 
--- By what a pass knows, nobody uses a leaf of its own card, which is flagged: the card goes above an internal node,
--- and the leaf's key is not the operation's.
+-- By what a pass knows, nobody uses a leaf of its own card, which is flagged: the leaf's key is not the operation's.
 pub record KnowsUnused (v : View) (c x : ℕ) : Type 0 where
   pub op : Op
-  pub below : ℕ
   pub key : ℕ
   pub busy : Does v op
   pub holds : v.worker.card ≡ Some c
   pub flagged : v.worker.flagged ≡ true
-  pub goes : IsTold v (Info c field.L below)
-  pub inner : IsInternal below
   pub told : ((x ≡ left_leaf c) × IsTold v (Info c field.LeftLeafKey key))
       ⊎ ((x ≡ right_leaf c) × IsTold v (Info c field.RightLeafKey key))
   pub other : key ≢ key_of op
@@ -102,9 +96,9 @@ KnowsNeverComes v c x =
 abbrev pub HasTakenOut : View → ℕ → Type 0
 HasTakenOut v x = (c : ℕ) × (v.worker.card ≡ Some c) × KnowsTakenOut v c x
 
--- such a node never comes
+-- such a node never comes, in a flat tree
 abbrev pub KnownNeverComes : Type 0
-KnownNeverComes = (plan : TablePlan) (s : TableState) (seat : ℕ) (v : View)
+KnownNeverComes = (plan : TablePlan) → plan.flat ≡ true → (s : TableState) (seat : ℕ) (v : View)
     → get_elem? s.views seat ≡ some v → (c x : ℕ) → KnowsNeverComes v c x
     → (r : HasMachine plan s) (has : HasOuts (machine_of_table plan s r)) → NeverComes r.words has.stages x
 
@@ -114,12 +108,12 @@ KnowsDead v c x = KnowsTakenOut v c x ⊎ KnowsNeverComes v c x
 
 -- such a node is dead
 abbrev pub KnownDeadIsDead : Type 0
-KnownDeadIsDead = (plan : TablePlan) (s : TableState) (seat : ℕ) (v : View)
+KnownDeadIsDead = (plan : TablePlan) → plan.flat ≡ true → (s : TableState) (seat : ℕ) (v : View)
     → get_elem? s.views seat ≡ some v → (c x : ℕ) → KnowsDead v c x
     → (r : HasMachine plan s) (has : HasOuts (machine_of_table plan s r)) → IsDead r.words has.stages x
 
 -- passes know it of a node by one card alone
 abbrev pub OneCardTells : Type 0
-OneCardTells = (plan : TablePlan) (s : TableState) → IsReached plan s → (i j : ℕ) (v v' : View)
+OneCardTells = (plan : TablePlan) → plan.flat ≡ true → (s : TableState) → IsReached plan s → (i j : ℕ) (v v' : View)
     → get_elem? s.views i ≡ some v → get_elem? s.views j ≡ some v'
     → (c d x : ℕ) → KnowsDead v c x → KnowsDead v' d x → c ≡ d

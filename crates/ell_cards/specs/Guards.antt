@@ -1,4 +1,4 @@
-use Rattle.std.specs.Prelude.{◌≡◌, ◌≢◌, ℕ, ◌≤◌, ◌⊎◌, ◌==◌, nat_le, Bool, true, false, Option, Some, None}
+use Rattle.std.specs.Prelude.{◌≡◌, ◌≢◌, ℕ, ◌≤◌, ◌⊎◌, ◌==◌, nat_le, nat_lt, Bool, true, false, Option, Some, None}
 use Rattle.ell_ops.specs.declared.op.Op.{Op}
 use Rattle.ell_ops.specs.declared.op.Op.TheVariants.{Find, Insert, Delete, Swap}
 use Rattle.ell_ops.specs.Meaning.{key_of}
@@ -29,6 +29,7 @@ use Rattle.ell_ops.specs.declared.reply.Reply.{Reply}
 use Rattle.ell_core.specs.soundness.Sound.{MayChange}
 use Rattle.ell_core.specs.statements.Effects.{reply_of_change}
 use Rattle.ell_word.specs.declared.link.Link.{Link}
+use Rattle.ell_cards.specs.declared.call.NewNode.{NewNode}
 
 -- begin: nothing is in hand, and the key is owned, or shared
 abbrev pub MayBegin : View → Op → Type 0
@@ -176,7 +177,7 @@ Wants from v (Delete k) parent x key node_key = WantsDelete v k x key
 -- claim, in a tree that is flat from a card on, for a card whose node gets this key: next read this card, which is not
 -- in hand; the pass has no card in hand, or, in a flat tree, one that has not won its flag, which it lays aside; and it
 -- stands at a node whose key it was told, behind a clean parent
-pub record MayClaim (from : ℕ) (v : View) (c node_key : ℕ) : Type 0 where
+pub record MayClaim (from : ℕ) (v : View) (c : ℕ) (node_key : NewNode) : Type 0 where
   pub op : Op
   pub below : ℕ
   pub key : ℕ
@@ -189,7 +190,8 @@ pub record MayClaim (from : ℕ) (v : View) (c node_key : ℕ) : Type 0 where
   pub told : v.here ≡ Some key
   pub behind : v.worker.search.parent ≡ Some parent
   pub calm : IsClean parent.word
-  pub wants : Wants from v op parent.node below key node_key
+  pub wants : Wants from v op parent.node below key node_key.key
+  pub shape : node_key.flat ≡ nat_lt 0 from
 
 -- fill: the card is in hand, not flagged
 pub record MayFill (v : View) (c : ℕ) : Type 0 where

@@ -15,8 +15,8 @@ use Rattle.ell_cards.specs.SlotWords.{has_slot_in}
 use Rattle.ell_cards.specs.Holding.{HasFlagged, HoldsWaiting}
 
 -- A pass was told where the card of its insert or swap went, and the keys of the card's leaves, which are two above
--- an internal node. It has noted the leaf that the card took out, if it went to a leaf; what of the card never came,
--- if that had its key; and the leaf of the card that is not used, if it went above an internal node.
+-- an internal node. If they are one, it has noted the leaf that the card took out, and what of the card never came;
+-- if they are two, the leaf of the card that is not used.
 pub record PutIsRetired (s : Slots) (v : View) (r : Retired) (c : ℕ) : Type 0 where
   pub op : Op
   pub below : ℕ
@@ -26,11 +26,10 @@ pub record PutIsRetired (s : Slots) (v : View) (r : Retired) (c : ℕ) : Type 0 
   pub goes : IsTold v (Info c field.L below)
   pub left_key : IsTold v (Info c field.LeftLeafKey left)
   pub right_key : IsTold v (Info c field.RightLeafKey right)
-  pub apart : IsInternal below → left ≢ right
-  pub leaf : IsNode below → IsLeaf below → has_slot_in s.last (card below) ≡ true → r.leaf ≡ true
+  pub leaf : left ≡ right → IsNode below → has_slot_in s.last (card below) ≡ true → r.leaf ≡ true
   pub replaced : left ≡ right → has_slot_in s.last c ≡ true → (r.own.internal ≡ true) × (r.own.left ≡ true)
-  pub unused_left : IsInternal below → left ≢ key_of op → has_slot_in s.last c ≡ true → r.own.left ≡ true
-  pub unused_right : IsInternal below → right ≢ key_of op → has_slot_in s.last c ≡ true → r.own.right ≡ true
+  pub unused_left : left ≢ right → left ≢ key_of op → has_slot_in s.last c ≡ true → r.own.left ≡ true
+  pub unused_right : left ≢ right → right ≢ key_of op → has_slot_in s.last c ≡ true → r.own.right ≡ true
 
 -- it has noted all nodes of its card
 pub record OwnAreRetired (s : Slots) (r : Retired) (c : ℕ) : Type 0 where

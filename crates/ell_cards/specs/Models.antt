@@ -1,4 +1,4 @@
-use Rattle.std.specs.Prelude.{◌≡◌, ◌≢◌, ℕ, ◌⊎◌, ◌+◌, ◌<◌, ◌≤◌, ◌*◌, ◌==◌, ◌||◌, ◌/◌, nat_le, if◌then◌else◌, Bool, true, false, Option, Some, None, is_some, List, [], ◌∷◌, length, min}
+use Rattle.std.specs.Prelude.{◌≡◌, ◌≢◌, ℕ, ◌⊎◌, ◌+◌, ◌<◌, ◌≤◌, ◌*◌, ◌==◌, ◌||◌, ◌/◌, nat_le, nat_lt, if◌then◌else◌, Bool, true, false, Option, Some, None, is_some, List, [], ◌∷◌, length, min}
 use Rattle.atomic_table.specs.Seated.{TableId}
 use Rattle.ell_ops.specs.declared.op.Op.{Op}
 use Rattle.ell_word.specs.Node.{most_cards}
@@ -22,6 +22,7 @@ use Rattle.ell_cards.specs.declared.view.Seek.{Seek}
 use Rattle.ell_cards.specs.declared.view.Survey.{Survey}
 use Rattle.ell_cards.specs.declared.view.Slots.{Slots}
 use Rattle.ell_cards.specs.Seeking.{begun_seek, no_seek, no_survey}
+use Rattle.ell_cards.specs.declared.call.NewNode.{NewNode}
 
 -- what a table opens with: the keys that may have owners, the start pairs, the last card, if all other keys are
 -- shared, and if the tree is flat; and, if passes have places in it, how many cards have words and how many places
@@ -45,6 +46,10 @@ last_slot plan = last_slot_of plan.slots plan.last_card
 -- the first card that is not of the opening tree, if the tree of a table is flat, else 0
 abbrev pub flat_from : TablePlan → ℕ
 flat_from plan = if plan.flat then length plan.start + 1 else 0
+
+-- what the node of an insert's or a swap's card is to be, of this key
+abbrev pub new_node : TablePlan → ℕ → NewNode
+new_node plan key = record { key = key; flat = nat_lt 0 (flat_from plan) }
 
 -- which table it is, and what it was opened with
 pub record TableModel : Type 0 where

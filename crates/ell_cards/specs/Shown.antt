@@ -12,6 +12,7 @@ use Rattle.ell_core.specs.declared.view.Search.{Search}
 use Rattle.ell_core.specs.state.Machine.{WorkerView}
 use Rattle.ell_cards.specs.declared.call.Call.{Call}
 use Rattle.ell_cards.specs.declared.call.Call.TheVariants as call
+use Rattle.ell_cards.specs.declared.call.NewNode.{NewNode}
 use Rattle.ell_cards.specs.declared.glance.Glance.{Glance}
 use Rattle.ell_cards.specs.declared.view.Told.{Told}
 use Rattle.ell_cards.specs.declared.view.Told.TheVariants.{Met, Depth, Key, Value, Info, Expects, Frozen}
@@ -223,7 +224,7 @@ cut_planned v = record v { planned = shown_words v.planned }
 
 -- so it is after a claim that is won, with what is planned cut: for that has the whole numbers of the card's own nodes
 abbrev pub ClaimsAreShown : Type 0
-ClaimsAreShown = (plan : TablePlan) (c node_key : ℕ) (v : View) → IsApart plan v
+ClaimsAreShown = (plan : TablePlan) (c : ℕ) (node_key : NewNode) (v : View) → IsApart plan v
     → shown (after_claim true c node_key v) ≡ cut_planned (after_claim true c node_key (shown v))
 
 -- each call that is shown, and may be made by what is shown, is lifted

@@ -5,6 +5,7 @@ use Rattle.atomic_table.specs.Table.{Allows}
 use Rattle.ell_core.specs.declared.exchange.Exchange.{Exchange}
 use Rattle.ell_core.specs.declared.exchange.Exchange.TheVariants as exchange
 use Rattle.ell_cards.specs.declared.call.Call.TheVariants as call
+use Rattle.ell_cards.specs.declared.call.NewNode.{NewNode}
 use Rattle.ell_cards.specs.declared.view.Known.{Known}
 use Rattle.ell_cards.specs.declared.view.Told.{Told}
 use Rattle.ell_cards.specs.declared.view.Told.TheVariants.{Expects}
@@ -17,26 +18,26 @@ use Rattle.ell_cards.specs.Stepping.{IsInside}
 use Rattle.ell_cards.specs.Whole.{IsWhole}
 
 -- what a pass knows once it has claimed a card, and then read the claim word
-abbrev pub after_one : ℕ → ℕ → View → View
+abbrev pub after_one : ℕ → NewNode → View → View
 after_one c node_key v = after call.Next (c + 1) (after_claim true c node_key v)
 
 -- and once it has claimed this card and so many after it, one after the other, and read the claim word between two
 -- claims: it has laid aside all of them but the last one, which is in hand
-abbrev pub after_row : ℕ → ℕ → ℕ → View → View
+abbrev pub after_row : ℕ → ℕ → NewNode → View → View
 after_row zero c node_key v = after_claim true c node_key v
 after_row (suc n) c node_key v = after_row n (c + 1) node_key (after_one c node_key v)
 
 -- once it has claimed all cards from a first one to a last one, by words of 64 bits, or else lost the claim
-abbrev pub after_claimed_row : Bool → ℕ → ℕ → ℕ → View → View
+abbrev pub after_claimed_row : Bool → ℕ → ℕ → NewNode → View → View
 after_claimed_row won first last node_key v =
     if won then cut_planned (after_row (last - first) first node_key v) else after_claim false first node_key v
 
 -- what is told of a card that is claimed
-abbrev pub told_of_claim : ℕ → ℕ → View → List Told
+abbrev pub told_of_claim : ℕ → NewNode → View → List Told
 told_of_claim c node_key v = Expects c (expected_tag v) ∷ told_filling c (filling_of c node_key v) []
 
 -- something was told of a card of a row when that was claimed
-pub record IsToldInRow (first last node_key : ℕ) (v : View) (e : Told) : Type 0 where
+pub record IsToldInRow (first last : ℕ) (node_key : NewNode) (v : View) (e : Told) : Type 0 where
   pub card : ℕ
   pub from : first ≤ card
   pub upto : card ≤ last
@@ -46,7 +47,7 @@ pub record IsToldInRow (first last node_key : ℕ) (v : View) (e : Told) : Type 
 -- of it is stored; it is to say what it would have been to say had it been the first, cut to 64 bits; and beside what
 -- was told before, what was told is of the cards of the row, and no leaf's value. It has won a claim for each of
 -- these, and has made a call between two of them. All else is as it was.
-pub record IsAfterRow (first last node_key : ℕ) (old new : View) : Type 0 where
+pub record IsAfterRow (first last : ℕ) (node_key : NewNode) (old new : View) : Type 0 where
   pub operation : new.worker.operation ≡ old.worker.operation
   pub search : new.worker.search ≡ old.worker.search
   pub knows : new.worker.knows ≡ old.worker.knows
@@ -93,7 +94,7 @@ IsFresh plan slot won c = plan.slots ≢ None → won ≡ true → slot ≢ Some
 
 -- an exchange of the claim word that found this, and takes all numbers from a first card to a last one if it is won,
 -- leaves of a pass what it is to know, and that names what is in its table; and the last card is a fresh one
-abbrev pub RowTells : TablePlan → ℕ → ℕ → ℕ → PassModel → ℕ → View → Type 0
+abbrev pub RowTells : TablePlan → ℕ → ℕ → NewNode → PassModel → ℕ → View → Type 0
 RowTells plan first last node_key p n w =
     (w ≡ after_claimed_row (n == first) first last node_key p.view) × IsInside plan w
     × IsFresh plan p.slot (n == first) last

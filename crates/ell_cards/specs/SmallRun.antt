@@ -39,7 +39,7 @@ delete_flags =
     Makes 0 (call.Begin (Delete 5)) ∷ Makes 0 (call.Upd 0) ∷ Makes 0 (call.KeyOf 0) ∷ Makes 0 (call.Down 0 false)
     ∷ Makes 0 (call.Upd 4) ∷
     Makes 0 (call.KeyOf 4) ∷ Makes 0 (call.Down 4 false) ∷ Makes 0 (call.KeyOf 5) ∷ Makes 0 call.Next ∷ Makes 0
-    (call.Claim 2 0) ∷
+    (call.Claim 2 (record { key = 0; flat = false })) ∷
     Makes 0 (call.Fill 2 field.Gp 0) ∷ Makes 0 (call.Fill 2 field.P 4) ∷ Makes 0 (call.Fill 2 field.L 5) ∷ Makes 0
     (call.Fill 2 field.Was 3) ∷
     Makes 0 (call.DFlag 2 0 (record { state = state.Clean; card = 0 })) ∷ []
@@ -51,7 +51,7 @@ insert_claims =
     ∷ Makes 1 (call.Upd 4) ∷
     Makes 1 (call.KeyOf 4) ∷ Makes 1 (call.Down 4 false) ∷ Makes 1 (call.KeyOf 5) ∷ Makes 1 (call.ValueOf 5)
     ∷ Makes 1 call.Next ∷
-    Makes 1 (call.Claim 3 7) ∷ []
+    Makes 1 (call.Claim 3 (record { key = 7; flat = false })) ∷ []
 
 -- it fills card 3, and flags the node that seat 0 is about to mark
 abbrev pub insert_flags : List Turn
@@ -83,7 +83,7 @@ delete_begins_anew =
     (call.Upd 4) ∷ Makes 0 (call.KeyOf 4) ∷
     Makes 0 (call.Down 4 false) ∷ Makes 0 (call.Upd 12) ∷ Makes 0 (call.KeyOf 12) ∷ Makes 0 (call.Down 12 false)
     ∷ Makes 0 (call.KeyOf 13) ∷
-    Makes 0 call.Next ∷ Makes 0 (call.Claim 4 0) ∷ []
+    Makes 0 call.Next ∷ Makes 0 (call.Claim 4 (record { key = 0; flat = false })) ∷ []
 
 -- it flags, marks, cuts the node out, and answers
 abbrev pub delete_ends : List Turn

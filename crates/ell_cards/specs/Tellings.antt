@@ -10,6 +10,7 @@ use Rattle.ell_cards.specs.States.{TableState}
 use Rattle.ell_cards.specs.Turns.{found_by}
 use Rattle.ell_cards.specs.Starts.{IsReached}
 use Rattle.ell_cards.specs.Models.{TablePlan}
+use Rattle.ell_cards.specs.declared.call.NewNode.{NewNode}
 
 -- the state after the atomic step of a call of the pass in a seat, which tells that its word was this one, whatever the
 -- word was
@@ -44,7 +45,7 @@ NoOtherOutcome = (plan : TablePlan) (s : TableState) → IsReached plan s → (i
 -- nor can the claim of the next card be lost that was not tried, whatever key its node would get
 abbrev pub NoUntriedClaimLost : Type 0
 NoUntriedClaimLost = (plan : TablePlan) (s : TableState) → IsReached plan s → (id : ℕ) (v : View)
-    → get_elem? s.views id ≡ some v → (node_key : ℕ) → ¬ IsReached plan (record {
+    → get_elem? s.views id ≡ some v → (node_key : NewNode) → ¬ IsReached plan (record {
       words = s.words;
       homes = s.homes;
       views = slice_set s.views id (after_claim false (slice_index s.words 0) node_key v);

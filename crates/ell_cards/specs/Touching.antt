@@ -79,11 +79,17 @@ CallsTouchNothingGone = (plan : TablePlan) (s : TableState) → IsReached plan s
     → (v : View) → get_elem? now.views seat ≡ some v → (next : Call) → May plan next v
     → WasThere r.words has.stages (touched_by next)
 
--- By what a pass knows, a card that is over has taken a node out: an insert or a swap the leaf in whose place its node came,
--- or a delete its leaf or the leaf's parent.
+-- a pass was told that the two leaves of a card have one key: it is a swap's
+pub record KnowsOneKey (v : View) (c : ℕ) : Type 0 where
+  pub key : ℕ
+  pub left : IsTold v (Info c field.LeftLeafKey key)
+  pub right : IsTold v (Info c field.RightLeafKey key)
+
+-- By what a pass knows, a card that is over has taken a node out: a swap the leaf in whose place its node came, or a delete
+-- its leaf or the leaf's parent.
 abbrev pub KnowsTakenOut : View → ℕ → ℕ → Type 0
 KnowsTakenOut v c x =
-    (Knows v (fact.IOver c) × IsLeaf x × IsTold v (Info c field.L x))
+    (Knows v (fact.IOver c) × KnowsOneKey v c × IsTold v (Info c field.L x))
     ⊎ (Knows v (fact.DOver c) × (IsTold v (Info c field.P x) ⊎ IsTold v (Info c field.L x)))
 
 -- such a node is gone

@@ -4,6 +4,15 @@ use ell_layout::Field;
 use ell_ops::{Op, Reply};
 use ell_word::{Link, Update};
 
+/// What the internal node of an insert's or a swap's card is to be.
+#[derive(Clone, Copy)]
+pub struct NewNode {
+    /// Its key.
+    pub key: u64,
+    /// Whether the tree is flat: then the node above which an insert goes is a child of it.
+    pub flat: bool,
+}
+
 /// A step call of a pass, with its arguments. Each is one atomic step.
 #[derive(Clone, Copy)]
 pub enum Call {
@@ -35,8 +44,8 @@ pub enum Call {
     LookDown(Glance, Stretch, bool),
     /// Ends a look.
     Rest,
-    /// Takes a card, and lays one in hand aside: card, the key that its node gets if it is an insert's or a swap's.
-    Claim(u64, u64),
+    /// Takes a card, and lays one in hand aside: card, what its node is to be if it is an insert's or a swap's.
+    Claim(u64, NewNode),
     /// Stores a word of a card.
     Fill(u64, Field, u64),
     /// Flags the parent for an insert: card, parent, the update that was read there.

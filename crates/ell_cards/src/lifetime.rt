@@ -35,7 +35,7 @@ use crate::view::{Plan, Slots, TableKind};
 use atomic_table::Table;
 use ell_layout::{table_size, write_opening};
 use ell_ops::{NoMemory, united_keys};
-use ell_word::{CARDS_MAX, NUMBER_MAX, card_of};
+use ell_word::{CARDS_MAX, NUMBER_MAX, card_of, is_internal};
 use std::alloc::{AllocError, Allocator};
 use std::marker::Brand;
 
@@ -181,7 +181,7 @@ impl<M: Memory> CardTable<M> {
         0 < self.first_block
     }
 
-    /// Returns `true` if a node has a block: in a flat tree each has one that is not of the opening tree, and in any
+    /// Returns `true` if a node has a block: in a flat tree each leaf, and each that is not of the opening tree, and in any
     /// other tree none.
     #[inline(always)]
     #[tactic(auto, unfolding(ell_layout::specs::Words::has_block))]
@@ -189,7 +189,7 @@ impl<M: Memory> CardTable<M> {
         // Returns `true` exactly if a node of the table with this number has a block.
         ensures { result ≡ has_block (flat_from self.now.plan) node }
     {
-        0 < self.first_block && self.first_block <= card_of(node)
+        0 < self.first_block && (self.first_block <= card_of(node) || !is_internal(node))
     }
 
     /// Returns how many pairs of the tree to have room for if a pass owns this many keys: this many are enough if no

@@ -3,7 +3,7 @@ ghost use Rattle.std.specs.Prelude.{◌≡◌, ◌≢◌, ◌≤◌, true, is_ok
 ghost use Rattle.ell_core.specs.declared.fact.Fact.TheVariants.{IFlagged, DFlagged};
 ghost use Rattle.ell_word.specs.Word.{packed};
 ghost use Rattle.ell_core.specs.declared.exchange.Exchange.TheVariants as exchange;
-ghost use Rattle.ell_cards.specs.Models.{Steps, flat_from};
+ghost use Rattle.ell_cards.specs.Models.{Steps, flat_from, new_node};
 ghost use Rattle.ell_cards.specs.Changes.{after_fill, after_flag, if_won, exchanged, found_update, found_word};
 ghost use Rattle.ell_cards.specs.Skipping.{IsFresh, after_claimed_row};
 ghost use Rattle.ell_cards.specs.Shown.{shown_word};
@@ -29,12 +29,12 @@ impl<M: Memory> CardTable<M> {
     #[inline(always)]
     pub fn claim(&self, pass: &mut Pass<M>, card: u64, node_key: u64) -> bool
         requires own { pass.old.table ≡ self.now.id }
-        requires may { MayClaim (flat_from self.now.plan) pass.old.view card node_key }
+        requires may { MayClaim (flat_from self.now.plan) pass.old.view card (new_node self.now.plan node_key) }
         // A card in hand that it lays aside is none whose slot it has taken.
-        requires kept { MayInTable self.now.plan pass.old (call.Claim card node_key) }
+        requires kept { MayInTable self.now.plan pass.old (call.Claim card (new_node self.now.plan node_key)) }
         requires room { card ≤ self.now.plan.last_card }
         // It makes one step and counts it. The pass then knows exactly what this call tells.
-        ensures step { Steps pass.old pass.new (after_claimed_row result card card node_key pass.old.view) }
+        ensures step { Steps pass.old pass.new (after_claimed_row result card card (new_node self.now.plan node_key) pass.old.view) }
         // If it took the card, it has not taken that one's slot yet.
         ensures fresh { IsFresh self.now.plan pass.old.slot result card }
     {
@@ -48,15 +48,15 @@ impl<M: Memory> CardTable<M> {
     #[inline(always)]
     pub fn claim_row(&self, pass: &mut Pass<M>, first: u64, last: u64, node_key: u64) -> bool
         requires own { pass.old.table ≡ self.now.id }
-        requires may { MayClaim (flat_from self.now.plan) pass.old.view first node_key }
+        requires may { MayClaim (flat_from self.now.plan) pass.old.view first (new_node self.now.plan node_key) }
         // A card in hand that it lays aside is none whose slot it has taken.
-        requires kept { MayInTable self.now.plan pass.old (call.Claim first node_key) }
+        requires kept { MayInTable self.now.plan pass.old (call.Claim first (new_node self.now.plan node_key)) }
         requires flat { self.now.plan.flat ≡ true }
         requires places { self.now.plan.slots ≢ None }
         requires order { first ≤ last }
         requires room { last ≤ self.now.plan.last_card }
         // It makes one step and counts it. The pass then knows exactly what these claims tell.
-        ensures step { Steps pass.old pass.new (after_claimed_row result first last node_key pass.old.view) }
+        ensures step { Steps pass.old pass.new (after_claimed_row result first last (new_node self.now.plan node_key) pass.old.view) }
         // If it took the cards, it has not taken the last one's slot yet.
         ensures fresh { IsFresh self.now.plan pass.old.slot result last }
     {

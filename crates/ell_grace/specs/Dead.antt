@@ -3,7 +3,7 @@ use Rattle.ell_word.specs.Node.{IsInternal, internal, card}
 use Rattle.ell_core.specs.declared.event.Event.{Event}
 use Rattle.ell_core.specs.declared.event.Stepped.{Stepped}
 use Rattle.ell_layout.specs.Words.{Words, IsLeaf}
-use Rattle.ell_layout.specs.Cards.{brought}
+use Rattle.ell_layout.specs.Cards.{brought, keeps_below}
 use Rattle.ell_core.specs.state.Machine.{Machine}
 use Rattle.ell_core.specs.acts.Events.{Steps}
 use Rattle.ell_core.specs.tree.Tree.{Reached}
@@ -15,11 +15,11 @@ use Rattle.ell_core.specs.statements.RunLaws.{IsPassed}
 use Rattle.ell_grace.specs.Gone.{TakesOut, IsGone, HasOuts}
 use Rattle.ell_grace.specs.Since.{ComesFrom}
 
--- The leaf of an insert's card that nobody uses: the insert went above an internal node, which stands in the leaf's
--- place and whose key the leaf would have.
+-- The leaf of an insert's card that nobody uses: the node above which the insert went stays, in the leaf's place, and the
+-- leaf would have its key.
 abbrev pub IsUnused : Words → Stages → ℕ → Type 0
 IsUnused w stage x =
-    (is_changed (stage (card x)) ≡ true) × IsInternal (w.l (card x)) × IsLeaf x × (w.key x ≡ w.key (w.l (card x)))
+    (is_changed (stage (card x)) ≡ true) × (keeps_below w (card x) ≡ true) × IsLeaf x × (w.key x ≡ w.key (w.l (card x)))
 
 -- A node never comes into the tree: its card has ended and has not brought it, or nobody uses it.
 abbrev pub NeverComes : Words → Stages → ℕ → Type 0

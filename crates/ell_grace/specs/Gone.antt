@@ -1,6 +1,6 @@
-use Rattle.std.specs.Prelude.{◌≡◌, ℕ, ◌⊎◌, true}
-use Rattle.ell_layout.specs.Words.{Words, IsLeaf}
-use Rattle.ell_layout.specs.Cards.{sibling}
+use Rattle.std.specs.Prelude.{◌≡◌, ℕ, ◌⊎◌, true, false}
+use Rattle.ell_layout.specs.Words.{Words}
+use Rattle.ell_layout.specs.Cards.{keeps_below, sibling}
 use Rattle.ell_core.specs.state.Machine.{Machine}
 use Rattle.ell_core.specs.tree.Tree.{Reached}
 use Rattle.ell_core.specs.history.Stages.{Stages, is_changed, is_cut, delete_open}
@@ -8,11 +8,12 @@ use Rattle.ell_core.specs.history.Invariant.{delete_side, Invariant}
 use Rattle.ell_core.specs.statements.Since.{has_ended}
 use Rattle.ell_core.specs.statements.RunLaws.{IsPassed}
 
--- A card has taken a node out of the tree: an insert or a swap the leaf in whose place its node came, and a delete its leaf
--- and the leaf's parent. An insert that goes above an internal node takes nothing out, for that node is below its own.
+-- A card has taken a node out of the tree: a swap, and in a tree that is not flat an insert, the leaf in whose place its node
+-- came, and a delete its leaf and the leaf's parent. An insert takes nothing out if the node above which it goes stays, below
+-- its own.
 abbrev pub TakesOut : Words → Stages → ℕ → ℕ → Type 0
 TakesOut w stage c x =
-    ((is_changed (stage c) ≡ true) × IsLeaf (w.l c) × (w.l c ≡ x)) ⊎ ((is_cut (stage c) ≡ true) × ((w.p c ≡ x) ⊎ (w.l c ≡ x)))
+    ((is_changed (stage c) ≡ true) × (keeps_below w c ≡ false) × (w.l c ≡ x)) ⊎ ((is_cut (stage c) ≡ true) × ((w.p c ≡ x) ⊎ (w.l c ≡ x)))
 
 -- a node is gone for good: a card that has ended has taken it out
 pub record IsGone (w : Words) (stage : Stages) (x : ℕ) : Type 0 where

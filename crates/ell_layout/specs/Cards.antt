@@ -1,4 +1,4 @@
-use Rattle.std.specs.Prelude.{ℕ, ◌+◌, ◌%◌, ◌==◌, ◌&&◌, if◌then◌else◌, Bool, true, false, List, [], ◌∷◌, min, max, nat_le, nat_lt, slice_set}
+use Rattle.std.specs.Prelude.{ℕ, ◌+◌, ◌%◌, ◌==◌, ◌&&◌, ◌||◌, if◌then◌else◌, Bool, true, false, List, [], ◌∷◌, min, max, nat_le, nat_lt, not, slice_set}
 use Rattle.ell_word.specs.declared.update.State.TheVariants as state
 use Rattle.ell_word.specs.Node.{internal, left_leaf, right_leaf}
 use Rattle.ell_word.specs.Word.{packed}
@@ -68,6 +68,11 @@ brought_by c replaces = if replaces then right_leaf c else internal c
 abbrev pub brought : Words → ℕ → ℕ
 brought w c = brought_by c (is_replace_card w c)
 
+-- whether the node above which an insert's card goes stays in the tree, below the card's own node: not a leaf that the card
+-- replaces, nor, in a tree that is not flat, a leaf of which the card has a copy
+abbrev pub keeps_below : Words → ℕ → Bool
+keeps_below w c = not (is_replace_card w c) && (nat_lt 0 w.flat_from || w.l c % 4 == 0)
+
 -- the child of a node on the side of a card's own key
 abbrev pub card_child : Words → ℕ → ℕ → ℕ
 card_child w c node = child_for w (card_key w c) node
@@ -84,20 +89,25 @@ insert_filling c k value parent leaf leaf_key leaf_value =
     ∷ (LeftValue, (if nat_lt k leaf_key then value else leaf_value))
     ∷ (RightValue, (if nat_lt k leaf_key then leaf_value else value)) ∷ []
 
--- the children of the node of an insert's card: its own leaves, or above an internal node that node in place of the leaf
--- with its key
-abbrev pub left_of_card : ℕ → ℕ → ℕ → ℕ → ℕ
-left_of_card c k below below_key = if below % 4 == 0 && nat_le below_key k then below else left_leaf c
+-- whether the node above which an insert goes is a child of the insert's node: an internal node is, and in a flat tree a
+-- leaf is too
+abbrev pub stays_below : Bool → ℕ → Bool
+stays_below flat below = flat || below % 4 == 0
 
-abbrev pub right_of_card : ℕ → ℕ → ℕ → ℕ → ℕ
-right_of_card c k below below_key = if below % 4 == 0 && nat_lt k below_key then below else right_leaf c
+-- the children of the node of an insert's card: its own leaves, or the node above which it goes in place of the leaf with
+-- that node's key
+abbrev pub left_of_card : Bool → ℕ → ℕ → ℕ → ℕ → ℕ
+left_of_card flat c k below below_key = if stays_below flat below && nat_le below_key k then below else left_leaf c
+
+abbrev pub right_of_card : Bool → ℕ → ℕ → ℕ → ℕ → ℕ
+right_of_card flat c k below below_key = if stays_below flat below && nat_lt k below_key then below else right_leaf c
 
 -- the fields of an insert's card for key k above a node, where its own node gets this key; at a leaf, whose node gets the
 -- greater key in a tree that is not flat, they are those that stand above
-abbrev pub put_filling : ℕ → ℕ → ℕ → ℕ → ℕ → ℕ → ℕ → ℕ → List (Field × ℕ)
-put_filling c k value node_key parent below below_key below_value =
-    (P, parent) ∷ (L, below) ∷ (Key, node_key) ∷ (Left, left_of_card c k below below_key)
-    ∷ (Right, right_of_card c k below below_key) ∷ (Update, clean 0)
+abbrev pub put_filling : Bool → ℕ → ℕ → ℕ → ℕ → ℕ → ℕ → ℕ → ℕ → List (Field × ℕ)
+put_filling flat c k value node_key parent below below_key below_value =
+    (P, parent) ∷ (L, below) ∷ (Key, node_key) ∷ (Left, left_of_card flat c k below below_key)
+    ∷ (Right, right_of_card flat c k below below_key) ∷ (Update, clean 0)
     ∷ (LeftLeafKey, min k below_key) ∷ (RightLeafKey, max k below_key)
     ∷ (LeftValue, (if nat_lt k below_key then value else below_value))
     ∷ (RightValue, (if nat_lt k below_key then below_value else value)) ∷ []

@@ -1,4 +1,4 @@
-use Rattle.std.specs.Prelude.{ℕ, ◌+◌, ◌%◌, ◌==◌, ◌||◌, ◌&&◌, nat_lt, nat_le, if◌then◌else◌, Bool, true, false, zero, suc, List, slice_index}
+use Rattle.std.specs.Prelude.{ℕ, ◌+◌, ◌%◌, ◌==◌, ◌||◌, ◌&&◌, nat_lt, nat_le, not, if◌then◌else◌, Bool, true, false, zero, suc, List, slice_index}
 use Rattle.ell_word.specs.Node.{card, internal, left_leaf, right_leaf, IsInternal}
 use Rattle.ell_word.specs.Link.{linked, link_in}
 use Rattle.ell_layout.specs.Layout.{listed}
@@ -26,10 +26,14 @@ pub record Words : Type 0 where
   pub update : ℕ → ℕ
   pub flat_from : ℕ
 
--- whether a node has a block, by the number from which a tree is flat: in a flat tree each node has one that is not of the
--- opening tree, and in any other tree none
+-- whether a node has a block, by the number from which a tree is flat: in a flat tree each leaf has one, and each internal
+-- node that is not of the opening tree; and in any other tree none
 unfoldable pub has_block : ℕ → ℕ → Bool
-has_block from x = nat_lt 0 from && nat_le from (card x)
+has_block from x = nat_lt 0 from && (nat_le from (card x) || not (x % 4 == 0))
+
+-- whether the tree of these words is flat
+abbrev pub is_flat : Words → Bool
+is_flat w = nat_lt 0 w.flat_from
 
 -- what a field of a card says: a child, and the leaf where a search ended, without their tags
 abbrev pub word : Words → ℕ → Field → ℕ

@@ -41,15 +41,16 @@ pub fn insert_filling(
 }
 
 /// Returns the children of the node of an insert's card for a key above a node of this key, left and right: its own
-/// leaves, or an internal node in place of the leaf with its key. Condition: the card is at most `NUMBER_MAX`.
-pub fn card_children(card: u64, key: u64, below: u64, below_key: u64) -> (u64, u64)
+/// leaves, or an internal node, and in a flat tree any node, in place of the leaf with its key. Condition: the card is at
+/// most `NUMBER_MAX`.
+pub fn card_children(flat: bool, card: u64, key: u64, below: u64, below_key: u64) -> (u64, u64)
     requires { card ≤ greatest_number }
     // Returns the left child and the right one.
-    ensures left { result.0 ≡ left_of_card card key below below_key }
-    ensures right { result.1 ≡ right_of_card card key below below_key }
+    ensures left { result.0 ≡ left_of_card flat card key below below_key }
+    ensures right { result.1 ≡ right_of_card flat card key below below_key }
 {
     let (left, right) = (left_leaf_of(card), right_leaf_of(card));
-    if !is_internal(below) {
+    if !is_internal(below) && !flat {
         (left, right)
     } else if key < below_key {
         (left, below)

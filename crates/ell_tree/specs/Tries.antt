@@ -19,7 +19,7 @@ use Rattle.ell_cards.specs.declared.view.Told.TheVariants.{Expects}
 use Rattle.ell_cards.specs.declared.view.Hindrance.{Hindrance}
 use Rattle.ell_cards.specs.declared.view.Hindrance.TheVariants.{Found}
 use Rattle.ell_cards.specs.declared.view.View.{View}
-use Rattle.ell_cards.specs.Models.{flat_from, TablePlan, PassModel, Has, IsTold, Knows, Does, StandsAt}
+use Rattle.ell_cards.specs.Models.{flat_from, TablePlan, PassModel, Has, IsTold, Knows, Does, StandsAt, new_node}
 use Rattle.ell_cards.specs.Changes.{value_told, expected_tag, told_filling, filling_of, tagged, with_stores, tries_hindered}
 use Rattle.ell_cards.specs.Guards.{IsFilled, MayFill}
 use Rattle.ell_cards.specs.Shown.{shown_words}
@@ -40,6 +40,7 @@ use Rattle.ell_tree.specs.Hindrances.{AreOver, Meets, StillKnows, way_of}
 use Rattle.ell_tree.specs.Keeping.{IsSeenAt}
 use Rattle.ell_tree.specs.Milestones.{GivesOut, SeesMilestone}
 use Rattle.ell_tree.specs.Searches.{AtRoot, seen, seen_any, there_at}
+use Rattle.ell_cards.specs.declared.call.NewNode.{NewNode}
 
 -- an operation that may change the map: an insert, a delete or a swap
 abbrev pub IsChange : Op → Type 0
@@ -160,12 +161,12 @@ abbrev pub put_reply : Option ℕ → Reply
 put_reply None = Yes
 put_reply (Some was) = replaced.Found was
 
--- one was taken for an insert or a swap, that puts this; its node gets this key
-pub record HasCardToPut (what : Put) (place : Place) (node_key : ℕ) (v : View) (c : ℕ) : Type 0 where
+-- one was taken for an insert or a swap, that puts this; its node is to be this
+pub record HasCardToPut (what : Put) (place : Place) (node_key : NewNode) (v : View) (c : ℕ) : Type 0 where
   pub op : Op
   pub puts : put_of op ≡ Some what
   pub card : HasCard op place place.parent.tag
-      (put_filling c what.key what.value node_key place.parent.node place.node place.key place.value) v c
+      (put_filling node_key.flat c what.key what.value node_key.key place.parent.node place.node place.key place.value) v c
 
 -- no card was taken, but some that were laid aside, of which the last may be in hand; and the search stands where it
 -- stood
@@ -180,7 +181,7 @@ HasSlotOf plan c p = plan.slots ≢ None → p.slot ≡ Some c
 -- what comes of asking for a card, whose node gets this key
 abbrev pub Claims : TablePlan → Op → Place → ℕ → PassModel → PassModel → Claimed → Type 0
 Claims plan op place node_key old new (claimed.Card c) =
-    HasCard op place (expected_tag old.view) (filling_of c node_key old.view) new.view c × (c ≤ plan.last_card)
+    HasCard op place (expected_tag old.view) (filling_of c (new_node plan node_key) old.view) new.view c × (c ≤ plan.last_card)
     × (new.view.hindrances ≡ old.view.hindrances) × GivesOut plan.last_card old.view new.view × HasSlotOf plan c new
 Claims plan op place node_key old new claimed.NoneLeft =
     HasNone old new × NoneIsLeft plan op 0 new × (new.view.hindrances ≡ old.view.hindrances) × LetsGo plan new

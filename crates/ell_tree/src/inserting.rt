@@ -10,7 +10,7 @@ ghost use Rattle.ell_tree.specs.Keeping.{Keeps, IsInnerMet};
 ghost use Rattle.ell_tree.specs.Searches.{AtRoot};
 ghost use Rattle.ell_tree.specs.Tries.{HasSlotOf, told_of_put, put_reply, Fills, Flags, HasCardToPut, TryEnds};
 ghost use Rattle.ell_core.specs.tree.Flat.{IsNodeKey};
-ghost use Rattle.ell_cards.specs.Models.{flat_from};
+ghost use Rattle.ell_cards.specs.Models.{flat_from, new_node};
 ghost use Rattle.ell_cards.specs.Sayings.{put_says};
 ghost use Rattle.ell_cards.specs.Stepping.{IsWholeIn};
 
@@ -125,7 +125,7 @@ fn flag_insert<M: Memory, G: StepGate>(
     requires limit { card ≤ greatest_number }
     requires slot { HasSlotOf table.now.plan card pass.old }
     requires tag { place.parent.tag ≤ greatest_tag }
-    requires card { HasCardToPut what place node_key pass.old.view card }
+    requires card { HasCardToPut what place (new_node table.now.plan node_key) pass.old.view card }
     requires node { IsInnerMet table.now.plan.last_card pass.old.view place.parent.node }
     ensures keeps { Keeps pass.old pass.new 11 }
     ensures taken { TakesNoCard pass.old pass.new }
@@ -137,8 +137,8 @@ fn flag_insert<M: Memory, G: StepGate>(
 }
 
 // Fills the card of an insert or a swap: the node where its search ended, with the tag that was read at the parent; an
-// internal node; and below it the leaf of the key and a copy of the old leaf, or the old node itself, the lesser key
-// left, each with its value. Of each child it stores the child word with tag 0.
+// internal node; and below it the leaf of the key and a copy of the old leaf, or in a flat tree the old node itself, the
+// lesser key left, each with its value. Of each child it stores the child word with tag 0.
 fn fill_insert<M: Memory, G: StepGate>(
     table: &CardTable<M>,
     pass: &mut Pass<M>,
@@ -152,14 +152,14 @@ fn fill_insert<M: Memory, G: StepGate>(
     requires limit { card ≤ greatest_number }
     requires slot { HasSlotOf table.now.plan card pass.old }
     requires tag { place.parent.tag ≤ greatest_tag }
-    requires card { HasCardToPut what place node_key pass.old.view card }
+    requires card { HasCardToPut what place (new_node table.now.plan node_key) pass.old.view card }
     ensures fills { Fills pass.old pass.new 10 }
     ensures whole { table.now.plan.slots ≢ None → IsWholeIn pass.new card put_says }
 {
     table.facts_stay_inside(pass);
     let Put { key, value, was: _ } = what;
     let (lesser, greater) = (key.min(place.key), key.max(place.key));
-    let (left, right) = card_children(card, key, place.node, place.key);
+    let (left, right) = card_children(table.is_flat(), card, key, place.node, place.key);
     let (left_value, right_value) = if key < place.key {
         (value, place.value)
     } else {

@@ -16,11 +16,11 @@ ghost use Rattle.ell_tree.specs.Retiring.{BothAreNoted, HasPut, KeepsTakenOut};
 use crate::searching::Place;
 use ell_cards::{CardNodes, CardTable, Memory, Pass};
 use ell_core::Put;
-use ell_word::{card_of, is_internal, left_leaf_of, right_leaf_of};
+use ell_word::{card_of, left_leaf_of, right_leaf_of};
 
-/// Notes what the card of an insert or a swap has taken out, and which of its nodes never come. Where it went above an
-/// internal node, it took nothing out, and the leaf of that node's key is not used. Else it took the leaf out that stood
-/// there; and if that leaf had its key, the card's right leaf alone came.
+/// Notes what the card of an insert or a swap has taken out, and which of its nodes never come. Above a node of another key it
+/// took nothing out, and the leaf of that node's key is not used. Else it took the leaf out that stood there, and the card's
+/// right leaf alone came.
 pub(crate) fn retire_put<M: Memory>(
     table: &CardTable<M>,
     pass: &mut Pass<M>,
@@ -36,7 +36,7 @@ pub(crate) fn retire_put<M: Memory>(
     ensures retired { (s : Slots) → table.now.plan.slots ≡ Some s →
         PutIsRetired s pass.new.view pass.new.sought.retired card }
 {
-    if is_internal(place.node) {
+    if place.key != what.key {
         let unused = if what.key < place.key {
             right_leaf_of(card)
         } else {
@@ -46,14 +46,12 @@ pub(crate) fn retire_put<M: Memory>(
         return;
     }
     table.retire(pass, place.node);
-    if place.key == what.key {
-        let left_out = CardNodes {
-            internal: true,
-            left: true,
-            right: false,
-        };
-        table.retire_nodes(pass, card, left_out);
-    }
+    let left_out = CardNodes {
+        internal: true,
+        left: true,
+        right: false,
+    };
+    table.retire_nodes(pass, card, left_out);
 }
 
 /// Notes what the card of a delete has taken out: the parent and the leaf; and its own nodes, none of which comes.

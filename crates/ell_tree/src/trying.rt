@@ -2,7 +2,7 @@
 ghost use Rattle.std.specs.Prelude.{◌≡◌, ◌≤◌, None};
 ghost use Rattle.ell_word.specs.declared.update.State.TheVariants.{Clean};
 ghost use Rattle.ell_word.specs.Node.{greatest_number};
-ghost use Rattle.ell_cards.specs.Models.{Does, Steps, flat_from};
+ghost use Rattle.ell_cards.specs.Models.{Does, Steps, flat_from, new_node};
 ghost use Rattle.ell_cards.specs.Guards.{MayClaim, MayFill, Wants};
 ghost use Rattle.ell_cards.specs.Changes.{after_fill};
 ghost use Rattle.ell_cards.specs.Shown.{shown_word};
@@ -149,12 +149,12 @@ fn claim_up_to<M: Memory>(
     node_key: u64,
 ) -> bool
     requires own { pass.old.table ≡ table.now.id }
-    requires may { MayClaim (flat_from table.now.plan) pass.old.view first node_key }
+    requires may { MayClaim (flat_from table.now.plan) pass.old.view first (new_node table.now.plan node_key) }
     requires order { first ≤ card }
     requires room { card ≤ table.now.plan.last_card }
     requires one { table.now.plan.slots ≡ None → card ≡ first }
-    requires kept { MayInTable table.now.plan pass.old (call.Claim first node_key) }
-    ensures step { Steps pass.old pass.new (after_claimed_row result first card node_key pass.old.view) }
+    requires kept { MayInTable table.now.plan pass.old (call.Claim first (new_node table.now.plan node_key)) }
+    ensures step { Steps pass.old pass.new (after_claimed_row result first card (new_node table.now.plan node_key) pass.old.view) }
     ensures fresh { IsFresh table.now.plan pass.old.slot result card }
 {
     table.places_are_in_flat_trees();

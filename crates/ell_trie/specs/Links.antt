@@ -43,18 +43,17 @@ pub record Links (Born : ℕ → Type 0) (opening : Opening) (key : ℕ → ℕ)
   pub old_leaf_there : ¬ IsInternal old → InHalfOf (key new) (not half) (key old)
   pub fits : opening.holds parent ≡ false → InsideOf (key new) (key parent) side
 
--- An edge insert, with what is known when it is made: the parent is reached, on course for the added key and, unless it is
--- of the opening tree, with the key in its block. The old node, its child on the key's side, has a block that lacks the key,
--- and the key of the new node is the branch of the old node's key and the added one.
+-- An insert above a node, with what is known when it is made: the parent is reached, on course for the added key and, unless
+-- it is of the opening tree, with the key in its block. The old node, its child on the key's side, is a leaf, or has a block
+-- that lacks the key, and the key of the new node is the branch of the old node's key and the added one.
 pub record EdgeInsert (Born : ℕ → Type 0) (opening : Opening) (key : ℕ → ℕ) (child after : ℕ → Bool → ℕ)
     (top parent : ℕ) (side : Bool) (old new : ℕ) (half : Bool) (leaf added : ℕ) : Type 0 where
   pub shape : LinkShape Born opening key child after parent side old new half leaf added
-  pub inner : IsInternal old
   pub there : IsSpanned key child top parent
   pub course : OnTrieCourse opening key child top added parent
   pub inside : opening.holds parent ≡ false → InBlockOf (key parent) added
   pub toward : nat_le (key parent) added ≡ side
-  pub lacks : ¬ InBlockOf (key old) added
+  pub lacks : IsInternal old → ¬ InBlockOf (key old) added
   pub parts : IsBranchBeside half (key old) added (key new)
 
 -- what was born before such a link, and its new nodes

@@ -1,6 +1,7 @@
 -- How one stage of a card follows another, and what an event does to the stages of the cards and to their wins.
 pub mod Advances
 -- The effective ledgers by the stages of the cards: what counts where a card has made something of its key, nothing, or the same.
+pub mod Below
 pub mod Counts
 -- Which cards have come to their end: what has ended has ended later too.
 pub mod Ended

@@ -13,7 +13,7 @@ use Rattle.ell_core.specs.declared.view.Seen.{Seen}
 use Rattle.ell_core.specs.declared.view.Search.{Search}
 use Rattle.ell_core.specs.declared.view.WorkerOf.{WorkerOf}
 use Rattle.ell_layout.specs.declared.field.Field.{Field}
-use Rattle.ell_layout.specs.Words.{Words, put, IsLeaf}
+use Rattle.ell_layout.specs.Words.{Words, put, IsLeaf, is_flat}
 use Rattle.ell_core.specs.state.Facts.{Knowledge, learned_any, told_by}
 use Rattle.ell_core.specs.state.Machine.{Ledger, Worker, Scene, no_search}
 use Rattle.ell_layout.specs.Cards.{child_for, tag_for, put_filling, value_below, delete_filling, claimed}
@@ -154,7 +154,7 @@ pub record ClaimPut (s : Scene) (said : Stepped) (after : Scene) : Type 0 where
   pub named : IsNodeKey s.words.flat_from what.key (s.words.key below) node_key
   pub says : said ≡ Moved
   pub gives : after ≡ claims s parent.tag
-      (put_filling s.words.next what.key what.value node_key parent.node below (s.words.key below) (value_below s.words below))
+      (put_filling (is_flat s.words) s.words.next what.key what.value node_key parent.node below (s.words.key below) (value_below s.words below))
 
 -- claim for a delete: at such a leaf of its key, with a grandparent whose update word it read clean, and whose child
 -- word the card expects, the worker has no card in hand, or, in a flat tree, one that has not won its flag, which it

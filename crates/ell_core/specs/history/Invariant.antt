@@ -8,7 +8,7 @@ use Rattle.ell_core.specs.declared.fact.Fact.{Fact}
 use Rattle.ell_layout.specs.declared.field.Field.{Field}
 use Rattle.ell_core.specs.declared.put.Put.{Put}
 use Rattle.ell_core.specs.declared.view.Seen.{Seen}
-use Rattle.ell_layout.specs.Words.{Words, word, IsLeaf}
+use Rattle.ell_layout.specs.Words.{Words, word, IsLeaf, is_flat}
 use Rattle.ell_core.specs.state.Facts.{card_of_fact}
 use Rattle.ell_core.specs.state.Machine.{Worker, Machine, entry_of}
 use Rattle.ell_layout.specs.Cards.{iflag, dflag, marked, clean, is_right, child_for, tag_for, exchange_side, sibling, is_replace_card, left_of_card, right_of_card}
@@ -85,17 +85,17 @@ pub record IsLeafBorn (stage : Stages) (x : ℕ) : Type 0 where
   pub outer : IsLeaf x
   pub born : Born stage x
 
--- a leaf of an insert's card is a copy of the old leaf: it has its key and its value. If the card goes above an internal
--- node, it is not used, and has that node's key.
+-- a leaf of an insert's card is a copy of the old leaf: it has its key and its value. In a flat tree, and if the card goes
+-- above an internal node, it is not used, and has that node's key.
 pub record IsCopy (w : Words) (c leaf : ℕ) : Type 0 where
   pub key : w.key leaf ≡ w.key (w.l c)
   pub value : IsLeaf (w.l c) → w.value leaf ≡ w.value (w.l c)
 
--- the children of the node of an insert's card, as they were filled: its leaves, or above an internal node that node in
--- place of one of them
+-- the children of the node of an insert's card, as they were filled: its leaves, or in a flat tree, and above an internal
+-- node, the node above which it goes in place of one of them
 abbrev pub filled_child : Words → ℕ → Bool → ℕ
-filled_child w c false = left_of_card c (insert_key w c) (w.l c) (w.key (w.l c))
-filled_child w c true = right_of_card c (insert_key w c) (w.l c) (w.key (w.l c))
+filled_child w c false = left_of_card (is_flat w) c (insert_key w c) (w.l c) (w.key (w.l c))
+filled_child w c true = right_of_card (is_flat w) c (insert_key w c) (w.l c) (w.key (w.l c))
 
 -- an insert's card: where it goes, with no grandparent and no update word that was read; two leaves, a copy of the old
 -- one and one of its own key, which may be the same key, and which lie on one side of the parent; in a flat tree its key is

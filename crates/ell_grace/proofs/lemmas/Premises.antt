@@ -6,7 +6,7 @@ use Rattle.ell_core.specs.declared.event.Stepped.TheVariants.{Moved, Answered}
 use Rattle.ell_core.specs.declared.fact.Fact.TheVariants.{IOver}
 use Rattle.ell_core.specs.declared.view.Entry.TheVariants.{Absent}
 use Rattle.ell_ops.specs.declared.reply.Reply.TheVariants.{Yes}
-use Rattle.ell_layout.specs.Words.{IsLeaf, put}
+use Rattle.ell_layout.specs.Words.{put}
 use Rattle.ell_core.specs.state.Machine.{Machine, Scene, scene}
 use Rattle.ell_core.specs.acts.Searching.{begun}
 use Rattle.ell_core.specs.acts.Events.{Steps}
@@ -43,9 +43,6 @@ next_passed =
     passed_on answered_state (by (act.Begin (Find 7))) (shown.Step Moved) next_state
     (passed_on over_state (by act.Answer) (shown.Step (Answered Yes)) answered_state over_passed answers) begins_anew
 
-first_leaf : IsLeaf 1
-first_leaf e = omega arith
-
 -- so it begins when leaf 1 is gone
 pub begins_when_gone : BeginsWhenGone
 begins_when_gone = record {
@@ -56,7 +53,7 @@ begins_when_gone = record {
   node = 1;
   gone = λ has.
       let over = (has.invariant.workers.each 0).facts (IOver 1) refl in
-      record { taker = 1; ended = insert_over-ended (has.stages 1) over; takes = inl (insert_over-changed (has.stages 1) over, first_leaf, refl) };
+      record { taker = 1; ended = insert_over-ended (has.stages 1) over; takes = inl (insert_over-changed (has.stages 1) over, refl, refl) };
 }
 
 -- nothing has begun

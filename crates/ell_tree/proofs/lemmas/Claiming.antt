@@ -1,4 +1,4 @@
-use Rattle.std.proofs.Common.{IfSome, ◌≡◌, ◌≢◌, ℕ, ◌+◌, ◌-◌, ◌*◌, ◌<◌, ◌≤◌, ◌++◌, Bool, true, false, Option, Some, None, List, [], ◌∷◌, length, inl, inr, refl, sym, ◌∙◌, ap, subst, unwrap_or, arith}
+use Rattle.std.proofs.Common.{IfSome, ◌≡◌, ◌≢◌, ℕ, ◌+◌, ◌-◌, ◌*◌, ◌<◌, ◌≤◌, ◌++◌, Bool, true, false, Option, Some, None, List, [], ◌∷◌, length, inl, inr, refl, sym, ◌∙◌, ap, subst, unwrap_or, arith, nat_lt}
 use Rattle.std.proofs.lemmas.Option.{same_Some}
 use Rattle.ell_ops.specs.declared.op.Op.{Op}
 use Rattle.ell_word.specs.declared.update.State.TheVariants as state
@@ -12,7 +12,7 @@ use Rattle.ell_cards.specs.declared.view.Hindrance.TheVariants.{Claim}
 use Rattle.ell_cards.specs.declared.view.Seek.{Seek}
 use Rattle.ell_cards.specs.declared.view.Slots.{Slots}
 use Rattle.ell_cards.specs.declared.view.View.{View}
-use Rattle.ell_cards.specs.Models.{TablePlan, PassModel, Steps, flat_from, latest, earlier, Does}
+use Rattle.ell_cards.specs.Models.{TablePlan, PassModel, Steps, flat_from, new_node, latest, earlier, Does}
 use Rattle.ell_cards.specs.Changes.{expected_tag, filling_for, filling_of, tag_of_claim, value_told}
 use Rattle.ell_cards.specs.Guards.{MayClaim, MayFill, Wants}
 use Rattle.ell_cards.specs.Periods.{most_claims}
@@ -22,6 +22,7 @@ use Rattle.ell_cards.specs.Shown.{cut_planned}
 use Rattle.ell_cards.specs.Skipping.{after_claimed_row, after_row, IsAfterRow, IsFresh}
 use Rattle.ell_cards.specs.Stepping.{LetsGo, MayInTable}
 use Rattle.ell_cards.specs.declared.call.Call.TheVariants as call
+use Rattle.ell_cards.specs.declared.call.NewNode.{NewNode}
 use Rattle.ell_cards.proofs.lemmas.views.Afters.{after_next}
 use Rattle.ell_cards.proofs.lemmas.views.Rows.{rows_keep, wants_same}
 use Rattle.ell_cards.proofs.lemmas.views.Searches.{may_claim}
@@ -44,7 +45,7 @@ use Rattle.ell_tree.proofs.lemmas.LettingGo.{aside_unflagged, lets_aside_go}
 use Rattle.ell_tree.proofs.lemmas.Keeping.{keeps_in, keeps_in_trans, keeps_step, keeps_all_none, loses_trans, next_keeps}
 
 -- a row of claims loses nothing
-row_keeps : (first last node_key : ℕ) (v w : View) → IsAfterRow first last node_key v w → v.next_at_least ≤ first → first ≤ last → LosesNothing v w
+row_keeps : (first last : ℕ) (node_key : NewNode) (v w : View) → IsAfterRow first last node_key v w → v.next_at_least ≤ first → first ≤ last → LosesNothing v w
 row_keeps first last node_key v w r low up = record {
   ledger = r.ledger;
   operation = r.operation;
@@ -59,17 +60,17 @@ row_keeps first last node_key v w r low up = record {
 }
 
 -- what a pass knows once it has claimed a row of cards
-claimed_row : (first last node_key : ℕ) (v : View) → first ≤ last → IsAfterRow first last node_key v (after_claimed_row true first last node_key v)
+claimed_row : (first last : ℕ) (node_key : NewNode) (v : View) → first ≤ last → IsAfterRow first last node_key v (after_claimed_row true first last node_key v)
 claimed_row first last node_key v order =
     subst (λ m. IsAfterRow first m node_key v (cut_planned (after_row (last - first) first node_key v))) (omega arith) (rows_keep (last - first) first node_key v)
 
 -- where a search stands at a node, and the claim word was read, a claim may be made
-pub may_claim_at : (plan : TablePlan) (old new : PassModel) (c node_key : ℕ) (op : Op) (place : Place) → Steps old new (after_next c old.view) → Does old.view op
+pub may_claim_at : (plan : TablePlan) (old new : PassModel) (c : ℕ) (node_key : NewNode) (op : Op) (place : Place) → Steps old new (after_next c old.view) → Does old.view op
     → HoldsAside plan old → old.view.next_at_least ≤ c → IsAt old.view place → place.parent.update.state ≡ state.Clean
-    → Wants (flat_from plan) old.view op place.parent.node place.node place.key node_key → MayClaim (flat_from plan) new.view c node_key
-may_claim_at plan old new c node_key op place s busy hand low at calm wants =
+    → Wants (flat_from plan) old.view op place.parent.node place.node place.key node_key.key → node_key.flat ≡ nat_lt 0 (flat_from plan) → MayClaim (flat_from plan) new.view c node_key
+may_claim_at plan old new c node_key op place s busy hand low at calm wants shape =
     may_claim (flat_from plan) old new op c place.node place.key node_key (seen place.parent) s busy (λ holds. omega (arith, hand.below c holds)) hand.ready
-    (ap (λ (r : Search). r.node) at.search) at.told (ap (λ (r : Search). r.parent) at.search) (clean_word place.parent.update.state place.parent.update.card calm) wants
+    (ap (λ (r : Search). r.node) at.search) at.told (ap (λ (r : Search). r.parent) at.search) (clean_word place.parent.update.state place.parent.update.card calm) wants shape
 
 -- a pass that takes a slot after its steps, or finds it in use, keeps what it kept
 pub keeps_slot : (plan : TablePlan) (a d e : PassModel) (n : ℕ) → KeepsIn plan a d n → e ≡ record d { slot = e.slot; safe = e.safe; surveyed = e.surveyed; sought = e.sought } → KeepsIn plan a e n
@@ -83,11 +84,11 @@ keeps_slot plan a d e n k same = record {
 }
 
 -- A pass read the claim word, and then perhaps found another safe number. It may claim the next card then.
-module _ (a b e : PassModel) (first node_key : ℕ) (read : Steps a b (after_next first a.view)) (same : e ≡ record b { safe = e.safe; surveyed = e.surveyed; sought = e.sought }) (low : a.view.next_at_least ≤ first) where
+module _ (a b e : PassModel) (first : ℕ) (node_key : NewNode) (read : Steps a b (after_next first a.view)) (same : e ≡ record b { safe = e.safe; surveyed = e.surveyed; sought = e.sought }) (low : a.view.next_at_least ≤ first) where
   pub may_claim_there : (plan : TablePlan) (op : Op) (place : Place) → Does a.view op → HoldsAside plan a → IsAt a.view place → place.parent.update.state ≡ state.Clean
-      → Wants (flat_from plan) a.view op place.parent.node place.node place.key node_key → MayClaim (flat_from plan) e.view first node_key
-  may_claim_there plan op place busy hand at calm wants =
-      subst (λ (w : View). MayClaim (flat_from plan) w first node_key) (sym (ap (λ (p : PassModel). p.view) same)) (may_claim_at plan a b first node_key op place read busy hand low at calm wants)
+      → Wants (flat_from plan) a.view op place.parent.node place.node place.key node_key.key → node_key.flat ≡ nat_lt 0 (flat_from plan) → MayClaim (flat_from plan) e.view first node_key
+  may_claim_there plan op place busy hand at calm wants shape =
+      subst (λ (w : View). MayClaim (flat_from plan) w first node_key) (sym (ap (λ (p : PassModel). p.view) same)) (may_claim_at plan a b first node_key op place read busy hand low at calm wants shape)
 
   -- the card that it has in hand is the one that it had, and so is the slot that it took last
   same_card : e.view.worker.card ≡ a.view.worker.card
@@ -165,10 +166,11 @@ module _ (a b e : PassModel) (first node_key : ℕ) (read : Steps a b (after_nex
 
     -- also once its slot is taken, and nothing was in the way
     pub taken_claims : (plan : TablePlan) (op : Op) (place : Place) (f : PassModel) → ClaimsAll true → Does a.view op → IsAt a.view place
-        → 1 ≤ first → last ≤ plan.last_card → f ≡ record d { slot = f.slot; safe = f.safe; surveyed = f.surveyed; sought = f.sought } → HasSlotOf plan last f → Claims plan op place node_key a f (claimed.Card last)
-    taken_claims plan op place f s busy at some room took slot =
+        → 1 ≤ first → last ≤ plan.last_card → f ≡ record d { slot = f.slot; safe = f.safe; surveyed = f.surveyed; sought = f.sought } → HasSlotOf plan last f → node_key ≡ new_node plan node_key.key → Claims plan op place node_key.key a f (claimed.Card last)
+    taken_claims plan op place f s busy at some room took slot same_node =
         let view = ap (λ (p : PassModel). p.view) took in (
-          subst (λ (w : View). HasCard op place (expected_tag a.view) (filling_of last node_key a.view) w last) (sym view) (has_card op place s busy at),
+          subst (λ (k : NewNode). HasCard op place (expected_tag a.view) (filling_of last k a.view) f.view last) same_node
+              (subst (λ (w : View). HasCard op place (expected_tag a.view) (filling_of last node_key a.view) w last) (sym view) (has_card op place s busy at)),
           room,
           ap (λ (w : View). w.hindrances) view ∙ (row s).hindrances,
           subst (GivesOut plan.last_card a.view) (sym view) (given_out true plan.last_card s some (omega arith)),
@@ -205,7 +207,7 @@ module _ (a b e : PassModel) (first node_key : ℕ) (read : Steps a b (after_nex
 
     -- if it lost them, no card was taken, and that was in the way
     pub lost_claims : (plan : TablePlan) (op : Op) (place : Place) → ClaimsAll false → HoldsAside plan a → 1 ≤ first → last ≤ plan.last_card
-        → Claims plan op place node_key a d claimed.Lost
+        → Claims plan op place node_key.key a d claimed.Lost
     lost_claims plan op place s hand some room =
         let view = view_there false s in
         let meets = subst (λ (w : View). Meets a.view w × (length a.view.hindrances + 1 ≤ length w.hindrances)) (sym view)
@@ -298,7 +300,7 @@ module _ (plan : TablePlan) (n : ℕ) (old mid new : PassModel) (h : HasAsked pl
   same_tag : expected_tag mid.view ≡ expected_tag old.view
   same_tag = λ t. tag_of_claim (h.keeps.view.operation t) (h.search t).parent (h.search t).grandparent
 
-  same_filling : (c node_key : ℕ) → filling_of c node_key mid.view ≡ filling_of c node_key old.view
+  same_filling : (c : ℕ) (node_key : NewNode) → filling_of c node_key mid.view ≡ filling_of c node_key old.view
   same_filling c node_key = λ t.
       filling_for c node_key (h.keeps.view.operation t) (h.search t).node (h.search t).parent (h.search t).grandparent (unwrap_or (h.here t) 0) (h.values t)
 
@@ -313,8 +315,8 @@ module _ (plan : TablePlan) (n : ℕ) (old mid new : PassModel) (h : HasAsked pl
 
   pub asked_claims : (op : Op) (place : Place) (node_key : ℕ) (said : Claimed) → Claims plan op place node_key mid new said → Claims plan op place node_key old new said
   asked_claims op place node_key (claimed.Card c) claims = (
-    subst (λ (filling : List (Field × ℕ)). HasCard op place (expected_tag old.view) filling new.view c) (same_filling c node_key)
-        (subst (λ (tag : ℕ). HasCard op place tag (filling_of c node_key mid.view) new.view c) same_tag claims.0),
+    subst (λ (filling : List (Field × ℕ)). HasCard op place (expected_tag old.view) filling new.view c) (same_filling c (new_node plan node_key))
+        (subst (λ (tag : ℕ). HasCard op place tag (filling_of c (new_node plan node_key) mid.view) new.view c) same_tag claims.0),
     claims.1,
     claims.2 ∙ h.hindrances,
     given_before claims.3,

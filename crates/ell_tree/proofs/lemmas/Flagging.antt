@@ -27,6 +27,7 @@ use Rattle.ell_tree.specs.Tries.{HasCard, HasCardToPut, Fills, Flags, IsFlagged,
 use Rattle.ell_tree.proofs.lemmas.Counts.{took_one, took_trans}
 use Rattle.ell_tree.proofs.lemmas.Keeping.{place_told}
 use Rattle.ell_tree.proofs.lemmas.CardsTaken.{no_claims}
+use Rattle.ell_cards.specs.declared.call.NewNode.{NewNode}
 
 -- a card that is filled is in hand, not flagged, as before
 may_fill_still : (a b : PassModel) (n c : ℕ) → Fills a b n → MayFill a.view c → MayFill b.view c
@@ -36,7 +37,7 @@ may_fill_still a b n c fills may = record {
 }
 
 -- an insert's card that is filled may flag the parent
-pub may_iflag : (a b : PassModel) (n c node_key : ℕ) (what : Put) (place : Place) → HasCardToPut what place node_key a.view c → Fills a b n
+pub may_iflag : (a b : PassModel) (n c : ℕ) (node_key : NewNode) (what : Put) (place : Place) → HasCardToPut what place node_key a.view c → Fills a b n
     → MayIFlag b.view c place.parent.node place.parent.update
 may_iflag a b n c node_key what place h fills = record {
   op = h.op;

@@ -1,7 +1,13 @@
-use Rattle.std.proofs.Common.{◌≡◌, ◌≢◌, ◌⊎◌, false, ℕ, zero, suc, ◌+◌, ◌*◌, ◌%◌, ◌<◌, ◌≤◌, Some, inl, inr, refl, sym, ◌∙◌, subst, max, min, true, arith}
+use Rattle.std.proofs.Common.{◌≡◌, ◌≢◌, ◌⊎◌, false, ℕ, zero, suc, ◌+◌, ◌*◌, ◌%◌, ◌<◌, ◌≤◌, Some, inl, inr, refl, sym, ◌∙◌, subst, max, min, true, arith, Bool, if◌then◌else◌, ◌||◌, ◌==◌, ap}
+use Rattle.ell_cards.specs.LettingGo.{PutIsRetired}
+use Rattle.ell_cards.specs.SlotWords.{has_slot_in}
+use Rattle.ell_cards.specs.Seeking.{retires}
+use Rattle.ell_cards.specs.declared.card_nodes.CardNodes.{CardNodes}
+use Rattle.ell_cards.specs.declared.view.Slots.{Slots}
+use Rattle.std.proofs.lemmas.Bool.Decides.{nat_tests}
 use Rattle.std.proofs.lemmas.Bool.{false≢true}
 use Rattle.ell_ops.specs.declared.op.Op.{Op}
-use Rattle.ell_word.specs.Node.{IsInternal, card, left_leaf, right_leaf}
+use Rattle.ell_word.specs.Node.{IsInternal, card, left_leaf, right_leaf, IsNode}
 use Rattle.ell_core.specs.declared.fact.Fact.TheVariants as fact
 use Rattle.ell_core.specs.declared.put.Put.{Put}
 use Rattle.ell_core.specs.acts.Searching.{put_of}
@@ -12,7 +18,7 @@ use Rattle.ell_cards.specs.declared.view.Seek.{Seek}
 use Rattle.ell_cards.specs.declared.view.Told.TheVariants.{Info}
 use Rattle.ell_cards.specs.declared.view.View.{View}
 use Rattle.ell_cards.specs.CardNodes.{all_nodes, node_alone}
-use Rattle.ell_cards.specs.Noting.{AllOfCard, NeverCome}
+use Rattle.ell_cards.specs.Noting.{AllOfCard, NeverCome, retires_in}
 use Rattle.ell_cards.specs.Dead.{HasTakenOut, KnowsDeleteEnded, KnowsNeverComes}
 use Rattle.ell_cards.specs.Models.{PassModel, IsTold, Knows, Does}
 use Rattle.ell_cards.specs.Noting.{HasNoted}
@@ -20,6 +26,7 @@ use Rattle.ell_cards.proofs.lemmas.views.DeadNodes.{so_alone}
 use Rattle.ell_tree.specs.declared.searching.Place.{Place}
 use Rattle.ell_tree.specs.Helps.{IsInsert}
 use Rattle.ell_tree.specs.Keeping.{Keeps, KeepsAll, KeepsAllButMet, LosesNothing}
+use Rattle.ell_cards.specs.Touching.{KnowsOneKey}
 use Rattle.ell_tree.specs.Retiring.{HasPut}
 use Rattle.ell_tree.specs.Searches.{node_with}
 
@@ -61,26 +68,23 @@ pub leaf_dead : (v : View) (c x : ℕ) → v.worker.card ≡ Some c → Knows v 
 leaf_dead v c x hand over told = (c, hand, inr (over, inr told))
 
 module _ (what : Put) (place : Place) (v : View) (c : ℕ) (h : HasPut what place v c) where
-  -- an insert or a swap has taken out the leaf where it went
-  pub below_dead : IsLeaf place.node → HasTakenOut v place.node
-  below_dead outer = (c, h.card, inl (h.over, outer, h.below))
-
-  -- where that had its key, what is not the card's right leaf never comes
-  replaced_dead : (x : ℕ) → place.key ≡ what.key → card x ≡ c → x ≢ right_leaf c → KnowsNeverComes v c x
-  replaced_dead x same on other =
+  -- a card that went to a node of its key has leaves of one key
+  one_key : place.key ≡ what.key → KnowsOneKey v c
+  one_key same =
       let lesser : min what.key place.key ≡ what.key = omega (arith, same) in
-      let greater : max what.key place.key ≡ what.key = omega (arith, same) in (
-        on,
-        inr (
-          h.over,
-          inl (record {
-            key = what.key;
-            left = subst (λ k. IsTold v (Info c field.LeftLeafKey k)) lesser h.left_key;
-            right = subst (λ k. IsTold v (Info c field.RightLeafKey k)) greater h.right_key;
-            other = other;
-          }),
-        ),
-      )
+      let greater : max what.key place.key ≡ what.key = omega (arith, same) in record {
+        key = what.key;
+        left = subst (λ k. IsTold v (Info c field.LeftLeafKey k)) lesser h.left_key;
+        right = subst (λ k. IsTold v (Info c field.RightLeafKey k)) greater h.right_key;
+      }
+
+  -- it has taken out the leaf where it went
+  pub below_dead : place.key ≡ what.key → HasTakenOut v place.node
+  below_dead same = (c, h.card, inl (h.over, one_key same, h.below))
+
+  -- and what is not its right leaf never comes
+  replaced_dead : (x : ℕ) → place.key ≡ what.key → card x ≡ c → x ≢ right_leaf c → KnowsNeverComes v c x
+  replaced_dead x same on other = (on, inr (h.over, inl (record { same = one_key same; other = other })))
 
   pub replaced_nodes_dead : place.key ≡ what.key → NeverCome v c (record { internal = true; left = true; right = false })
   replaced_nodes_dead same zero is = replaced_dead (4 * c + 0) same (omega arith) (λ e. omega arith)
@@ -88,25 +92,22 @@ module _ (what : Put) (place : Place) (v : View) (c : ℕ) (h : HasPut what plac
   replaced_nodes_dead same (suc (suc zero)) is = absurd (false≢true is)
   replaced_nodes_dead same (suc (suc (suc i))) is = absurd (false≢true is)
 
-  -- above an internal node the leaf of that node's key is not used
-  unused_dead : (x : ℕ) → IsInternal place.node → card x ≡ c
+  -- above a node of another key the leaf of that key is not used
+  unused_dead : (x : ℕ) → place.key ≢ what.key → card x ≡ c
       → ((x ≡ left_leaf c) × IsTold v (Info c field.LeftLeafKey place.key)) ⊎ ((x ≡ right_leaf c) × IsTold v (Info c field.RightLeafKey place.key))
       → KnowsNeverComes v c x
-  unused_dead x inner on told = (
+  unused_dead x apart on told = (
     on,
     inr (
       h.over,
       inr (record {
         op = h.op;
-        below = place.node;
         key = place.key;
         busy = h.busy;
         holds = h.card;
         flagged = h.flagged;
-        goes = h.below;
-        inner = inner;
         told = told;
-        other = λ same. h.outer (same ∙ put_key h.op what h.puts) inner;
+        other = λ same. apart (same ∙ put_key h.op what h.puts);
       }),
     ),
   )
@@ -115,17 +116,17 @@ module _ (what : Put) (place : Place) (v : View) (c : ℕ) (h : HasPut what plac
   one_never : (x : ℕ) → card x ≡ c → KnowsNeverComes v c x → NeverCome v c (node_alone (x % 4))
   one_never x on never = subst (λ d. AllOfCard (KnowsNeverComes v c) d (node_alone (x % 4))) on (so_alone (KnowsNeverComes v c) x never)
 
-  pub right_dead : IsInternal place.node → what.key < place.key → NeverCome v c (node_alone (right_leaf c % 4))
-  right_dead inner less =
+  pub right_dead : what.key < place.key → NeverCome v c (node_alone (right_leaf c % 4))
+  right_dead less =
       let greater : max what.key place.key ≡ place.key = omega (arith, less) in
       one_never (right_leaf c) (omega arith)
-      (unused_dead (right_leaf c) inner (omega arith) (inr (refl, subst (λ k. IsTold v (Info c field.RightLeafKey k)) greater h.right_key)))
+      (unused_dead (right_leaf c) (λ same. omega arith) (omega arith) (inr (refl, subst (λ k. IsTold v (Info c field.RightLeafKey k)) greater h.right_key)))
 
-  pub left_dead : IsInternal place.node → place.key ≤ what.key → NeverCome v c (node_alone (left_leaf c % 4))
-  left_dead inner most =
+  pub left_dead : place.key ≢ what.key → place.key ≤ what.key → NeverCome v c (node_alone (left_leaf c % 4))
+  left_dead apart most =
       let lesser : min what.key place.key ≡ place.key = omega (arith, most) in
       one_never (left_leaf c) (omega arith)
-      (unused_dead (left_leaf c) inner (omega arith) (inl (refl, subst (λ k. IsTold v (Info c field.LeftLeafKey k)) lesser h.left_key)))
+      (unused_dead (left_leaf c) apart (omega arith) (inl (refl, subst (λ k. IsTold v (Info c field.LeftLeafKey k)) lesser h.left_key)))
 
 -- what was known of the card of an insert or a swap when its flag stood is known once it is over
 pub has_put : (f m : View) (c : ℕ) (op : Op) (what : Put) (place : Place) → put_of op ≡ Some what → LosesNothing f m → Does f op → m.worker.card ≡ Some c
@@ -144,3 +145,51 @@ has_put f m c op what place puts k busy hand flagged over is outer = record {
   right_key = k.told _ is.right_key;
   outer = outer;
 }
+
+-- what is noted of nodes that a card took out stays noted
+leaf_stays : (t : Bool) (nodes : CardNodes) (k : Seek) → (if t then retires false nodes k else k).retired.leaf ≡ k.retired.leaf
+leaf_stays true nodes k = refl
+leaf_stays false nodes k = refl
+
+or_so : (b : Bool) → (b || true) ≡ true
+or_so true = refl
+or_so false = refl
+
+leaf_in : (x : ℕ) (old : Bool) → IsLeaf x → IsNode x → (old || ((x % 4 == 1) || (x % 4 == 2))) ≡ true
+leaf_in x old outer node = grind (arith, nat_tests)
+
+-- so what a swap made dead is noted: the leaf that it took out, and of its card what never came
+pub swap_retired : (s : Slots) (what : Put) (place : Place) (c : ℕ) (a b d : PassModel) → HasPut what place a.view c → place.key ≡ what.key → HasNoted a b → HasNoted b d
+    → b.sought ≡ retires_in s true (card place.node) (node_alone (place.node % 4)) a.sought
+    → d.sought ≡ retires_in s false c (record { internal = true; left = true; right = false }) b.sought
+    → PutIsRetired s d.view d.sought.retired c
+swap_retired s what place c a b d h one first second took own =
+    let lesser : min what.key place.key ≡ what.key = omega (arith, one) in
+    let greater : max what.key place.key ≡ what.key = omega (arith, one) in
+    subst (λ (w : View). PutIsRetired s w d.sought.retired c) (sym (ap (λ (p : PassModel). p.view) second ∙ ap (λ (p : PassModel). p.view) first)) (record {
+      op = h.op;
+      below = place.node;
+      left = min what.key place.key;
+      right = max what.key place.key;
+      busy = h.busy;
+      goes = h.below;
+      left_key = h.left_key;
+      right_key = h.right_key;
+      leaf = λ same node slot.
+          ap (λ (k : Seek). k.retired.leaf) own
+          ∙ (leaf_stays (has_slot_in s.last c) (record { internal = true; left = true; right = false }) b.sought
+          ∙ (ap (λ (k : Seek). k.retired.leaf) took
+          ∙ (ap (λ t. (if t then retires true (node_alone (place.node % 4)) a.sought else a.sought).retired.leaf) slot
+          ∙ leaf_in place.node a.sought.retired.leaf (h.outer one) node)));
+      replaced = λ same slot. (
+        ap (λ (k : Seek). k.retired.own.internal) own
+            ∙ (ap (λ t. (if t then retires false (record { internal = true; left = true; right = false }) b.sought else b.sought).retired.own.internal) slot
+            ∙ or_so b.sought.retired.own.internal),
+        ap (λ (k : Seek). k.retired.own.left) own
+            ∙ (ap (λ t. (if t then retires false (record { internal = true; left = true; right = false }) b.sought else b.sought).retired.own.left) slot
+            ∙ or_so b.sought.retired.own.left),
+      );
+      unused_left = λ apart. absurd (apart (lesser ∙ sym greater));
+      unused_right = λ apart. absurd (apart (lesser ∙ sym greater));
+    })
+

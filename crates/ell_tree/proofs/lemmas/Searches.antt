@@ -54,7 +54,7 @@ pub root_passes : (from : ℕ) (op : Op) (key : ℕ) → MayPass from op 0 key
 root_passes from (Insert k value) key = λ has. absurd (no_root from has)
   where
     no_root : (n : ℕ) → has_block n 0 ≡ true → ⊥
-    no_root n has = let past = block_past n 0 has in let some = flat_by n 0 has in omega arith
+    no_root n has = let past = block_past n 0 refl has in let some = flat_by n 0 has in omega arith
 root_passes from (Find k) key = tt
 root_passes from (Delete k) key = tt
 root_passes from (Swap k was value) key = tt

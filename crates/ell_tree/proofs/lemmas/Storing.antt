@@ -69,22 +69,22 @@ abbrev pub bare : ℕ → ℕ
 bare node = linked (record { node = node; tag = 0 }) % 2 ^ 64
 
 -- it is what the card is to say
-stored_of_insert : (c k value node_key parent below tag below_key below_value : ℕ) → parent < tag_unit → IsLink (record { node = below; tag = tag }) → (f : Field)
-    → stored_at (insert_words parent (linked (record { node = below; tag = tag })) node_key (min k below_key) (max k below_key) (bare (left_of_card c k below below_key))
-    (bare (right_of_card c k below below_key)) (clean 0) (if nat_lt k below_key then value else below_value) (if nat_lt k below_key then below_value else value)) f
-    ≡ stored (shown_words (tagged tag (put_filling c k value node_key parent below below_key below_value))) f 0
-stored_of_insert c k value node_key parent below tag below_key below_value small link field.Gp = refl
-stored_of_insert c k value node_key parent below tag below_key below_value small link field.P = sym (low_node parent small)
-stored_of_insert c k value node_key parent below tag below_key below_value small link field.L = sym (whole_word (record { node = below; tag = tag }) link)
-stored_of_insert c k value node_key parent below tag below_key below_value small link field.Was = refl
-stored_of_insert c k value node_key parent below tag below_key below_value small link field.Key = refl
-stored_of_insert c k value node_key parent below tag below_key below_value small link field.Left = refl
-stored_of_insert c k value node_key parent below tag below_key below_value small link field.Right = refl
-stored_of_insert c k value node_key parent below tag below_key below_value small link field.Update = refl
-stored_of_insert c k value node_key parent below tag below_key below_value small link field.LeftLeafKey = refl
-stored_of_insert c k value node_key parent below tag below_key below_value small link field.RightLeafKey = refl
-stored_of_insert c k value node_key parent below tag below_key below_value small link field.LeftValue = refl
-stored_of_insert c k value node_key parent below tag below_key below_value small link field.RightValue = refl
+stored_of_insert : (flat : Bool) (c k value node_key parent below tag below_key below_value : ℕ) → parent < tag_unit → IsLink (record { node = below; tag = tag }) → (f : Field)
+    → stored_at (insert_words parent (linked (record { node = below; tag = tag })) node_key (min k below_key) (max k below_key) (bare (left_of_card flat c k below below_key))
+    (bare (right_of_card flat c k below below_key)) (clean 0) (if nat_lt k below_key then value else below_value) (if nat_lt k below_key then below_value else value)) f
+    ≡ stored (shown_words (tagged tag (put_filling flat c k value node_key parent below below_key below_value))) f 0
+stored_of_insert flat c k value node_key parent below tag below_key below_value small link field.Gp = refl
+stored_of_insert flat c k value node_key parent below tag below_key below_value small link field.P = sym (low_node parent small)
+stored_of_insert flat c k value node_key parent below tag below_key below_value small link field.L = sym (whole_word (record { node = below; tag = tag }) link)
+stored_of_insert flat c k value node_key parent below tag below_key below_value small link field.Was = refl
+stored_of_insert flat c k value node_key parent below tag below_key below_value small link field.Key = refl
+stored_of_insert flat c k value node_key parent below tag below_key below_value small link field.Left = refl
+stored_of_insert flat c k value node_key parent below tag below_key below_value small link field.Right = refl
+stored_of_insert flat c k value node_key parent below tag below_key below_value small link field.Update = refl
+stored_of_insert flat c k value node_key parent below tag below_key below_value small link field.LeftLeafKey = refl
+stored_of_insert flat c k value node_key parent below tag below_key below_value small link field.RightLeafKey = refl
+stored_of_insert flat c k value node_key parent below tag below_key below_value small link field.LeftValue = refl
+stored_of_insert flat c k value node_key parent below tag below_key below_value small link field.RightValue = refl
 
 -- a card of which all that it is to say was stored is filled
 fills : (a b : PassModel) (n : ℕ) (stores says : List (Field × ℕ)) → Stores a b stores n → a.view.planned ≡ says
@@ -119,16 +119,16 @@ said_of_insert parent word node_key lesser greater left right update left_value 
 -- an insert's card is filled by ten stores
 module _ (a b : PassModel) (parent word node_key lesser greater left right update left_value right_value : ℕ)
     (h : Stores a b (insert_words parent word node_key lesser greater left right update left_value right_value) 10) where
-  pub fills_insert : (c k value below tag below_key below_value : ℕ) → parent < tag_unit → IsLink (record { node = below; tag = tag })
-      → a.view.planned ≡ shown_words (tagged tag (put_filling c k value node_key parent below below_key below_value))
+  pub fills_insert : (flat : Bool) (c k value below tag below_key below_value : ℕ) → parent < tag_unit → IsLink (record { node = below; tag = tag })
+      → a.view.planned ≡ shown_words (tagged tag (put_filling flat c k value node_key parent below below_key below_value))
       → word ≡ linked (record { node = below; tag = tag })
-      → lesser ≡ min k below_key → greater ≡ max k below_key → left ≡ bare (left_of_card c k below below_key) → right ≡ bare (right_of_card c k below below_key) → update ≡ clean 0
+      → lesser ≡ min k below_key → greater ≡ max k below_key → left ≡ bare (left_of_card flat c k below below_key) → right ≡ bare (right_of_card flat c k below below_key) → update ≡ clean 0
       → left_value ≡ (if nat_lt k below_key then value else below_value) → right_value ≡ (if nat_lt k below_key then below_value else value)
       → Fills a b 10
-  fills_insert c k value below tag below_key below_value small link says w low high l r u lv rv =
-      fills a b 10 _ (shown_words (tagged tag (put_filling c k value node_key parent below below_key below_value))) h says
+  fills_insert flat c k value below tag below_key below_value small link says w low high l r u lv rv =
+      fills a b 10 _ (shown_words (tagged tag (put_filling flat c k value node_key parent below below_key below_value))) h says
       (λ f. (λ t. stored_at (insert_words parent (w t) node_key (low t) (high t) (l t) (r t) (u t) (lv t) (rv t)) f)
-      ∙ stored_of_insert c k value node_key parent below tag below_key below_value small link f)
+      ∙ stored_of_insert flat c k value node_key parent below tag below_key below_value small link f)
 
   -- and then it is whole
   pub whole_insert : (c : ℕ) → a.slot ≡ Some c → IsWholeIn b c put_says

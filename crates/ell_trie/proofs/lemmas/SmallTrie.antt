@@ -202,12 +202,11 @@ small_edge = record {
     fresh = λ e. false≢true e;
     fresh_leaf = λ e. false≢true e;
   };
-  inner = refl;
   there = record { low = 0; high = 64; spans = root refl refl refl };
   course = ordinary (here (root refl refl refl) (omega arith) (omega arith));
   inside = λ e. absurd (false≢true (sym e));
   toward = refl;
-  lacks = not_in_block (record { bit = 2; place = 0 }) 12 (λ inside. (let before = inside.before in omega arith));
+  lacks = λ inner. not_in_block (record { bit = 2; place = 0 }) 12 (λ inside. (let before = inside.before in omega arith));
   parts = record {
     block = record { bit = 3; place = 0 };
     middle = refl;

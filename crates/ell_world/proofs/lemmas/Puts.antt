@@ -1,11 +1,11 @@
-use Rattle.std.proofs.Common.{◌≡◌, ℕ, Some, None, max, inl, inr, ⊎_elim, refl, sym, ap, ◌∙◌, arith}
+use Rattle.std.proofs.Common.{◌≡◌, ℕ, false, nat_lt, Some, None, max, inl, inr, ⊎_elim, refl, sym, ap, ◌∙◌, arith}
 use Rattle.ell_ops.specs.declared.op.Op.{Op}
 use Rattle.ell_core.specs.declared.event.Act.TheVariants as act
 use Rattle.ell_core.specs.declared.event.Stepped.{Stepped}
 use Rattle.ell_core.specs.declared.event.Stepped.TheVariants.{Moved}
 use Rattle.ell_core.specs.declared.put.Put.{Put}
 use Rattle.ell_core.specs.declared.view.Seen.{Seen}
-use Rattle.ell_layout.specs.Words.{Words, IsLeaf}
+use Rattle.ell_layout.specs.Words.{Words, IsLeaf, is_flat}
 use Rattle.ell_layout.specs.Cards.{insert_filling, put_filling, value_below}
 use Rattle.ell_layout.proofs.lemmas.Puts.{put_filling-leaf, value_below-leaf}
 use Rattle.ell_core.specs.state.Machine.{Scene, Worker}
@@ -28,11 +28,12 @@ at_leaf v x parent at outer =
     record { stands = at.stands; outer = outer; behind = at.behind; calm = at.calm }
 
 -- the fields of a put's card at a leaf
-put_fields : (w : Words) (c k value parent leaf : ℕ) → IsLeaf leaf
-    → put_filling c k value (max k (w.key leaf)) parent leaf (w.key leaf) (value_below w leaf)
+put_fields : (w : Words) → w.flat_from ≡ 0 → (c k value parent leaf : ℕ) → IsLeaf leaf
+    → put_filling (is_flat w) c k value (max k (w.key leaf)) parent leaf (w.key leaf) (value_below w leaf)
     ≡ insert_filling c k value parent leaf (w.key leaf) (w.value leaf)
-put_fields w c k value parent leaf outer =
-    ap (put_filling c k value (max k (w.key leaf)) parent leaf (w.key leaf)) (value_below-leaf w leaf outer)
+put_fields w plain c k value parent leaf outer =
+    ap (λ flat. put_filling flat c k value (max k (w.key leaf)) parent leaf (w.key leaf) (value_below w leaf)) (ap (λ n. nat_lt 0 n) plain)
+    ∙ ap (put_filling false c k value (max k (w.key leaf)) parent leaf (w.key leaf)) (value_below-leaf w leaf outer)
     ∙ put_filling-leaf c k value parent leaf (w.key leaf) (w.value leaf) outer
 
 module _ (s : Scene) (plain : s.words.flat_from ≡ 0) where
@@ -57,7 +58,7 @@ module _ (s : Scene) (plain : s.words.flat_from ≡ 0) where
     named = record { greater = λ _. refl; branch = λ some _. absurd (omega (arith, plain)) };
     says = refl;
     gives = gives
-        ∙ ap (claims s parent.tag) (sym (put_fields s.words s.words.next what.key what.value parent.node leaf at.at.outer));
+        ∙ ap (claims s parent.tag) (sym (put_fields s.words plain s.words.next what.key what.value parent.node leaf at.at.outer));
   }
 
   -- who may take a card there has none in hand

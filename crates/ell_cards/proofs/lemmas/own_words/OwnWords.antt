@@ -4,10 +4,10 @@ use lib.ListN.{get_elem?}
 use Rattle.ell_word.specs.Node.{card, internal, left_leaf, right_leaf}
 use Rattle.ell_word.specs.Link.{node_bound}
 use Rattle.ell_word.specs.Word.{unpacked}
-use Rattle.ell_layout.specs.Cards.{card_key, card_value, is_delete_card, is_replace_card}
+use Rattle.ell_layout.specs.Cards.{card_key, card_value, is_delete_card, is_replace_card, stays_below}
 use Rattle.ell_layout.specs.declared.field.Field.{Field}
 use Rattle.ell_layout.specs.declared.field.Field.TheVariants as field
-use Rattle.ell_layout.specs.Words.{Words, IsLeaf, word, table_word}
+use Rattle.ell_layout.specs.Words.{Words, IsLeaf, word, table_word, is_flat}
 use Rattle.ell_core.specs.history.Invariant.{insert_key, filled_child}
 use Rattle.ell_core.proofs.lemmas.stages.Edges.{replaces_leaf}
 use Rattle.ell_core.specs.soundness.Sound.{IsSound}
@@ -75,8 +75,8 @@ module _ (plan : TablePlan) (s : TableState) (r : HasMachine plan s) where
 
   -- what stands below the node of a card as it is filled: a node of the card, or the node where it goes
   filled_cases : (w : Words) (c : ℕ) (right : Bool) → (filled_child w c right ≤ right_leaf c) ⊎ (filled_child w c right ≡ w.l c)
-  filled_cases w c false = one_of_two (w.l c % 4 == 0 && nat_le (w.key (w.l c)) (insert_key w c)) (w.l c) (left_leaf c) (right_leaf c) (omega arith)
-  filled_cases w c true = one_of_two (w.l c % 4 == 0 && nat_lt (insert_key w c) (w.key (w.l c))) (w.l c) (right_leaf c) (right_leaf c) (omega arith)
+  filled_cases w c false = one_of_two (stays_below (is_flat w) (w.l c) && nat_le (w.key (w.l c)) (insert_key w c)) (w.l c) (left_leaf c) (right_leaf c) (omega arith)
+  filled_cases w c true = one_of_two (stays_below (is_flat w) (w.l c) && nat_lt (insert_key w c) (w.key (w.l c))) (w.l c) (right_leaf c) (right_leaf c) (omega arith)
 
   -- what a card says is below the bound
   module _ (c : ℕ) where

@@ -1,5 +1,6 @@
-use Rattle.std.proofs.Common.{◌≡◌, ◌≢◌, ℕ, ◌%◌, ◌==◌, if◌then◌else◌, ◌⊎◌, inl, inr, Bool, true, false, not, List, [], refl, sym, ap, ◌∙◌, subst, arith}
-use Rattle.std.proofs.lemmas.Bool.{cases_eq, false≢true, eq-eqb, ne_eqb}
+use Rattle.std.proofs.Common.{◌≡◌, ◌≢◌, ℕ, ◌%◌, ◌==◌, if◌then◌else◌, ◌⊎◌, inl, inr, Bool, true, false, not, List, [], refl, sym, ap, ◌∙◌, subst, arith, ◌+◌, ◌&&◌, ◌||◌, nat_lt, length}
+use Rattle.ell_layout.specs.Cards.{is_replace_card, keeps_below}
+use Rattle.std.proofs.lemmas.Bool.{cases_eq, false≢true, eq-eqb, ne_eqb, lt-ltb, eqb-true}
 use mathlib.Core.Option.{some}
 use lib.ListN.{get_elem?}
 use Rattle.ell_ops.specs.declared.op.Op.{Op}
@@ -33,7 +34,7 @@ use Rattle.ell_grace.proofs.lemmas.dead.Out.{inner_comes, taken_comes, dead_ende
 use Rattle.ell_grace.proofs.lemmas.dead.Runs.{uses_begin, dead_stays_dead, events_keep_uses, children_were_not_dead}
 use Rattle.ell_cards.specs.declared.call.Call.{Call}
 use Rattle.ell_cards.specs.declared.view.View.{View}
-use Rattle.ell_cards.specs.Models.{TablePlan, Knows}
+use Rattle.ell_cards.specs.Models.{TablePlan, Knows, flat_from}
 use Rattle.ell_cards.specs.States.{TableState}
 use Rattle.ell_cards.specs.Machines.{HasMachine}
 use Rattle.ell_cards.specs.Laws.{machine_of_table}
@@ -191,6 +192,11 @@ turns_keep_dead plan s r has turns s' run =
       λ x dead. dead_stays_dead m stage first (machine_of_table plan s' ran.0) ran.1 x dead,
     )
 
+-- a flat tree is flat from some card on
+pub flat_some : (plan : TablePlan) → plan.flat ≡ true → nat_lt 0 (flat_from plan) ≡ true
+flat_some plan flat =
+    subst (λ b. nat_lt 0 (if b then length plan.start + 1 else 0) ≡ true) (sym flat) (lt-ltb 0 (length plan.start + 1) (omega arith))
+
 -- the node that a card brings which replaces a leaf is its right leaf
 replace-right : (s : Stage) (place : ℕ) → is_changed s ≡ true → is_born s ≡ false → is_node_born s place ≡ true → place ≡ 2
 replace-right s place changed none born = grind arith
@@ -242,7 +248,7 @@ module _ (plan : TablePlan) (s : TableState) (seat : ℕ) (v : View) (there : ge
   replaced_never c x on over knows =
       let changed = insert_over-changed (stages c) over in
       let same : w.key (left_leaf c) ≡ w.key (right_leaf c) =
-      told_is plan s r seat v there c field.LeftLeafKey knows.key knows.left ∙ sym (told_is plan s r seat v there c field.RightLeafKey knows.key knows.right) in
+      told_is plan s r seat v there c field.LeftLeafKey knows.same.key knows.same.left ∙ sym (told_is plan s r seat v there c field.RightLeafKey knows.same.key knows.same.right) in
       let none : is_born (stages c) ≡ false =
       (has.invariant.words.inserts c).brings changed ∙ ap not (eq-eqb (w.key (left_leaf c)) (w.key (right_leaf c)) same) in (
         subst (λ d. has_ended (stages d) ≡ true) (sym on) (insert_over-ended (stages c) over),
@@ -251,13 +257,12 @@ module _ (plan : TablePlan) (s : TableState) (seat : ℕ) (v : View) (there : ge
             knows.other (omega (arith, on))),
       )
 
-  -- of one that goes above an internal node
-  unused_never : (c x : ℕ) → card x ≡ c → insert_over (stages c) ≡ true → KnowsUnused v c x → NeverComes w stages x
-  unused_never c x on over knows =
+  -- of one that goes above a node that stays
+  unused_never : plan.flat ≡ true → (c x : ℕ) → card x ≡ c → insert_over (stages c) ≡ true → KnowsUnused v c x → NeverComes w stages x
+  unused_never flat c x on over knows =
       let changed = insert_over-changed (stages c) over in
       let kind = changed-insert (stages c) changed in
       let said_card = (has.invariant.words.cards c).insert kind in
-      let leaf = told_is plan s r seat v there c field.L knows.below knows.goes in
       let own = own_key w stages ((machine_of_table plan s r).worker seat) knows.op c kind
       ((has.invariant.workers.each seat).flagged knows.op c (ap (λ (u : Worker). u.operation) me ∙ knows.busy) (ap (λ (u : Worker). u.card) me ∙ knows.holds)
       (ap (λ (u : Worker). u.flagged) me ∙ knows.flagged)).0 in
@@ -274,15 +279,38 @@ module _ (plan : TablePlan) (s : TableState) (seat : ℕ) (v : View) (there : ge
         subst (λ d. has_ended (stages d) ≡ true) (sym on) (insert_over-ended (stages c) over),
         inr (
           subst (λ d. is_changed (stages d) ≡ true) (sym on) changed,
-          subst (λ d. IsInternal (w.l d)) (sym on) (subst IsInternal (sym leaf) knows.inner),
+          subst (λ d. keeps_below w d ≡ true) (sym on) (keeps_two (is_replace_card w c) refl),
           λ inner. elim knows.told [ inl t ↦ (let at = t.0 in omega arith) | inr t ↦ (let at = t.0 in omega arith) ],
           subst (λ d. w.key x ≡ w.key (w.l d)) (sym on) key,
         ),
       )
+    where
+      -- two leaves of one key have the operation's
+      same_key : w.key (left_leaf c) ≡ w.key (right_leaf c) → insert_key w c ≡ w.key (left_leaf c)
+      same_key e = elim (cases_eq (w.key (left_leaf c)) (w.key (w.l c))) [
+        | inl old ↦ ap (λ (b : Bool). if b then w.key (right_leaf c) else w.key (left_leaf c)) (eq-eqb (w.key (left_leaf c)) (w.key (w.l c)) old) ∙ sym e
+        | inr new ↦ ap (λ (b : Bool). if b then w.key (right_leaf c) else w.key (left_leaf c)) (ne_eqb (w.key (left_leaf c)) (w.key (w.l c)) new)
+      ]
+
+      mine : insert_key w c ≡ key_of knows.op
+      mine = own_key w stages ((machine_of_table plan s r).worker seat) knows.op c (changed-insert (stages c) (insert_over-changed (stages c) over))
+          ((has.invariant.workers.each seat).flagged knows.op c (ap (λ (u : Worker). u.operation) me ∙ knows.busy) (ap (λ (u : Worker). u.card) me ∙ knows.holds)
+          (ap (λ (u : Worker). u.flagged) me ∙ knows.flagged)).0
+
+      keeps_two : (b : Bool) → is_replace_card w c ≡ b → keeps_below w c ≡ true
+      keeps_two true e =
+          let same = eqb-true (w.key (left_leaf c)) (w.key (right_leaf c)) e in
+          absurd (knows.other (elim knows.told [
+            | inl t ↦ sym (told_is plan s r seat v there c field.LeftLeafKey knows.key t.1) ∙ (sym (same_key same) ∙ mine)
+            | inr t ↦ sym (told_is plan s r seat v there c field.RightLeafKey knows.key t.1) ∙ (sym same ∙ (sym (same_key same) ∙ mine))
+          ]))
+      keeps_two false e =
+          ap (λ (b : Bool). not b && (nat_lt 0 w.flat_from || w.l c % 4 == 0)) e
+          ∙ ap (λ (b : Bool). b || w.l c % 4 == 0) (ap (λ n. nat_lt 0 n) r.shape ∙ flat_some plan flat)
 
 -- so what a pass knows to come never never comes
 pub known_never_comes : KnownNeverComes
-known_never_comes plan s seat v there c x knows r has = elim knows.1 [
+known_never_comes plan flat s seat v there c x knows r has = elim knows.1 [
   | inl d ↦ elim d [
     | inl over ↦
         let at = allowed plan s seat v there r has (fact.DOver c) over in
@@ -295,18 +323,18 @@ known_never_comes plan s seat v there c x knows r has = elim knows.1 [
       let over = allowed plan s seat v there r has (fact.IOver c) i.0 in
       elim i.1 [
         | inl replaced ↦ replaced_never plan s seat v there r has c x knows.0 over replaced
-        | inr unused ↦ unused_never plan s seat v there r has c x knows.0 over unused
+        | inr unused ↦ unused_never plan s seat v there r has flat c x knows.0 over unused
       ]
 ]
 
 -- and what it knows dead is dead
 pub known_dead_is_dead : KnownDeadIsDead
-known_dead_is_dead plan s seat v there c x (inl gone) r has = inl (known_taken_out_is_gone plan s seat v there c x gone r has)
-known_dead_is_dead plan s seat v there c x (inr never) r has = inr (known_never_comes plan s seat v there c x never r has)
+known_dead_is_dead plan flat s seat v there c x (inl gone) r has = inl (known_taken_out_is_gone plan s seat v there c x gone r has)
+known_dead_is_dead plan flat s seat v there c x (inr never) r has = inr (known_never_comes plan flat s seat v there c x never r has)
 
 -- and of one card alone, for one card has taken out what was taken out, and that was no node that never comes
 pub one_card_tells : OneCardTells
-one_card_tells plan s reached i j v v' here there c d x knows knows' = by knows knows'
+one_card_tells plan flat s reached i j v v' here there c d x knows knows' = by knows knows'
   where
     it : (r : HasMachine plan s) × HasUses (machine_of_table plan s r)
     it = tables_have_uses plan s reached
@@ -321,7 +349,7 @@ one_card_tells plan s reached i j v v' here there c d x knows knows' = by knows 
     takes k u at e h = (known_takes_out plan s k u at e x h it.0 it.1.outs).1
 
     never : (k : ℕ) (u : View) → get_elem? s.views k ≡ some u → (e : ℕ) → KnowsNeverComes u e x → NeverComes w stages x
-    never k u at e h = known_never_comes plan s k u at e x h it.0 it.1.outs
+    never k u at e h = known_never_comes plan flat s k u at e x h it.0 it.1.outs
 
     apart : (e : ℕ) → TakesOut w stages e x → ¬ NeverComes w stages x
     apart e h = taken_comes w stages it.1.outs.invariant.words it.1.uses e x h

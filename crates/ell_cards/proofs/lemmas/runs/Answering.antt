@@ -13,6 +13,7 @@ use Rattle.ell_core.specs.declared.fact.Fact.TheVariants as fact
 use Rattle.ell_core.proofs.lemmas.outcomes.Decide.{some_not_none}
 use Rattle.ell_cards.specs.declared.call.Call.{Call}
 use Rattle.ell_cards.specs.declared.call.Call.TheVariants as call
+use Rattle.ell_cards.specs.declared.call.NewNode.{NewNode}
 use Rattle.ell_cards.specs.declared.view.Answered.{Answered}
 use Rattle.ell_cards.specs.declared.view.View.{View}
 use Rattle.ell_cards.specs.Models.{TablePlan}
@@ -151,7 +152,7 @@ module _ (op : Op) (said : Reply) where
   abbrev IsAnswer : Option ℕ → Option ℕ → Call → View → Type 0
   IsAnswer card took c v = (c ≡ call.Answer said) × (v.worker.operation ≡ Some op) × (v.worker.card ≡ card) × (taken_now said v ≡ took)
 
-  claim_answered : (b : Bool) (c q : ℕ) (v : View) → (after_claim b c q v).answered ≡ v.answered
+  claim_answered : (b : Bool) (c : ℕ) (q : NewNode) (v : View) → (after_claim b c q v).answered ≡ v.answered
   claim_answered true c q v = refl
   claim_answered false c q v = refl
 
@@ -212,7 +213,7 @@ module _ (op : Op) (said : Reply) where
   abbrev pub IsBegin : Call → View → Type 0
   IsBegin c v = c ≡ call.Begin op
 
-  claim_busy : (b : Bool) (c q : ℕ) (v : View) → (after_claim b c q v).worker.operation ≡ v.worker.operation
+  claim_busy : (b : Bool) (c : ℕ) (q : NewNode) (v : View) → (after_claim b c q v).worker.operation ≡ v.worker.operation
   claim_busy true c q v = refl
   claim_busy false c q v = refl
 

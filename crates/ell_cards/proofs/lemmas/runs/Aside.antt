@@ -16,6 +16,7 @@ use Rattle.ell_core.proofs.lemmas.outcomes.Decide.{some_not_none}
 use Rattle.ell_core.proofs.lemmas.stages.Waiting.{waits-claimed, waits-kind, waits-wins, kind-waits}
 use Rattle.ell_cards.specs.declared.call.Call.{Call}
 use Rattle.ell_cards.specs.declared.call.Call.TheVariants as call
+use Rattle.ell_cards.specs.declared.call.NewNode.{NewNode}
 use Rattle.ell_cards.specs.declared.view.View.{View}
 use Rattle.ell_cards.specs.Aside.{IsAside}
 use Rattle.ell_cards.specs.Calls.{May, after, atomic_of, is_won}
@@ -174,7 +175,7 @@ module _ (plan : TablePlan) (s : TableState) (r : HasMachine plan s) (seat : ℕ
       dropped_is_aside d (flag_waits plan c v may d flags) (λ has. some_not_none has (flag_drops plan c (found_by s c) v may d flags lost))
 
   -- and one that its pass has in hand while it claims another
-  pub claimed_over_is_aside : (e q d : ℕ) → c ≡ call.Claim e q → HoldsWaiting v d → is_won (atomic_of c) (found_by s c) ≡ true → (r' : HasMachine plan to)
+  pub claimed_over_is_aside : (e : ℕ) (q : NewNode) (d : ℕ) → c ≡ call.Claim e q → HoldsWaiting v d → is_won (atomic_of c) (found_by s c) ≡ true → (r' : HasMachine plan to)
       → StagesLater r.stages r'.stages → wins_of (r'.stages d) ≡ wins_of (r.stages d) ++ turn_wins s (Makes seat c) d → IsAside r'.stages to.views d
   claimed_over_is_aside e q d is hand won = dropped_is_aside d hand drops
     where

@@ -17,6 +17,7 @@ use Rattle.ell_layout.specs.Words.{Words}
 use Rattle.ell_layout.proofs.lemmas.Listed.{listed_next}
 use Rattle.ell_cards.specs.declared.call.Call.{Call}
 use Rattle.ell_cards.specs.declared.call.Call.TheVariants as call
+use Rattle.ell_cards.specs.declared.call.NewNode.{NewNode}
 use Rattle.ell_cards.specs.declared.view.Told.{Told}
 use Rattle.ell_cards.specs.declared.view.Told.TheVariants.{Key, Value, Frozen, Expects}
 use Rattle.ell_cards.specs.declared.view.View.{View}
@@ -47,7 +48,7 @@ mark_told false c x u v e h = by (is_mark_of c u.state u.card)
     by true = h
     by false = places_more x u.state u.card v.told e h
 
-claim_told : (b : Bool) (c q : ℕ) (v : View) (e : Told) → IsTold v e → IsTold (after_claim b c q v) e
+claim_told : (b : Bool) (c : ℕ) (q : NewNode) (v : View) (e : Told) → IsTold v e → IsTold (after_claim b c q v) e
 claim_told true c q v e h = earlier e (Expects c (expected_tag v)) (told_filling c (filling_of c q v) v.told) (filling_more c (filling_of c q v) v.told e h)
 claim_told false c q v e h = h
 
@@ -93,7 +94,7 @@ first_set [] m more = absurd (omega arith)
 first_set (x ∷ xs) m more = refl
 
 -- a call that is no claim leaves the claim word
-pub leaves_next : (c : Call) (ws : List ℕ) → ((d q : ℕ) → c ≢ call.Claim d q) → get_or (set ws (word_of c) (left_by (atomic_of c) (get_or ws (word_of c) 0))) 0 0 ≡ get_or ws 0 0
+pub leaves_next : (c : Call) (ws : List ℕ) → ((d : ℕ) (q : NewNode) → c ≢ call.Claim d q) → get_or (set ws (word_of c) (left_by (atomic_of c) (get_or ws (word_of c) 0))) 0 0 ≡ get_or ws 0 0
 leaves_next (call.Claim c q) ws apart = absurd (apart c q refl)
 leaves_next (call.Fill c f value) ws apart = get_or-set_other ws (word_of (call.Fill c f value)) 0 _ 0 (λ e. omega arith)
 leaves_next (call.IFlag c p from) ws apart = get_or-set_other ws (word_of (call.IFlag c p from)) 0 _ 0 (λ e. omega arith)
@@ -127,7 +128,7 @@ claimed_on s words id v w here more c h = elim (cases_eq h.seat id) [
 
 module _ (plan : TablePlan) (first : ℕ) (s : TableState) (h : AllClaimed first s) where
   -- a call that is no claim
-  call_claimed : (id : ℕ) (v : View) (c : Call) → get_elem? s.views id ≡ some v → ((d q : ℕ) → c ≢ call.Claim d q) → AllClaimed first (state_after s id v c)
+  call_claimed : (id : ℕ) (v : View) (c : Call) → get_elem? s.views id ≡ some v → ((d : ℕ) (q : NewNode) → c ≢ call.Claim d q) → AllClaimed first (state_after s id v c)
   call_claimed id v c here apart =
       let s' = state_after s id v c in
       let same = leaves_next c s.words apart in
@@ -137,7 +138,7 @@ module _ (plan : TablePlan) (first : ℕ) (s : TableState) (h : AllClaimed first
       }
 
   -- a claim
-  claim_claimed : (id : ℕ) (v : View) (c q : ℕ) → get_elem? s.views id ≡ some v → MayClaim (flat_from plan) v c q → AllClaimed first (state_after s id v (call.Claim c q))
+  claim_claimed : (id : ℕ) (v : View) (c : ℕ) (q : NewNode) → get_elem? s.views id ≡ some v → MayClaim (flat_from plan) v c q → AllClaimed first (state_after s id v (call.Claim c q))
   claim_claimed id v c q here may = by (get_or s.words 0 0 == c) refl
     where
       by : (b : Bool) → (get_or s.words 0 0 == c) ≡ b

@@ -12,6 +12,7 @@ use Rattle.ell_core.specs.history.Later.{wins_of}
 use Rattle.ell_layout.proofs.lemmas.Listed.{listed_next}
 use Rattle.ell_cards.specs.declared.call.Call.{Call}
 use Rattle.ell_cards.specs.declared.call.Call.TheVariants as call
+use Rattle.ell_cards.specs.declared.call.NewNode.{NewNode}
 use Rattle.ell_cards.specs.Changes.{if_won}
 use Rattle.ell_cards.specs.Laws.{machine_of_table}
 use Rattle.ell_cards.specs.States.{TableState}
@@ -60,7 +61,7 @@ pub record ClaimsCount (first : ℕ) (s : TableState) : Type 0 where
   pub high : (c : ℕ) → get_or s.words 0 0 ≤ c → total exchange.Claim c s ≡ 0
 
 -- no other call adds a claim
-pub claims_none : (c : Call) (n d : ℕ) → ((e q : ℕ) → c ≢ call.Claim e q) → times exchange.Claim d (won_by c n) ≡ 0
+pub claims_none : (c : Call) (n d : ℕ) → ((e : ℕ) (q : NewNode) → c ≢ call.Claim e q) → times exchange.Claim d (won_by c n) ≡ 0
 claims_none (call.Claim c q) n d apart = absurd (apart c q refl)
 claims_none (call.IFlag c p from) n d apart = other_kind (n == packed from) exchange.IFlag exchange.Claim c d refl
 claims_none (call.IChild c p l replaces right) n d apart = other_kind (n == linked l) exchange.IChild exchange.Claim c d refl
@@ -110,7 +111,7 @@ module _ (plan : TablePlan) (first : ℕ) (s : TableState) (h : ClaimsCount firs
       own : (d : ℕ) → d ≡ c → total exchange.Claim d s' ≡ total exchange.Claim d s + 1
       own d e = more d ∙ ap (λ (b : Bool). total exchange.Claim d s + (if b then 1 else 0)) (eq-eqb d c e)
 
-  claim_counts : (id c q : ℕ) (s' : TableState) → TableTurns plan s (Makes id (call.Claim c q)) s' → ClaimsCount first s'
+  claim_counts : (id c : ℕ) (q : NewNode) (s' : TableState) → TableTurns plan s (Makes id (call.Claim c q)) s' → ClaimsCount first s'
   claim_counts id c q s' turn = by (get_or s.words 0 0 == c) refl
     where
       n : ℕ
@@ -131,7 +132,7 @@ module _ (plan : TablePlan) (first : ℕ) (s : TableState) (h : ClaimsCount firs
       by true e = one_more_claim s' c (eqb-true n c e) (next_is ∙ ap (λ (b : Bool). if b then c + 1 else n) e)
           (λ d. added d ∙ ap (λ (b : Bool). total exchange.Claim d s + (if b then (if d == c then 1 else 0) else 0)) e)
 
-  call_counts : (id : ℕ) (c : Call) (s' : TableState) → TableTurns plan s (Makes id c) s' → ((d q : ℕ) → c ≢ call.Claim d q) → ClaimsCount first s'
+  call_counts : (id : ℕ) (c : Call) (s' : TableState) → TableTurns plan s (Makes id c) s' → ((d : ℕ) (q : NewNode) → c ≢ call.Claim d q) → ClaimsCount first s'
   call_counts id c s' turn apart = same_claims s'
       (ap (λ (x : TableState). get_or x.words 0 0) turn.gives ∙ leaves_next c s.words apart)
       (λ d. let more = turn_total exchange.Claim d plan s (Makes id c) s' turn in let none = claims_none c (found_by s c) d apart in omega arith)

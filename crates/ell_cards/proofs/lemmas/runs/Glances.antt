@@ -36,6 +36,7 @@ use Rattle.ell_core.proofs.lemmas.runs.Looks.{walk_born, root_course, walk_cours
 use Rattle.ell_cards.specs.Models.{TablePlan, flat_from}
 use Rattle.ell_cards.specs.declared.call.Call.{Call}
 use Rattle.ell_cards.specs.declared.call.Call.TheVariants as call
+use Rattle.ell_cards.specs.declared.call.NewNode.{NewNode}
 use Rattle.ell_cards.specs.declared.glance.Glance.{Glance}
 use Rattle.ell_cards.specs.declared.glance.Stretch.{Stretch}
 use Rattle.ell_cards.specs.declared.view.Told.TheVariants.{Key, Value}
@@ -118,7 +119,7 @@ is_amid plan s0 turns s at =
     }
 
 -- a claim, a flag and a mark leave a look where it is
-pub claim_look : (b : Bool) (c q : ℕ) (v : View) → (after_claim b c q v).glances ≡ v.glances
+pub claim_look : (b : Bool) (c : ℕ) (q : NewNode) (v : View) → (after_claim b c q v).glances ≡ v.glances
 claim_look true c q v = refl
 claim_look false c q v = refl
 

@@ -11,6 +11,7 @@ use Rattle.ell_core.specs.declared.fact.Fact.TheVariants as fact
 use Rattle.ell_core.proofs.lemmas.outcomes.Decide.{some_not_none}
 use Rattle.ell_cards.specs.declared.call.Call.{Call}
 use Rattle.ell_cards.specs.declared.call.Call.TheVariants as call
+use Rattle.ell_cards.specs.declared.call.NewNode.{NewNode}
 use Rattle.ell_cards.specs.declared.view.View.{View}
 use Rattle.ell_cards.specs.Changes.{first_of, left_view, right_view, joined_view, spent_view, after_claim, after_flag, after_mark, is_mark_of, with_fact, unmarking}
 use Rattle.ell_cards.specs.Calls.{after, May}
@@ -60,7 +61,7 @@ mark_keeps false c x u v w same next = by (is_mark_of c u.state u.card) same nex
     by false same next = keeps_all v w (ap (λ k. k.card) same) next (ap (λ k. k.search.node) same)
 
 -- each call but a claim and the reading of the claim word does
-call_keeps : (plan : TablePlan) (c : Call) (n : ℕ) (v : View) → May plan c v → ((d q : ℕ) → c ≢ call.Claim d q) → c ≢ call.Next → KeepsHand v (after c n v)
+call_keeps : (plan : TablePlan) (c : Call) (n : ℕ) (v : View) → May plan c v → ((d : ℕ) (q : NewNode) → c ≢ call.Claim d q) → c ≢ call.Next → KeepsHand v (after c n v)
 call_keeps plan (call.Begin op) n v may apart other = record { held = λ c e. absurd (some_not_none e refl); read = λ m x e no at. absurd (some_not_none e refl) }
 call_keeps plan call.Again n v may apart other = record { held = λ c e. absurd (some_not_none e refl); read = λ m x e no at. absurd (some_not_none e refl) }
 call_keeps plan call.Leave n v may apart other = keeps_nowhere v (after call.Leave n v) (λ c e. absurd (some_not_none e refl)) refl
@@ -79,30 +80,30 @@ call_keeps plan c n v may apart other = keeps_all v (after c n v) refl refl refl
 
 -- a card in hand after a call was there before it, or the call has claimed it
 pub call_held : (plan : TablePlan) (c : Call) (n : ℕ) (v : View) → May plan c v → (d : ℕ) → (after c n v).worker.card ≡ Some d
-    → (v.worker.card ≡ Some d) ⊎ (((q : ℕ) × (c ≡ call.Claim d q)) × (n ≡ d))
+    → (v.worker.card ≡ Some d) ⊎ (((q : NewNode) × (c ≡ call.Claim d q)) × (n ≡ d))
 call_held plan (call.Claim c q) n v may d has = by (n == c) refl has
   where
-    by : (b : Bool) → (n == c) ≡ b → (after_claim b c q v).worker.card ≡ Some d → (v.worker.card ≡ Some d) ⊎ (((k : ℕ) × (call.Claim c q ≡ call.Claim d k)) × (n ≡ d))
+    by : (b : Bool) → (n == c) ≡ b → (after_claim b c q v).worker.card ≡ Some d → (v.worker.card ≡ Some d) ⊎ (((k : NewNode) × (call.Claim c q ≡ call.Claim d k)) × (n ≡ d))
     by true e has = let same = some_same has in inr ((q, ap (λ x. call.Claim x q) same), eqb-true n c e ∙ same)
     by false e has = inl has
 call_held plan call.Next n v may d has = inl has
 call_held plan c n v may d has = inl ((call_keeps plan c n v may (λ d q e. (cc)) (λ e. (cc))).held d has)
 
 -- a call that is no claim leaves the claims that the pass won
-pub claims_same : (c : Call) (n : ℕ) (v : View) → ((d q : ℕ) → c ≢ call.Claim d q) → (e : ℕ) → times exchange.Claim e (after c n v).won ≡ times exchange.Claim e v.won
+pub claims_same : (c : Call) (n : ℕ) (v : View) → ((d : ℕ) (q : NewNode) → c ≢ call.Claim d q) → (e : ℕ) → times exchange.Claim e (after c n v).won ≡ times exchange.Claim e v.won
 claims_same c n v apart e =
     let won = ap (times exchange.Claim e) (after_won c n v) in
     let parts = times_append exchange.Claim e (won_by c n) v.won in
     let none = claims_none c n e apart in
     omega arith
 
-keeps_claimed : (c : Call) (n : ℕ) (v : View) → ((d q : ℕ) → c ≢ call.Claim d q) → KeepsHand v (after c n v) → HandIsClaimed v → HandIsClaimed (after c n v)
+keeps_claimed : (c : Call) (n : ℕ) (v : View) → ((d : ℕ) (q : NewNode) → c ≢ call.Claim d q) → KeepsHand v (after c n v) → HandIsClaimed v → HandIsClaimed (after c n v)
 keeps_claimed c n v apart keeps h = record {
   held = λ e has. subst (λ m. 0 < m) (sym (claims_same c n v apart e)) (h.held e (keeps.held e has));
   read = λ e x read no at. let was = keeps.read e x read no at in claims_same c n v apart e ∙ h.read e was.2 was.0 was.1 was.3;
 }
 
-claim_claimed : (b : Bool) (c q : ℕ) (v : View) → v.next ≡ Some c → HandIsClaimed v → HandIsClaimed (after_claim b c q v)
+claim_claimed : (b : Bool) (c : ℕ) (q : NewNode) (v : View) → v.next ≡ Some c → HandIsClaimed v → HandIsClaimed (after_claim b c q v)
 claim_claimed true c q v next h = record {
   held = λ d has. subst (λ (b : Bool). 0 < (if b then 1 else 0) + times exchange.Claim d v.won) (sym (eq-eqb d c (sym (some_same has)))) (omega arith);
   read = λ n x e other at. absurd (other (sym next ∙ e));

@@ -42,6 +42,7 @@ use Rattle.ell_core.proofs.lemmas.stages.Order.{delete_won-delete, insert_won-in
 use Rattle.ell_cards.specs.Models.{TablePlan, flat_from}
 use Rattle.ell_cards.specs.declared.call.Call.{Call}
 use Rattle.ell_cards.specs.declared.call.Call.TheVariants as call
+use Rattle.ell_cards.specs.declared.call.NewNode.{NewNode}
 use Rattle.ell_cards.specs.declared.view.Hindrance.{Hindrance}
 use Rattle.ell_cards.specs.declared.view.Hindrance.TheVariants.{Claim, Found}
 use Rattle.ell_cards.specs.declared.view.View.{View}
@@ -301,7 +302,7 @@ module _ (plan : TablePlan) (m0 : Machine) (stage : Stages) (first : Invariant m
       finds seen.node seen.word n inner born place low (three seen.word calm) (ap r.words.update node ∙ is) (λ e. other (e ∙ word))
 
   -- a lost claim
-  claim_hindered : (c q : ℕ) → May plan (call.Claim c q) v → (b : Bool) → (found_by s (call.Claim c q) == c) ≡ b → HinderedSince (flat_from plan) m0.words stage later_words ends old (after_claim b c q v)
+  claim_hindered : (c : ℕ) (q : NewNode) → May plan (call.Claim c q) v → (b : Bool) → (found_by s (call.Claim c q) == c) ≡ b → HinderedSince (flat_from plan) m0.words stage later_words ends old (after_claim b c q v)
   claim_hindered c q may true e =
       calm (after_claim true c q v) refl refl hindered.next named_later
       (record {

@@ -10,6 +10,7 @@ use Rattle.ell_core.specs.declared.fact.Fact.TheVariants as fact
 use Rattle.ell_core.proofs.lemmas.outcomes.Decide.{some_not_none}
 use Rattle.ell_cards.specs.declared.call.Call.{Call}
 use Rattle.ell_cards.specs.declared.call.Call.TheVariants as call
+use Rattle.ell_cards.specs.declared.call.NewNode.{NewNode}
 use Rattle.ell_cards.specs.declared.view.View.{View}
 use Rattle.ell_cards.specs.Models.{TablePlan, IsFree}
 use Rattle.ell_cards.specs.Changes.{after_claim, after_flag, after_mark, is_mark_of, with_fact, unmarking, first_of}
@@ -82,7 +83,7 @@ module _ (op : Op) where
   abbrev IsLeave : Call → View → Type 0
   IsLeave c v = (c ≡ call.Leave) × (v.worker.operation ≡ Some op)
 
-  claim_laid : (b : Bool) (c q : ℕ) (v : View) → (after_claim b c q v).laid_down ≡ v.laid_down
+  claim_laid : (b : Bool) (c : ℕ) (q : NewNode) (v : View) → (after_claim b c q v).laid_down ≡ v.laid_down
   claim_laid true c q v = refl
   claim_laid false c q v = refl
 

@@ -14,6 +14,7 @@ use Rattle.ell_core.specs.state.Machine.{no_search}
 use Rattle.ell_core.proofs.lemmas.outcomes.Decide.{some_not_none}
 use Rattle.ell_cards.specs.declared.call.Call.{Call}
 use Rattle.ell_cards.specs.declared.call.Call.TheVariants as call
+use Rattle.ell_cards.specs.declared.call.NewNode.{NewNode}
 use Rattle.ell_cards.specs.declared.view.Told.{Told}
 use Rattle.ell_cards.specs.declared.view.Told.TheVariants.{Met}
 use Rattle.ell_cards.specs.declared.view.View.{View}
@@ -90,7 +91,7 @@ mark_search false c x u v = by (is_mark_of c u.state u.card)
     by true = refl
     by false = refl
 
-claim_search : (b : Bool) (c q : ℕ) (v : View) → (after_claim b c q v).worker.search ≡ v.worker.search
+claim_search : (b : Bool) (c : ℕ) (q : NewNode) (v : View) → (after_claim b c q v).worker.search ≡ v.worker.search
 claim_search true c q v = refl
 claim_search false c q v = refl
 

@@ -13,6 +13,7 @@ use Rattle.ell_core.specs.history.Invariant.{leaf_side}
 use Rattle.ell_core.proofs.lemmas.outcomes.Decide.{some_not_none}
 use Rattle.ell_cards.specs.declared.call.Call.{Call}
 use Rattle.ell_cards.specs.declared.call.Call.TheVariants as call
+use Rattle.ell_cards.specs.declared.call.NewNode.{NewNode}
 use Rattle.ell_cards.specs.declared.glance.Glance.{Glance}
 use Rattle.ell_cards.specs.declared.view.Told.{Told}
 use Rattle.ell_cards.specs.declared.view.Told.TheVariants.{Met, Depth, Key, Value, Info, Expects, Frozen}
@@ -119,7 +120,7 @@ mark_in false c x u v met h = by (is_mark_of c u.state u.card)
     by false = places_in x u.state u.card v.told met h
 
 -- a claim
-claim_names : (from : ℕ) (b : Bool) (c q : ℕ) (v : View) → MayClaim from v c q → SearchIsMet v → ViewNames v → ViewNames (after_claim b c q v)
+claim_names : (from : ℕ) (b : Bool) (c : ℕ) (q : NewNode) (v : View) → MayClaim from v c q → SearchIsMet v → ViewNames v → ViewNames (after_claim b c q v)
 claim_names from false c q v may met h = names_still v (after_claim false c q v) (λ e at. at) h.entries refl (λ d has. has) h
 claim_names from true c q v may met h =
     let w = after_claim true c q v in
@@ -130,7 +131,7 @@ claim_names from true c q v may met h =
     let fills = search_fills c q v.worker.operation k.node k.parent k.grandparent (unwrap_or v.here 0) (value_told v.told) v.told
     (λ seen e. (met.parent seen e).met) (λ seen e. (met.grandparent seen e).met) in
     let leaf = leaf_filled c q v.worker.operation k.node k.parent k.grandparent (unwrap_or v.here 0) (value_told v.told) v.told may.op may.below may.parent
-    may.busy may.stands may.behind (wants_above from v may.op may.parent.node may.below may.key q may.wants) in record {
+    may.busy may.stands may.behind (wants_above from v may.op may.parent.node may.below may.key q.key may.wants) in record {
       root = more (Met 0) h.root;
       entries = first_in (told_filling c es v.told) tag (filling_in c es v.told fills h.entries) tt;
       glances = λ g at. more (Met g.node) (h.glances g at);

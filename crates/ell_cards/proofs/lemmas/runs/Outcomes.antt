@@ -33,6 +33,7 @@ use Rattle.ell_core.proofs.lemmas.stages.Waiting.{waits-wins, insert_won-settled
 use Rattle.ell_core.proofs.lemmas.following.waiting.Cards.{one_hand, hand_waits}
 use Rattle.ell_cards.specs.declared.call.Call.{Call}
 use Rattle.ell_cards.specs.declared.call.Call.TheVariants as call
+use Rattle.ell_cards.specs.declared.call.NewNode.{NewNode}
 use Rattle.ell_cards.specs.declared.view.Told.TheVariants.{Met, Info}
 use Rattle.ell_cards.specs.declared.view.View.{View}
 use Rattle.ell_cards.specs.Models.{TablePlan, Knows}
@@ -291,7 +292,7 @@ module _ (plan : TablePlan) (s : TableState) (h : IsReached plan s) (id : ℕ) (
       (fact.Backed c) (backed-once c) refl refl (knows_new (fact.Backed c) v.worker.knows) (knows_new (fact.Backed c) v.worker.knows)
 
   -- a claim: it is counted by the claim word
-  claim_alike : (c q : ℕ) → Alike (call.Claim c q)
+  claim_alike : (c : ℕ) (q : NewNode) → Alike (call.Claim c q)
   claim_alike c q may n on =
       let a = went_total plan s h id v here (call.Claim c q) may n on exchange.Claim c (found_by s (call.Claim c q) == c) refl in
       let b = told_total plan s h id v here (call.Claim c q) may n on exchange.Claim c (n == c) refl in

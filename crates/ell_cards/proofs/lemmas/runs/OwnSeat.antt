@@ -10,6 +10,7 @@ use Rattle.ell_core.specs.declared.fact.Fact.TheVariants as fact
 use Rattle.ell_core.proofs.lemmas.outcomes.Decide.{some_not_none}
 use Rattle.ell_cards.specs.declared.call.Call.{Call}
 use Rattle.ell_cards.specs.declared.call.Call.TheVariants as call
+use Rattle.ell_cards.specs.declared.call.NewNode.{NewNode}
 use Rattle.ell_cards.specs.declared.view.View.{View}
 use Rattle.ell_cards.specs.Models.{IsFree}
 use Rattle.ell_cards.specs.Changes.{after_claim, after_flag, after_mark, is_mark_of, with_fact, unmarking, left_view, right_view, joined_view, spent_view}
@@ -26,7 +27,7 @@ pub record StaysFree (v w : View) : Type 0 where
   pub free : IsFree w
   pub ledger : w.worker.ledger ≡ v.worker.ledger
 
-claim_free : (b : Bool) (c q : ℕ) (v : View) → IsFree v → StaysFree v (after_claim b c q v)
+claim_free : (b : Bool) (c : ℕ) (q : NewNode) (v : View) → IsFree v → StaysFree v (after_claim b c q v)
 claim_free true c q v free = record { free = free; ledger = refl }
 claim_free false c q v free = record { free = free; ledger = refl }
 

@@ -10,6 +10,7 @@ use Rattle.ell_core.specs.declared.fact.Fact.TheVariants as fact
 use Rattle.ell_core.proofs.lemmas.outcomes.Decide.{some_not_none}
 use Rattle.ell_cards.specs.declared.call.Call.{Call}
 use Rattle.ell_cards.specs.declared.call.Call.TheVariants as call
+use Rattle.ell_cards.specs.declared.call.NewNode.{NewNode}
 use Rattle.ell_cards.specs.declared.view.View.{View}
 use Rattle.ell_cards.specs.Models.{TablePlan, Does, IsFree}
 use Rattle.ell_cards.specs.Changes.{after_claim, after_flag, after_mark, is_mark_of, with_fact, unmarking}
@@ -25,7 +26,7 @@ use Rattle.ell_cards.proofs.lemmas.runs.LinearizingStates.{at_end, turn_inside}
 use Rattle.ell_cards.proofs.lemmas.runs.LinearizingPoints.{after_turns, made, changed_of, more_on}
 
 -- a call that neither answers the operation in hand nor lays it down leaves it in hand
-does_claim : (b : Bool) (c q : ℕ) (v : View) → (after_claim b c q v).worker.operation ≡ v.worker.operation
+does_claim : (b : Bool) (c : ℕ) (q : NewNode) (v : View) → (after_claim b c q v).worker.operation ≡ v.worker.operation
 does_claim true c q v = refl
 does_claim false c q v = refl
 

@@ -32,6 +32,7 @@ use Rattle.ell_cards.specs.Models.{TablePlan}
 use Rattle.ell_cards.specs.declared.call.Call.{Call}
 use Rattle.ell_cards.specs.declared.call.Call.TheVariants as call
 use Rattle.ell_cards.specs.declared.call.Call.TheVariants.{Begin}
+use Rattle.ell_cards.specs.declared.call.NewNode.{NewNode}
 use Rattle.ell_core.specs.declared.fact.Fact.{Fact}
 use Rattle.ell_word.specs.declared.update.Update.{Update}
 use Rattle.ell_word.specs.Word.{packed, unpacked}
@@ -153,11 +154,11 @@ module _ (plan : TablePlan) where
       by true same = h c (sym (ap (λ k. k.card) same) ∙ e)
       by false same = h c (sym (ap (λ k. k.card) same) ∙ e)
 
-  hand_claim : (old : Option ℕ) (low : ℕ) (b : Bool) (d q : ℕ) (v : View) → (b ≡ true → low ≤ d) → LateHand old low v → LateHand old low (after_claim b d q v)
+  hand_claim : (old : Option ℕ) (low : ℕ) (b : Bool) (d : ℕ) (q : NewNode) (v : View) → (b ≡ true → low ≤ d) → LateHand old low v → LateHand old low (after_claim b d q v)
   hand_claim old low true d q v fresh h c e = inr (let most = fresh refl in let same = same_Some d c e in omega arith)
   hand_claim old low false d q v fresh h c e = h c e
 
-  hand_by : (old : Option ℕ) (low : ℕ) (c : Call) (n : ℕ) (v : View) → KeepsOn c → low ≤ n ⊎ ((d q : ℕ) → c ≢ call.Claim d q) → LateHand old low v → LateHand old low (after c n v)
+  hand_by : (old : Option ℕ) (low : ℕ) (c : Call) (n : ℕ) (v : View) → KeepsOn c → low ≤ n ⊎ ((d : ℕ) (q : NewNode) → c ≢ call.Claim d q) → LateHand old low v → LateHand old low (after c n v)
   hand_by old low (call.Begin op) n v keeps fresh h = absurd keeps
   hand_by old low call.Again n v keeps fresh h = λ c e. absurd (some_not_none e refl)
   hand_by old low call.Leave n v keeps fresh h = λ c e. absurd (some_not_none e refl)
@@ -171,7 +172,7 @@ module _ (plan : TablePlan) where
   hand_by old low _ n v keeps fresh h = h
 
   -- what a call that is no claim is
-  claims_or_not : (c : Call) → ((d : ℕ) × (q : ℕ) × (c ≡ call.Claim d q)) ⊎ ((d q : ℕ) → c ≢ call.Claim d q)
+  claims_or_not : (c : Call) → ((d : ℕ) × (q : NewNode) × (c ≡ call.Claim d q)) ⊎ ((d : ℕ) (q : NewNode) → c ≢ call.Claim d q)
   claims_or_not (call.Claim d q) = inl (d, q, refl)
   claims_or_not (call.Begin op) = inr (λ d q e. cc)
   claims_or_not call.Again = inr (λ d q e. cc)
@@ -212,7 +213,7 @@ module _ (plan : TablePlan) where
         | inr c ↦ subst (LateHand old low) (sym c.3) (hand_by old low c.0 (found_by s c.0) v c.1 (fresh c.0) h)
       ]) ts s' run.2 keeps.1 w there'
     where
-      fresh : (c : Call) → low ≤ found_by s c ⊎ ((d q : ℕ) → c ≢ call.Claim d q)
+      fresh : (c : Call) → low ≤ found_by s c ⊎ ((d : ℕ) (q : NewNode) → c ≢ call.Claim d q)
       fresh c = elim (claims_or_not c) [
         | inl is ↦ inl (let word = r.next in subst (λ k. low ≤ found_by s k) (sym is.2) (omega arith))
         | inr none ↦ inr none

@@ -13,6 +13,7 @@ use Rattle.ell_core.specs.declared.fact.Fact.TheVariants.{IFlagged, DFlagged, Ma
 use Rattle.ell_core.specs.declared.view.Seen.{Seen}
 use Rattle.ell_cards.specs.declared.call.Call.{Call}
 use Rattle.ell_cards.specs.declared.call.Call.TheVariants as call
+use Rattle.ell_cards.specs.declared.call.NewNode.{NewNode}
 use Rattle.ell_cards.specs.declared.view.Hindrance.{Hindrance}
 use Rattle.ell_cards.specs.declared.view.Hindrance.TheVariants.{Claim, Found}
 use Rattle.ell_cards.specs.declared.view.View.{View}
@@ -99,7 +100,7 @@ past_mark n false c x u v h = by (is_mark_of c u.state u.card) (is_this v.worker
     by false held = record { next = h.next; claims = hinders (is_this v.worker.card c) }
 
 -- a claim that found another word found a later one
-past_claim : (n m : ℕ) (b : Bool) (c q : ℕ) (v : View) → (n == c) ≡ b → n ≤ m → v.next ≡ Some c → IsPast n v → IsPast m (after_claim b c q v)
+past_claim : (n m : ℕ) (b : Bool) (c : ℕ) (q : NewNode) (v : View) → (n == c) ≡ b → n ≤ m → v.next ≡ Some c → IsPast n v → IsPast m (after_claim b c q v)
 past_claim n m true c q v e low read h = record { next = read_rises n m v.next low h.next; claims = below_rises n m v.hindrances low h.claims }
 past_claim n m false c q v e low read h =
     let apart : n ≢ c = λ same. true≢false (sym (subst (λ (k : ℕ). (n == k) ≡ true) same (eq-eqb n n refl)) ∙ e) in

@@ -27,6 +27,7 @@ use Rattle.ell_core.proofs.lemmas.runs.Looks.{AreMet, walk_met, walk_born, walk_
 use Rattle.ell_cards.specs.Models.{TablePlan}
 use Rattle.ell_cards.specs.declared.call.Call.{Call}
 use Rattle.ell_cards.specs.declared.call.Call.TheVariants as call
+use Rattle.ell_cards.specs.declared.call.NewNode.{NewNode}
 use Rattle.ell_cards.specs.declared.view.Told.{Told}
 use Rattle.ell_cards.specs.declared.view.Told.TheVariants.{Value}
 use Rattle.ell_cards.specs.declared.view.View.{View}
@@ -55,7 +56,7 @@ use Rattle.ell_cards.proofs.lemmas.runs.GoingOn.{run_goes}
 abbrev Stays : View → View → Type 0
 Stays v w = (op : Op) (x : ℕ) → Does w op → StandsAt w x → Does v op × StandsAt v x
 
-claim_stays : (b : Bool) (c q : ℕ) (v : View) → Stays v (after_claim b c q v)
+claim_stays : (b : Bool) (c : ℕ) (q : NewNode) (v : View) → Stays v (after_claim b c q v)
 claim_stays true c q v op x does stands = (does, stands)
 claim_stays false c q v op x does stands = (does, stands)
 

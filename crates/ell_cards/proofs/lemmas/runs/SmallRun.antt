@@ -1,4 +1,4 @@
-use Rattle.std.proofs.Common.{ap, None, ◌≡◌, ◌≢◌, ℕ, ◌≤◌, zero, suc, true, Some, List, [], ◌∷◌, ◌++◌, ◌+◌, inl, inr, refl, sym, subst, arith, ◌∙◌, ◌⊎◌}
+use Rattle.std.proofs.Common.{ap, None, ◌≡◌, ◌≢◌, ℕ, ◌≤◌, zero, suc, true, Some, List, [], ◌∷◌, ◌++◌, ◌+◌, inl, inr, refl, sym, subst, arith, ◌∙◌, ◌⊎◌, false}
 use Rattle.std.specs.List.{All}
 use Rattle.std.specs.List.Sorted.{IsStrictlyIncreasing}
 use Rattle.std.specs.Map.{keys_of}
@@ -131,7 +131,7 @@ filled_delete gp p l was tag field.RightValue = refl
 
 filled_insert : (f : Field)
     → stored_at ((field.RightValue, 70) ∷ (field.LeftValue, 50) ∷ (field.RightLeafKey, 7) ∷ (field.LeftLeafKey, 5) ∷ (field.Update, 3) ∷ (field.Right, 14)
-    ∷ (field.Left, 13) ∷ (field.Key, 7) ∷ (field.L, 5) ∷ (field.P, 4) ∷ []) f ≡ stored (tagged 0 (put_filling 3 7 70 7 4 5 5 50)) f 0
+    ∷ (field.Left, 13) ∷ (field.Key, 7) ∷ (field.L, 5) ∷ (field.P, 4) ∷ []) f ≡ stored (tagged 0 (put_filling false 3 7 70 7 4 5 5 50)) f 0
 filled_insert field.Gp = refl
 filled_insert field.P = refl
 filled_insert field.L = refl
@@ -200,7 +200,7 @@ delete_flags_asks =
     ▸ (refl, record { op = Delete 5; word = 3; key = infinity1; busy = refl; stands = refl; inner = refl; read = refl; told = refl; side = refl; no_card = refl })
     ▸ (refl, told_at 0 _ _ refl)
     ▸ (refl, tt)
-    ▸ (refl, (record { op = Delete 5; below = 5; key = 5; parent = record { node = 4; word = 3; tag = 0 }; read = refl; other = λ e. some_not_none e refl; ready = inl refl; busy = refl; stands = refl; told = refl; behind = refl; calm = refl; wants = record { outer = leaf_5; same = refl; above = record { node = 0; word = 3; tag = 0 }; grandparent = refl; calm = refl } }, omega arith))
+    ▸ (refl, (record { op = Delete 5; below = 5; key = 5; parent = record { node = 4; word = 3; tag = 0 }; read = refl; other = λ e. some_not_none e refl; ready = inl refl; busy = refl; stands = refl; told = refl; behind = refl; calm = refl; wants = record { outer = leaf_5; same = refl; above = record { node = 0; word = 3; tag = 0 }; grandparent = refl; calm = refl }; shape = refl }, omega arith))
     ▸ (refl, record { holds = refl; unflagged = refl })
     ▸ (refl, record { holds = refl; unflagged = refl })
     ▸ (refl, record { holds = refl; unflagged = refl })
@@ -224,7 +224,7 @@ insert_claims_asks =
     ▸ (refl, told_at 0 _ _ refl)
     ▸ (refl, (told_at 1 _ _ refl, leaf_5))
     ▸ (refl, tt)
-    ▸ (refl, (record { op = Insert 7 70; below = 5; key = 5; parent = record { node = 4; word = 3; tag = 0 }; read = refl; other = λ e. some_not_none e refl; ready = inl refl; busy = refl; stands = refl; told = refl; behind = refl; calm = refl; wants = record { leaf = λ outer. ((λ e. let h : ◌≡◌ {A = ℕ} 5 7 = e in omega arith), (50, told_at 0 _ _ refl)); edge = λ inner. absurd (leaf_5 inner); fits = λ has. absurd (false≢true (sym (none_plain 4) ∙ has)); named = record { greater = λ plain. refl; branch = λ some two. absurd (omega arith) } } }, omega arith))
+    ▸ (refl, (record { op = Insert 7 70; below = 5; key = 5; parent = record { node = 4; word = 3; tag = 0 }; read = refl; other = λ e. some_not_none e refl; ready = inl refl; busy = refl; stands = refl; told = refl; behind = refl; calm = refl; wants = record { leaf = λ outer. ((λ e. let h : ◌≡◌ {A = ℕ} 5 7 = e in omega arith), (50, told_at 0 _ _ refl)); edge = λ inner. absurd (leaf_5 inner); fits = λ has. absurd (false≢true (sym (none_plain 4) ∙ has)); named = record { greater = λ plain. refl; branch = λ some two. absurd (omega arith) } }; shape = refl }, omega arith))
     ▸ tt
 
 abbrev at_3 : TableState
@@ -290,7 +290,7 @@ delete_begins_anew_asks =
     ▸ (refl, record { op = Delete 5; word = 3; key = 7; busy = refl; stands = refl; inner = refl; read = refl; told = refl; side = refl; no_card = refl })
     ▸ (refl, told_at 0 _ _ refl)
     ▸ (refl, tt)
-    ▸ (refl, (record { op = Delete 5; below = 13; key = 5; parent = record { node = 12; word = 3; tag = 0 }; read = refl; other = λ e. some_not_none e refl; ready = inl refl; busy = refl; stands = refl; told = refl; behind = refl; calm = refl; wants = record { outer = leaf_13; same = refl; above = record { node = 4; word = 15; tag = 1 }; grandparent = refl; calm = refl } }, omega arith))
+    ▸ (refl, (record { op = Delete 5; below = 13; key = 5; parent = record { node = 12; word = 3; tag = 0 }; read = refl; other = λ e. some_not_none e refl; ready = inl refl; busy = refl; stands = refl; told = refl; behind = refl; calm = refl; wants = record { outer = leaf_13; same = refl; above = record { node = 4; word = 15; tag = 1 }; grandparent = refl; calm = refl }; shape = refl }, omega arith))
     ▸ tt
 
 abbrev at_7 : TableState

@@ -17,6 +17,7 @@ use Rattle.std.specs.Option.{option_or}
 use Rattle.std.proofs.lemmas.Bool.{false≢true}
 use Rattle.ell_cards.specs.declared.call.Call.{Call}
 use Rattle.ell_cards.specs.declared.call.Call.TheVariants as call
+use Rattle.ell_cards.specs.declared.call.NewNode.{NewNode}
 use Rattle.ell_cards.specs.declared.view.Deed.{Deed}
 use Rattle.ell_cards.specs.declared.view.View.{View}
 use Rattle.ell_cards.specs.Models.{TablePlan, IsFree, whole_share}
@@ -39,7 +40,7 @@ AnswersNothing (call.Answer said) = ⊥
 AnswersNothing _ = Unit {0}
 
 -- only an answer adds to what a pass was answered
-answers_claim : (b : Bool) (c q : ℕ) (v : View) → (after_claim b c q v).answers ≡ v.answers
+answers_claim : (b : Bool) (c : ℕ) (q : NewNode) (v : View) → (after_claim b c q v).answers ≡ v.answers
 answers_claim true c q v = refl
 answers_claim false c q v = refl
 

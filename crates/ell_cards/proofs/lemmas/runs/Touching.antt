@@ -1,9 +1,9 @@
-use Rattle.std.proofs.Common.{◌≡◌, ◌≢◌, ℕ, ◌≤◌, ◌+◌, ◌==◌, if◌then◌else◌, inl, inr, Bool, true, false, Option, Some, None, List, [], ◌∷◌, get_or, refl, sym, ap, ◌∙◌, subst, eqb-true, arith}
-use Rattle.std.proofs.lemmas.Bool.{cases_eq, true≢false, false≢true, false_from_ne_true}
+use Rattle.std.proofs.Common.{◌≡◌, ◌≢◌, ℕ, ◌≤◌, ◌+◌, ◌==◌, if◌then◌else◌, inl, inr, Bool, true, false, Option, Some, None, List, [], ◌∷◌, get_or, refl, sym, ap, ◌∙◌, subst, eqb-true, arith, ◌%◌, ◌&&◌, ◌||◌, not, nat_lt}
+use Rattle.std.proofs.lemmas.Bool.{cases_eq, true≢false, false≢true, false_from_ne_true, eq-eqb}
 use Rattle.atomic_table.proofs.Lists.{set_else}
 use mathlib.Core.Option.{some, some-injective}
 use lib.ListN.{get_elem?}
-use Rattle.ell_word.specs.Node.{IsInternal}
+use Rattle.ell_word.specs.Node.{IsInternal, left_leaf, right_leaf}
 use Rattle.ell_word.specs.Word.{packed, unpacked}
 use Rattle.ell_word.specs.Link.{link_in}
 use Rattle.ell_word.specs.declared.link.Link.{Link}
@@ -686,7 +686,10 @@ known_takes_out plan s seat v there c x knows r has = elim knows [
   | inl put ↦
       let over = iover-ended (has.stages c) (allowed (fact.IOver c) put.0) in
       let leaf = told_is plan s r seat v there c field.L x put.2 in
-      (over.0, inl (over.1, subst IsLeaf (sym leaf) put.1, leaf))
+      let left = told_is plan s r seat v there c field.LeftLeafKey put.1.key put.1.left in
+      let right = told_is plan s r seat v there c field.RightLeafKey put.1.key put.1.right in
+      let one = eq-eqb (r.words.key (left_leaf c)) (r.words.key (right_leaf c)) (left ∙ sym right) in
+      (over.0, inl (over.1, ap (λ (b : Bool). not b && (nat_lt 0 r.words.flat_from || r.words.l c % 4 == 0)) one, leaf))
   | inr cut ↦
       let over = dover-ended (has.stages c) (allowed (fact.DOver c) cut.0) in (
         over.0,

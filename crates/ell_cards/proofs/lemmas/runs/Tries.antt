@@ -21,6 +21,7 @@ use Rattle.ell_core.specs.acts.Searching.{MayStop}
 use Rattle.ell_core.specs.state.Machine.{worker_of}
 use Rattle.ell_cards.specs.declared.call.Call.{Call}
 use Rattle.ell_cards.specs.declared.call.Call.TheVariants as call
+use Rattle.ell_cards.specs.declared.call.NewNode.{NewNode}
 use Rattle.ell_cards.specs.declared.view.Hindrance.{Hindrance}
 use Rattle.ell_cards.specs.declared.view.Hindrance.TheVariants.{Claim, Found}
 use Rattle.ell_cards.specs.declared.view.View.{View}
@@ -432,7 +433,7 @@ module _ (plan : TablePlan) where
 
     module _ (c : Call) (made : t ≡ Makes seat c) (at : get_elem? s'.views seat ≡ some (view_after s v c)) where
       -- a claim
-      claim_rests : (d q : ℕ) (b : Bool) → (found_by s (call.Claim d q) == d) ≡ b → ((y : ℕ) → ends_in y (turn_won s t) ≡ 0) → May plan (call.Claim d q) v
+      claim_rests : (d : ℕ) (q : NewNode) (b : Bool) → (found_by s (call.Claim d q) == d) ≡ b → ((y : ℕ) → ends_in y (turn_won s t) ≡ 0) → May plan (call.Claim d q) v
           → get_elem? s'.views seat ≡ some (after_claim b d q v) → Grows s v s' (after_claim b d q v) → Rests s v s' (after_claim b d q v)
       claim_rests d q true e ends_none may there_now g = record {
         hindered = refl;

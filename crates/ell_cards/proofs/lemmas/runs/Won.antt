@@ -13,6 +13,7 @@ use Rattle.ell_layout.specs.Cards.{iflag, dflag}
 use Rattle.ell_core.specs.acts.Wins.{win_for}
 use Rattle.ell_cards.specs.declared.call.Call.{Call}
 use Rattle.ell_cards.specs.declared.call.Call.TheVariants as call
+use Rattle.ell_cards.specs.declared.call.NewNode.{NewNode}
 use Rattle.ell_cards.specs.declared.view.View.{View}
 use Rattle.ell_word.specs.declared.update.Update.{Update}
 use Rattle.ell_cards.specs.Changes.{if_won, after_claim, after_flag, after_mark, is_mark_of, with_fact, unmarking, left_view, right_view, joined_view, spent_view}
@@ -70,7 +71,7 @@ won_by (call.DUnflag c gp) n = if_won (n == dflag c) exchange.DUnflag c
 won_by (call.Backtrack c gp) n = if_won (n == dflag c) exchange.Backtrack c
 won_by _ n = []
 
-claim_won : (b : Bool) (c q : ℕ) (v : View) → (after_claim b c q v).won ≡ if_won b exchange.Claim c ++ v.won
+claim_won : (b : Bool) (c : ℕ) (q : NewNode) (v : View) → (after_claim b c q v).won ≡ if_won b exchange.Claim c ++ v.won
 claim_won true c q v = refl
 claim_won false c q v = refl
 

@@ -4,9 +4,10 @@ use Rattle.ell_core.specs.declared.fact.Fact.{Fact}
 use Rattle.ell_core.specs.declared.fact.Fact.TheVariants.{Marked}
 use Rattle.ell_cards.specs.declared.view.View.{View}
 use Rattle.ell_cards.specs.Changes.{after_claim, after_flag, after_mark, is_mark_of, with_fact, unmarking}
+use Rattle.ell_cards.specs.declared.call.NewNode.{NewNode}
 
 -- a claim, a flag and a mark leave the ledger
-pub claim_ledger : (b : Bool) (c q : ℕ) (v : View) → (after_claim b c q v).worker.ledger ≡ v.worker.ledger
+pub claim_ledger : (b : Bool) (c : ℕ) (q : NewNode) (v : View) → (after_claim b c q v).worker.ledger ≡ v.worker.ledger
 claim_ledger true c q v = refl
 claim_ledger false c q v = refl
 
@@ -23,7 +24,7 @@ mark_ledger false c x u v = by (is_mark_of c u.state u.card)
     by false = refl
 
 -- a claim, a flag and a mark leave the keys that may have an owner
-pub claim_list : (b : Bool) (c q : ℕ) (v : View) → (after_claim b c q v).worker.shared ≡ v.worker.shared
+pub claim_list : (b : Bool) (c : ℕ) (q : NewNode) (v : View) → (after_claim b c q v).worker.shared ≡ v.worker.shared
 claim_list true c q v = refl
 claim_list false c q v = refl
 

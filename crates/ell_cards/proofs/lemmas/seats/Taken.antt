@@ -12,6 +12,7 @@ use Rattle.ell_layout.proofs.lemmas.Listed.{place_small}
 use Rattle.ell_cards.specs.declared.call.Call.{Call}
 use Rattle.ell_cards.specs.declared.call.Call.TheVariants as call
 use Rattle.ell_cards.specs.declared.view.Slots.{Slots}
+use Rattle.ell_cards.specs.declared.call.NewNode.{NewNode}
 use Rattle.ell_cards.specs.declared.view.View.{View}
 use Rattle.ell_cards.specs.declared.view.Told.TheVariants.{Met, Info}
 use Rattle.ell_cards.specs.Models.{KnowsCard, PassModel, Sees, Steps}
@@ -62,7 +63,7 @@ owned_stays (call.Mark c p was) n v = mark_list (n == was) c p (unpacked n) v
 owned_stays _ n v = refl
 
 -- nor the share
-share_claim : (b : Bool) (c q : ℕ) (v : View) → (after_claim b c q v).share ≡ v.share
+share_claim : (b : Bool) (c : ℕ) (q : NewNode) (v : View) → (after_claim b c q v).share ≡ v.share
 share_claim true c q v = refl
 share_claim false c q v = refl
 

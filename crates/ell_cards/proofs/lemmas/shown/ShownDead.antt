@@ -11,7 +11,7 @@ use Rattle.ell_cards.specs.Noting.{KnowsDeadNodes, NeverCome}
 use Rattle.ell_cards.specs.Dead.{HasTakenOut, KnowsReplaced, KnowsUnused, KnowsNeverComes}
 use Rattle.ell_cards.specs.Models.{IsTold}
 use Rattle.ell_cards.specs.Shown.{shown}
-use Rattle.ell_cards.specs.Touching.{KnowsTakenOut}
+use Rattle.ell_cards.specs.Touching.{KnowsOneKey, KnowsTakenOut}
 use Rattle.ell_cards.proofs.lemmas.shown.ShownTold.{was_info}
 
 -- a node's low bits say at which place of its card it stands
@@ -25,27 +25,26 @@ leaf_by : (y x : ℕ) → cut_node y ≡ x → IsLeaf x → IsLeaf y
 leaf_by y x is outer inner = outer (place_whole y x is ∙ inner)
 
 module _ (v : View) where
-  replaced_whole : (c x : ℕ) → KnowsReplaced (shown v) c x → KnowsReplaced v c x
-  replaced_whole c x h =
+  one_key_whole : (c : ℕ) → KnowsOneKey (shown v) c → KnowsOneKey v c
+  one_key_whole c h =
       let left = was_info v.told c field.LeftLeafKey h.key h.left in
       let right = was_info v.told c field.RightLeafKey h.key h.right in record {
         key = h.key;
         left = subst (λ k. IsTold v (Info c field.LeftLeafKey k)) left.is left.has;
         right = subst (λ k. IsTold v (Info c field.RightLeafKey k)) right.is right.has;
-        other = h.other;
       }
+
+  replaced_whole : (c x : ℕ) → KnowsReplaced (shown v) c x → KnowsReplaced v c x
+  replaced_whole c x h = record { same = one_key_whole c h.same; other = h.other }
 
   unused_whole : (c x : ℕ) → KnowsUnused (shown v) c x → KnowsUnused v c x
   unused_whole c x h =
-      let goes = was_info v.told c field.L h.below h.goes in record {
+      record {
         op = h.op;
-        below = goes.whole;
         key = h.key;
         busy = h.busy;
         holds = h.holds;
         flagged = h.flagged;
-        goes = goes.has;
-        inner = inner_by goes.whole h.below goes.is h.inner;
         told = elim h.told [
           | inl left ↦ inl (left.0, (let was = was_info v.told c field.LeftLeafKey h.key left.1 in subst (λ k. IsTold v (Info c field.LeftLeafKey k)) was.is was.has))
           | inr right ↦ inr (right.0, (let was = was_info v.told c field.RightLeafKey h.key right.1 in subst (λ k. IsTold v (Info c field.RightLeafKey k)) was.is was.has))
@@ -89,7 +88,7 @@ taken_out_whole v names x (c, holds, inl h) =
       met = names.leaf c was.whole holds was.has;
       taker = c;
       holds = holds;
-      knows = inl (h.0, leaf_by was.whole x was.is h.1, was.has);
+      knows = inl (h.0, one_key_whole v c h.1, was.has);
     }
 taken_out_whole v names x (c, holds, inr (over, inl told)) =
     let was = was_info v.told c field.P x told in record {

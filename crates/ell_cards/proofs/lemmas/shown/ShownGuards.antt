@@ -23,6 +23,7 @@ use Rattle.ell_cards.specs.Shown.{shown_seen, shown_glance, shown_word, shown, S
 use Rattle.ell_cards.proofs.lemmas.shown.CutWords.{node_place}
 use Rattle.ell_cards.proofs.lemmas.shown.ShownTold.{was_key, was_value, was_info}
 use Rattle.ell_cards.proofs.lemmas.shown.ShownWords.{stored_at_shown, planned_shown}
+use Rattle.ell_cards.specs.declared.call.NewNode.{NewNode}
 
 -- a node that a search has seen is shown of one that it has seen whole
 pub record WasSeen (o : Option Seen) (seen : Seen) : Type 0 where
@@ -182,7 +183,7 @@ module _ (plan : TablePlan) (v : View) (apart : IsApart plan v) where
         calm = subst (λ (s : Seen). IsClean s.word) (sym up.is) h.calm;
       }
 
-  pub claim_whole : (c node_key : ℕ) → MayClaim (flat_from plan) (shown v) c node_key → MayClaim (flat_from plan) v c node_key
+  pub claim_whole : (c : ℕ) (node_key : NewNode) → MayClaim (flat_from plan) (shown v) c node_key → MayClaim (flat_from plan) v c node_key
   claim_whole c node_key may =
       let above = was_seen v.worker.search.parent may.parent may.behind in
       let at = was_stood v.worker.search.node may.below may.stands in
@@ -199,9 +200,10 @@ module _ (plan : TablePlan) (v : View) (apart : IsApart plan v) where
         told = may.told;
         behind = above.has;
         calm = subst (λ (s : Seen). IsClean s.word) (sym above.is) may.calm;
-        wants = wants_whole may.op above.whole.node at.whole may.key node_key (apart.names.parent above.whole above.has) (apart.names.node at.whole at.has)
-            (subst (λ x. Wants (flat_from plan) (shown v) may.op (shown_seen above.whole).node x may.key node_key) (sym at.is)
-            (subst (λ (s : Seen). Wants (flat_from plan) (shown v) may.op s.node may.below may.key node_key) (sym above.is) may.wants));
+        wants = wants_whole may.op above.whole.node at.whole may.key node_key.key (apart.names.parent above.whole above.has) (apart.names.node at.whole at.has)
+            (subst (λ x. Wants (flat_from plan) (shown v) may.op (shown_seen above.whole).node x may.key node_key.key) (sym at.is)
+            (subst (λ (s : Seen). Wants (flat_from plan) (shown v) may.op s.node may.below may.key node_key.key) (sym above.is) may.wants));
+        shape = may.shape;
       }
 
 -- a value that is stored is shown of the planned one, if it is that once that is cut, and else of itself

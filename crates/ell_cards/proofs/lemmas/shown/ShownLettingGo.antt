@@ -36,11 +36,10 @@ module _ (s : Slots) (v : View) (r : Retired) (c : ℕ) where
         goes = goes.has;
         left_key = subst (λ k. IsTold v (Info c field.LeftLeafKey k)) left.is left.has;
         right_key = subst (λ k. IsTold v (Info c field.RightLeafKey k)) right.is right.has;
-        apart = λ inner. h.apart (place_whole goes.whole h.below goes.is ∙ inner);
-        leaf = λ node outer has. h.leaf (λ three. node (sym (place_whole goes.whole h.below goes.is) ∙ three)) (λ inner. outer (sym (place_whole goes.whole h.below goes.is) ∙ inner)) (has_slot_low s.last goes.whole h.below goes.is has);
+        leaf = λ one node has. h.leaf one (λ three. node (sym (place_whole goes.whole h.below goes.is) ∙ three)) (has_slot_low s.last goes.whole h.below goes.is has);
         replaced = h.replaced;
-        unused_left = λ inner other has. h.unused_left (place_whole goes.whole h.below goes.is ∙ inner) other has;
-        unused_right = λ inner other has. h.unused_right (place_whole goes.whole h.below goes.is ∙ inner) other has;
+        unused_left = h.unused_left;
+        unused_right = h.unused_right;
       }
 
   cut_whole : CutIsRetired s (shown v) r c → CutIsRetired s v r c

@@ -10,13 +10,14 @@ use Rattle.ell_word.specs.Word.{packed, unpacked}
 use Rattle.ell_layout.specs.declared.field.Field.{Field}
 use Rattle.ell_layout.specs.declared.field.Field.TheVariants as field
 use Rattle.ell_layout.specs.Layout.{place}
-use Rattle.ell_layout.specs.Cards.{stored, put_filling, delete_filling}
+use Rattle.ell_layout.specs.Cards.{stored, put_filling, delete_filling, stays_below}
 use Rattle.ell_layout.proofs.lemmas.Listed.{same_place-field}
 use Rattle.ell_core.proofs.lemmas.tree.Blocks.{flat_by, block_past}
 use Rattle.ell_core.specs.declared.fact.Fact.{Fact}
 use Rattle.ell_core.specs.declared.fact.Fact.TheVariants as fact
 use Rattle.ell_core.specs.declared.view.Seen.{Seen}
 use Rattle.ell_cards.specs.declared.call.Call.TheVariants as call
+use Rattle.ell_cards.specs.declared.call.NewNode.{NewNode}
 use Rattle.ell_cards.specs.declared.view.View.{View}
 use Rattle.ell_cards.specs.declared.view.Told.TheVariants.{Met}
 use Rattle.ell_cards.specs.Apart.{cut_node, IsApart}
@@ -33,7 +34,7 @@ wanted from v (Find k) parent key node_key h = h
 wanted from v (Insert k value) parent key node_key h =
     let block = (h.edge refl).0 in
     let some = flat_by from 0 block in
-    let past = block_past from 0 block in
+    let past = block_past from 0 refl block in
     let more : 1 ≤ 0 = omega arith in
     absurd (omega arith)
 wanted from v (Swap k was value) parent key node_key h = h.outer refl
@@ -63,28 +64,28 @@ module _ (plan : TablePlan) (v : View) (apart : IsApart plan v) where
       absurd (omega (arith, is, more, few))
 
   -- what fills a card: in each field a number that is nothing if it is that once it is cut
-  put_nothing : (c k value node_key parent below key there tag : ℕ) → IsTold v (Met parent) → IsTold v (Met below) → 0 < below → (f : Field)
-      → IsNothingSo f (stored (tagged tag (put_filling c k value node_key parent below key there)) f 0)
-  put_nothing c k value node_key parent below key there tag above met more field.Gp e = refl
-  put_nothing c k value node_key parent below key there tag above met more field.P e = met_root parent above e
-  put_nothing c k value node_key parent below key there tag above met more field.L e = absurd (link_nothing below tag met more e)
-  put_nothing c k value node_key parent below key there tag above met more field.Left e = left (below % 4 == 0 && nat_le key k) e
+  put_nothing : (flat : Bool) (c k value node_key parent below key there tag : ℕ) → IsTold v (Met parent) → IsTold v (Met below) → 0 < below → (f : Field)
+      → IsNothingSo f (stored (tagged tag (put_filling flat c k value node_key parent below key there)) f 0)
+  put_nothing flat c k value node_key parent below key there tag above met more field.Gp e = refl
+  put_nothing flat c k value node_key parent below key there tag above met more field.P e = met_root parent above e
+  put_nothing flat c k value node_key parent below key there tag above met more field.L e = absurd (link_nothing below tag met more e)
+  put_nothing flat c k value node_key parent below key there tag above met more field.Left e = left (stays_below flat below && nat_le key k) e
     where
       left : (b : Bool) → 0 ≡ cut_word (linked (record { node = if b then below else left_leaf c; tag = 0 })) → 0 ≡ linked (record { node = if b then below else left_leaf c; tag = 0 })
       left true e = absurd (link_nothing below 0 met more e)
       left false e = absurd (leaf_nothing c 1 (omega arith) (omega arith) e)
-  put_nothing c k value node_key parent below key there tag above met more field.Right e = right (below % 4 == 0 && nat_lt k key) e
+  put_nothing flat c k value node_key parent below key there tag above met more field.Right e = right (stays_below flat below && nat_lt k key) e
     where
       right : (b : Bool) → 0 ≡ cut_word (linked (record { node = if b then below else right_leaf c; tag = 0 })) → 0 ≡ linked (record { node = if b then below else right_leaf c; tag = 0 })
       right true e = absurd (link_nothing below 0 met more e)
       right false e = absurd (leaf_nothing c 2 (omega arith) (omega arith) e)
-  put_nothing c k value node_key parent below key there tag above met more field.Was e = e
-  put_nothing c k value node_key parent below key there tag above met more field.Key e = e
-  put_nothing c k value node_key parent below key there tag above met more field.Update e = e
-  put_nothing c k value node_key parent below key there tag above met more field.LeftLeafKey e = e
-  put_nothing c k value node_key parent below key there tag above met more field.RightLeafKey e = e
-  put_nothing c k value node_key parent below key there tag above met more field.LeftValue e = e
-  put_nothing c k value node_key parent below key there tag above met more field.RightValue e = e
+  put_nothing flat c k value node_key parent below key there tag above met more field.Was e = e
+  put_nothing flat c k value node_key parent below key there tag above met more field.Key e = e
+  put_nothing flat c k value node_key parent below key there tag above met more field.Update e = e
+  put_nothing flat c k value node_key parent below key there tag above met more field.LeftLeafKey e = e
+  put_nothing flat c k value node_key parent below key there tag above met more field.RightLeafKey e = e
+  put_nothing flat c k value node_key parent below key there tag above met more field.LeftValue e = e
+  put_nothing flat c k value node_key parent below key there tag above met more field.RightValue e = e
 
   delete_nothing : (above parent leaf was tag : ℕ) → IsTold v (Met above) → IsTold v (Met parent) → IsTold v (Met leaf) → 0 < leaf → (f : Field)
       → IsNothingSo f (stored (tagged tag (delete_filling above parent leaf was)) f 0)
@@ -104,20 +105,20 @@ module _ (plan : TablePlan) (v : View) (apart : IsApart plan v) where
   none_nothing : (f : Field) → IsNothingSo f 0
   none_nothing f e = refl
 
-  planned_nothing : (c node_key tag : ℕ) (op : Option Op) (node : Option ℕ) (parent above : Option Seen) (key : ℕ) (value_of : ℕ → ℕ)
+  planned_nothing : (c : ℕ) (node_key : NewNode) (tag : ℕ) (op : Option Op) (node : Option ℕ) (parent above : Option Seen) (key : ℕ) (value_of : ℕ → ℕ)
       → ((x : ℕ) → node ≡ Some x → IsTold v (Met x) × (0 < x)) → ((seen : Seen) → parent ≡ Some seen → IsTold v (Met seen.node))
       → ((seen : Seen) → above ≡ Some seen → IsTold v (Met seen.node)) → (f : Field)
       → IsNothingSo f (stored (tagged tag (filling_for c node_key op node parent above key value_of)) f 0)
   planned_nothing c node_key tag (Some (Insert k value)) (Some below) (Some parent) above key value_of at behind top =
-      put_nothing c k value node_key parent.node below key (value_of below) tag (behind parent refl) (at below refl).0 (at below refl).1
+      put_nothing node_key.flat c k value node_key.key parent.node below key (value_of below) tag (behind parent refl) (at below refl).0 (at below refl).1
   planned_nothing c node_key tag (Some (Swap k was value)) (Some below) (Some parent) above key value_of at behind top =
-      put_nothing c k value node_key parent.node below key (value_of below) tag (behind parent refl) (at below refl).0 (at below refl).1
+      put_nothing node_key.flat c k value node_key.key parent.node below key (value_of below) tag (behind parent refl) (at below refl).0 (at below refl).1
   planned_nothing c node_key tag (Some (Delete k)) (Some leaf) (Some parent) (Some above) key value_of at behind top =
       delete_nothing above.node parent.node leaf parent.word tag (top above refl) (behind parent refl) (at leaf refl).0 (at leaf refl).1
   planned_nothing c node_key tag _ _ _ _ key value_of at behind top = none_nothing
 
   -- claim
-  claim_stays : (c node_key : ℕ) (won : Bool) → MayClaim (flat_from plan) v c node_key → StoresAreWhole v → StoresAreWhole (after_claim won c node_key v)
+  claim_stays : (c : ℕ) (node_key : NewNode) (won : Bool) → MayClaim (flat_from plan) v c node_key → StoresAreWhole v → StoresAreWhole (after_claim won c node_key v)
   claim_stays c node_key true may stores f e =
       planned_nothing c node_key (expected_tag v) v.worker.operation v.worker.search.node v.worker.search.parent
       v.worker.search.grandparent (unwrap_or v.here 0) (value_told v.told)
@@ -133,8 +134,8 @@ module _ (plan : TablePlan) (v : View) (apart : IsApart plan v) where
       zero_shown _ = refl
 
       no_root : (x : ℕ) → may.below ≡ x → 0 < x
-      no_root zero e = absurd (wanted (flat_from plan) v may.op may.parent.node may.key node_key
-          (subst (λ y. Wants (flat_from plan) v may.op may.parent.node y may.key node_key) e may.wants))
+      no_root zero e = absurd (wanted (flat_from plan) v may.op may.parent.node may.key node_key.key
+          (subst (λ y. Wants (flat_from plan) v may.op may.parent.node y may.key node_key.key) e may.wants))
       no_root (suc x) e = omega arith
   claim_stays c node_key false may stores f e = stores f e
 

@@ -1,5 +1,5 @@
 -- What is shown of the words that a card in hand has, or is to have.
-use Rattle.std.proofs.Common.{◌≡◌, ℕ, ◌%◌, ◌==◌, ◌&&◌, nat_le, nat_lt, min, max, if◌then◌else◌, map, Bool, true, false, Option, Some, None, List, [], ◌∷◌, refl, sym, ap, ◌∙◌, eqb-true, unwrap_or}
+use Rattle.std.proofs.Common.{◌≡◌, ℕ, ◌%◌, ◌==◌, ◌&&◌, nat_le, nat_lt, min, max, if◌then◌else◌, map, Bool, true, false, Option, Some, None, List, [], ◌∷◌, refl, sym, ap, ◌∙◌, eqb-true, unwrap_or, ◌||◌}
 use Rattle.std.specs.Option.{option_map}
 use Rattle.ell_ops.specs.declared.op.Op.{Op}
 use Rattle.ell_ops.specs.declared.op.Op.TheVariants.{Find, Insert, Delete, Swap}
@@ -8,7 +8,7 @@ use Rattle.ell_word.specs.Node.{left_leaf, right_leaf}
 use Rattle.ell_layout.specs.declared.field.Field.{Field}
 use Rattle.ell_layout.specs.declared.field.Field.TheVariants as field
 use Rattle.ell_layout.specs.Layout.{place}
-use Rattle.ell_layout.specs.Cards.{clean, stored, tagged_for, left_of_card, right_of_card, put_filling, delete_filling}
+use Rattle.ell_layout.specs.Cards.{clean, stored, tagged_for, left_of_card, right_of_card, put_filling, delete_filling, stays_below}
 use Rattle.ell_layout.proofs.lemmas.Listed.{same_place-field}
 use Rattle.ell_core.specs.declared.view.Seen.{Seen}
 use Rattle.ell_core.specs.statements.Told.{is_fixed}
@@ -21,6 +21,7 @@ use Rattle.ell_cards.specs.Changes.{filling_for, filling_of, tagged, tag_of_clai
 use Rattle.ell_cards.specs.Shown.{cut_tag, shown_info, shown_seen, shown_told, shown_word, shown_words, shown}
 use Rattle.ell_cards.proofs.lemmas.shown.CutWords.{cut_linked, node_again, node_place, tag_again}
 use Rattle.ell_cards.proofs.lemmas.shown.ShownTold.{value_shown}
+use Rattle.ell_cards.specs.declared.call.NewNode.{NewNode}
 
 -- no word is shown as no word
 nothing_shown : (f : Field) → 0 ≡ shown_word f 0
@@ -77,25 +78,25 @@ abbrev pub shown_filling : List (Field × ℕ) → List (Field × ℕ)
 shown_filling es = map (λ e. (e.0, shown_info e.0 e.1)) es
 
 -- the children of a card's node are cut to the same, whether the node below it was cut or not
-left_alike : (c k below key : ℕ) → cut_node (left_of_card c k below key) ≡ cut_node (left_of_card c k (cut_node below) key)
-left_alike c k below key = by (below % 4 == 0 && nat_le key k) ∙ ap (λ p. cut_node (if p == 0 && nat_le key k then cut_node below else left_leaf c)) (sym (node_place below))
+left_alike : (flat : Bool) (c k below key : ℕ) → cut_node (left_of_card flat c k below key) ≡ cut_node (left_of_card flat c k (cut_node below) key)
+left_alike flat c k below key = by (stays_below flat below && nat_le key k) ∙ ap (λ p. cut_node (if (flat || p == 0) && nat_le key k then cut_node below else left_leaf c)) (sym (node_place below))
   where
     by : (b : Bool) → cut_node (if b then below else left_leaf c) ≡ cut_node (if b then cut_node below else left_leaf c)
     by true = sym (node_again below)
     by false = refl
 
-right_alike : (c k below key : ℕ) → cut_node (right_of_card c k below key) ≡ cut_node (right_of_card c k (cut_node below) key)
-right_alike c k below key = by (below % 4 == 0 && nat_lt k key) ∙ ap (λ p. cut_node (if p == 0 && nat_lt k key then cut_node below else right_leaf c)) (sym (node_place below))
+right_alike : (flat : Bool) (c k below key : ℕ) → cut_node (right_of_card flat c k below key) ≡ cut_node (right_of_card flat c k (cut_node below) key)
+right_alike flat c k below key = by (stays_below flat below && nat_lt k key) ∙ ap (λ p. cut_node (if (flat || p == 0) && nat_lt k key then cut_node below else right_leaf c)) (sym (node_place below))
   where
     by : (b : Bool) → cut_node (if b then below else right_leaf c) ≡ cut_node (if b then cut_node below else right_leaf c)
     by true = sym (node_again below)
     by false = refl
 
 -- so the words of an insert's card are shown alike, and those of a delete's
-put_alike : (c k value node_key parent below key there there' tag : ℕ) → there ≡ there'
-    → shown_words (tagged tag (put_filling c k value node_key parent below key there))
-    ≡ shown_words (tagged (cut_tag tag) (put_filling c k value node_key (cut_node parent) (cut_node below) key there'))
-put_alike c k value node_key parent below key there there' tag same = λ t.
+put_alike : (flat : Bool) (c k value node_key parent below key there there' tag : ℕ) → there ≡ there'
+    → shown_words (tagged tag (put_filling flat c k value node_key parent below key there))
+    ≡ shown_words (tagged (cut_tag tag) (put_filling flat c k value node_key (cut_node parent) (cut_node below) key there'))
+put_alike flat c k value node_key parent below key there there' tag same = λ t.
     (field.P, sym (node_again parent) t) ∷ (field.L, leaf t) ∷ (field.Key, node_key) ∷ (field.Left, left t) ∷ (field.Right, right t) ∷ (field.Update, clean 0)
     ∷ (field.LeftLeafKey, min k key) ∷ (field.RightLeafKey, max k key)
     ∷ (field.LeftValue, (if nat_lt k key then value else same t)) ∷ (field.RightValue, (if nat_lt k key then same t else value)) ∷ []
@@ -103,11 +104,11 @@ put_alike c k value node_key parent below key there there' tag same = λ t.
     leaf : shown_word field.L (tagged_for field.L tag below) ≡ shown_word field.L (tagged_for field.L (cut_tag tag) (cut_node below))
     leaf = tagged_alike field.L tag (cut_tag tag) below (cut_node below) (sym (tag_again tag)) (sym (node_again below))
 
-    left : shown_word field.Left (tagged_for field.Left tag (left_of_card c k below key)) ≡ shown_word field.Left (tagged_for field.Left (cut_tag tag) (left_of_card c k (cut_node below) key))
-    left = tagged_alike field.Left tag (cut_tag tag) (left_of_card c k below key) (left_of_card c k (cut_node below) key) (sym (tag_again tag)) (left_alike c k below key)
+    left : shown_word field.Left (tagged_for field.Left tag (left_of_card flat c k below key)) ≡ shown_word field.Left (tagged_for field.Left (cut_tag tag) (left_of_card flat c k (cut_node below) key))
+    left = tagged_alike field.Left tag (cut_tag tag) (left_of_card flat c k below key) (left_of_card flat c k (cut_node below) key) (sym (tag_again tag)) (left_alike flat c k below key)
 
-    right : shown_word field.Right (tagged_for field.Right tag (right_of_card c k below key)) ≡ shown_word field.Right (tagged_for field.Right (cut_tag tag) (right_of_card c k (cut_node below) key))
-    right = tagged_alike field.Right tag (cut_tag tag) (right_of_card c k below key) (right_of_card c k (cut_node below) key) (sym (tag_again tag)) (right_alike c k below key)
+    right : shown_word field.Right (tagged_for field.Right tag (right_of_card flat c k below key)) ≡ shown_word field.Right (tagged_for field.Right (cut_tag tag) (right_of_card flat c k (cut_node below) key))
+    right = tagged_alike field.Right tag (cut_tag tag) (right_of_card flat c k below key) (right_of_card flat c k (cut_node below) key) (sym (tag_again tag)) (right_alike flat c k below key)
 
 delete_alike : (above parent leaf was tag : ℕ) → shown_words (tagged tag (delete_filling above parent leaf was))
     ≡ shown_words (tagged (cut_tag tag) (delete_filling (cut_node above) (cut_node parent) (cut_node leaf) was))
@@ -116,14 +117,14 @@ delete_alike above parent leaf was tag = λ t.
     ∷ (field.L, tagged_alike field.L tag (cut_tag tag) leaf (cut_node leaf) (sym (tag_again tag)) (sym (node_again leaf)) t) ∷ (field.Was, was) ∷ []
 
 -- what a claim plans
-planned_alike : (c node_key : ℕ) (op : Option Op) (node : Option ℕ) (parent above : Option Seen) (key tag : ℕ) (value_of value_of' : ℕ → ℕ)
+planned_alike : (c : ℕ) (node_key : NewNode) (op : Option Op) (node : Option ℕ) (parent above : Option Seen) (key tag : ℕ) (value_of value_of' : ℕ → ℕ)
     → ((x : ℕ) → node ≡ Some x → value_of x ≡ value_of' (cut_node x))
     → shown_words (tagged tag (filling_for c node_key op node parent above key value_of))
     ≡ shown_words (tagged (cut_tag tag) (filling_for c node_key op (option_map cut_node node) (option_map shown_seen parent) (option_map shown_seen above) key value_of'))
 planned_alike c node_key (Some (Insert k value)) (Some below) (Some parent) above key tag value_of value_of' same =
-    put_alike c k value node_key parent.node below key (value_of below) (value_of' (cut_node below)) tag (same below refl)
+    put_alike node_key.flat c k value node_key.key parent.node below key (value_of below) (value_of' (cut_node below)) tag (same below refl)
 planned_alike c node_key (Some (Swap k was value)) (Some below) (Some parent) above key tag value_of value_of' same =
-    put_alike c k value node_key parent.node below key (value_of below) (value_of' (cut_node below)) tag (same below refl)
+    put_alike node_key.flat c k value node_key.key parent.node below key (value_of below) (value_of' (cut_node below)) tag (same below refl)
 planned_alike c node_key (Some (Delete k)) (Some leaf) (Some parent) (Some above) key tag value_of value_of' same =
     delete_alike above.node parent.node leaf parent.word tag
 planned_alike c node_key (Some (Delete k)) (Some leaf) (Some parent) None key tag value_of value_of' same = refl
@@ -151,7 +152,7 @@ pub value_here : (plan : TablePlan) (v : View) → IsApart plan v → (x : ℕ) 
 value_here plan v apart x at =
     sym (value_shown v.told x (λ y value has same. apart.met y x (apart.names.entries (Value y value) has) (apart.names.node x at) same))
 
-pub planned_shown_alike : (plan : TablePlan) (c node_key : ℕ) (v : View) → IsApart plan v
+pub planned_shown_alike : (plan : TablePlan) (c : ℕ) (node_key : NewNode) (v : View) → IsApart plan v
     → shown_words (tagged (expected_tag v) (filling_of c node_key v)) ≡ shown_words (tagged (expected_tag (shown v)) (filling_of c node_key (shown v)))
 planned_shown_alike plan c node_key v apart =
     planned_alike c node_key v.worker.operation v.worker.search.node v.worker.search.parent v.worker.search.grandparent (unwrap_or v.here 0) (expected_tag v)
@@ -171,20 +172,20 @@ told_filling_shown c (e ∷ es) told =
     by false = refl
 
 -- that is so of the fields that never change: in them no card's own node stands
-told_put : (c k value node_key parent below key there there' : ℕ) (told : List Told) → there ≡ there'
-    → told_filling c (shown_filling (put_filling c k value node_key parent below key there)) told
-    ≡ told_filling c (put_filling c k value node_key (cut_node parent) (cut_node below) key there') told
-told_put c k value node_key parent below key there there' told same =
-    ap (λ x. told_filling c (put_filling c k value node_key (cut_node parent) (cut_node below) key x) told) same
+told_put : (flat : Bool) (c k value node_key parent below key there there' : ℕ) (told : List Told) → there ≡ there'
+    → told_filling c (shown_filling (put_filling flat c k value node_key parent below key there)) told
+    ≡ told_filling c (put_filling flat c k value node_key (cut_node parent) (cut_node below) key there') told
+told_put flat c k value node_key parent below key there there' told same =
+    ap (λ x. told_filling c (put_filling flat c k value node_key (cut_node parent) (cut_node below) key x) told) same
 
-told_alike : (c node_key : ℕ) (op : Option Op) (node : Option ℕ) (parent above : Option Seen) (key : ℕ) (value_of value_of' : ℕ → ℕ) (told : List Told)
+told_alike : (c : ℕ) (node_key : NewNode) (op : Option Op) (node : Option ℕ) (parent above : Option Seen) (key : ℕ) (value_of value_of' : ℕ → ℕ) (told : List Told)
     → ((x : ℕ) → node ≡ Some x → value_of x ≡ value_of' (cut_node x))
     → told_filling c (shown_filling (filling_for c node_key op node parent above key value_of)) told
     ≡ told_filling c (filling_for c node_key op (option_map cut_node node) (option_map shown_seen parent) (option_map shown_seen above) key value_of') told
 told_alike c node_key (Some (Insert k value)) (Some below) (Some parent) above key value_of value_of' told same =
-    told_put c k value node_key parent.node below key (value_of below) (value_of' (cut_node below)) told (same below refl)
+    told_put node_key.flat c k value node_key.key parent.node below key (value_of below) (value_of' (cut_node below)) told (same below refl)
 told_alike c node_key (Some (Swap k was value)) (Some below) (Some parent) above key value_of value_of' told same =
-    told_put c k value node_key parent.node below key (value_of below) (value_of' (cut_node below)) told (same below refl)
+    told_put node_key.flat c k value node_key.key parent.node below key (value_of below) (value_of' (cut_node below)) told (same below refl)
 told_alike c node_key (Some (Delete k)) (Some leaf) (Some parent) (Some above) key value_of value_of' told same = refl
 told_alike c node_key (Some (Delete k)) (Some leaf) (Some parent) None key value_of value_of' told same = refl
 told_alike c node_key (Some (Delete k)) (Some leaf) None above key value_of value_of' told same = refl
@@ -196,7 +197,7 @@ told_alike c node_key (Some (Swap k was value)) None parent above key value_of v
 told_alike c node_key (Some (Find k)) node parent above key value_of value_of' told same = refl
 told_alike c node_key None node parent above key value_of value_of' told same = refl
 
-pub told_of_claim : (plan : TablePlan) (c node_key : ℕ) (v : View) → IsApart plan v
+pub told_of_claim : (plan : TablePlan) (c : ℕ) (node_key : NewNode) (v : View) → IsApart plan v
     → map shown_told (told_filling c (filling_of c node_key v) v.told) ≡ told_filling c (filling_of c node_key (shown v)) (shown v).told
 told_of_claim plan c node_key v apart =
     told_filling_shown c (filling_of c node_key v) v.told

@@ -1,4 +1,4 @@
-use Rattle.std.proofs.Common.{◌≡◌, ◌≢◌, ◌==◌, ℕ, ◌+◌, ◌%◌, ◌<◌, ◌≤◌, if◌then◌else◌, Bool, true, false, List, [], ◌∷◌, ◌++◌, length, get_or, set, Some, None, refl, sym, ap, ◌∙◌, subst, inl, inr, arith, eqb-true, true≢false, length-set, get_or-set_same, get_or-set_other, eq-eqb}
+use Rattle.std.proofs.Common.{◌≡◌, ◌≢◌, ◌==◌, ℕ, ◌+◌, ◌%◌, ◌<◌, ◌≤◌, if◌then◌else◌, Bool, true, false, List, [], ◌∷◌, ◌++◌, length, get_or, set, Some, None, refl, sym, ap, ◌∙◌, subst, inl, inr, arith, eqb-true, true≢false, length-set, get_or-set_same, get_or-set_other, eq-eqb, nat_lt}
 use Rattle.ell_core.specs.history.Later.{StagesLater, wins_of}
 use Rattle.std.specs.Prelude.{unwrap_or, Option}
 use Rattle.std.proofs.lemmas.Option.{same_Some}
@@ -21,7 +21,7 @@ use Rattle.ell_core.specs.declared.event.Stepped.TheVariants.{Moved}
 use Rattle.ell_layout.specs.declared.field.Field.{Field}
 use Rattle.ell_layout.specs.declared.field.Field.TheVariants as field
 use Rattle.ell_layout.specs.Layout.{address, listed}
-use Rattle.ell_layout.specs.Words.{Words, IsLeaf, has_block, word, table_word}
+use Rattle.ell_layout.specs.Words.{Words, IsLeaf, has_block, word, table_word, is_flat}
 use Rattle.ell_core.specs.state.Machine.{Worker, worker_of}
 use Rattle.ell_layout.specs.Cards as layout
 use Rattle.ell_layout.specs.Cards.{delete_filling, claimed, stored, tagged_for}
@@ -39,6 +39,7 @@ use Rattle.ell_layout.proofs.lemmas.Stored.{claimed_stored}
 use Rattle.ell_layout.proofs.lemmas.Writes.{put_same}
 use Rattle.ell_core.proofs.lemmas.keeping.claim.Filling.{claimed_claims, others_say}
 use Rattle.ell_cards.specs.declared.call.Call.TheVariants as call
+use Rattle.ell_cards.specs.declared.call.NewNode.{NewNode}
 use Rattle.ell_cards.specs.declared.view.Told.{Told}
 use Rattle.ell_cards.specs.declared.view.Told.TheVariants.{Key, Info, Value, Expects}
 use Rattle.ell_cards.specs.declared.view.View.{View}
@@ -88,15 +89,15 @@ taking c tag es v = record v {
 }
 
 -- what fills a card for an operation that puts something
-pub put_filling : (op : Op) (what : Put) → put_of op ≡ Some what → (c node_key below : ℕ) (parent : Seen) (above : Option Seen) (key : ℕ) (value_of : ℕ → ℕ)
-    → layout.put_filling c what.key what.value node_key parent.node below key (value_of below)
+pub put_filling : (op : Op) (what : Put) → put_of op ≡ Some what → (c : ℕ) (node_key : NewNode) (below : ℕ) (parent : Seen) (above : Option Seen) (key : ℕ) (value_of : ℕ → ℕ)
+    → layout.put_filling node_key.flat c what.key what.value node_key.key parent.node below key (value_of below)
     ≡ filling_for c node_key (Some op) (Some below) (Some parent) above key value_of
 put_filling (Find k) what e c node_key below parent above key value_of = absurd cc
 put_filling (Insert k value) what e c node_key below parent above key value_of =
-    ap (λ (t : Put). layout.put_filling c t.key t.value node_key parent.node below key (value_of below)) (sym (same_Some (added k value) what e))
+    ap (λ (t : Put). layout.put_filling node_key.flat c t.key t.value node_key.key parent.node below key (value_of below)) (sym (same_Some (added k value) what e))
 put_filling (Delete k) what e c node_key below parent above key value_of = absurd cc
 put_filling (Swap k was value) what e c node_key below parent above key value_of =
-    ap (λ (t : Put). layout.put_filling c t.key t.value node_key parent.node below key (value_of below)) (sym (same_Some (replacing k was value) what e))
+    ap (λ (t : Put). layout.put_filling node_key.flat c t.key t.value node_key.key parent.node below key (value_of below)) (sym (same_Some (replacing k was value) what e))
 
 -- the value that was told of a leaf, as that is told in the machine; an internal node has none
 told_below : (w : Words) (told : List Told) (x : ℕ) → (IsLeaf x → told_value told x ≡ w.value x) → value_told told x ≡ layout.value_below w x
@@ -118,20 +119,20 @@ abbrev IsTagged : ℕ → List (Field × ℕ) → Type 0
 IsTagged tag es = (f : Field) → tagged_for f tag (stored es f 0) ≡ stored (tagged tag es) f 0
 
 -- so are those of an insert or a swap
-insert_tagged : (tag c k value node_key parent below below_key below_value : ℕ)
-    → IsTagged tag (layout.put_filling c k value node_key parent below below_key below_value)
-insert_tagged tag c k value node_key parent below below_key below_value field.Gp = refl
-insert_tagged tag c k value node_key parent below below_key below_value field.P = refl
-insert_tagged tag c k value node_key parent below below_key below_value field.L = refl
-insert_tagged tag c k value node_key parent below below_key below_value field.Was = refl
-insert_tagged tag c k value node_key parent below below_key below_value field.Key = refl
-insert_tagged tag c k value node_key parent below below_key below_value field.Left = refl
-insert_tagged tag c k value node_key parent below below_key below_value field.Right = refl
-insert_tagged tag c k value node_key parent below below_key below_value field.Update = refl
-insert_tagged tag c k value node_key parent below below_key below_value field.LeftLeafKey = refl
-insert_tagged tag c k value node_key parent below below_key below_value field.RightLeafKey = refl
-insert_tagged tag c k value node_key parent below below_key below_value field.LeftValue = refl
-insert_tagged tag c k value node_key parent below below_key below_value field.RightValue = refl
+insert_tagged : (flat : Bool) (tag c k value node_key parent below below_key below_value : ℕ)
+    → IsTagged tag (layout.put_filling flat c k value node_key parent below below_key below_value)
+insert_tagged flat tag c k value node_key parent below below_key below_value field.Gp = refl
+insert_tagged flat tag c k value node_key parent below below_key below_value field.P = refl
+insert_tagged flat tag c k value node_key parent below below_key below_value field.L = refl
+insert_tagged flat tag c k value node_key parent below below_key below_value field.Was = refl
+insert_tagged flat tag c k value node_key parent below below_key below_value field.Key = refl
+insert_tagged flat tag c k value node_key parent below below_key below_value field.Left = refl
+insert_tagged flat tag c k value node_key parent below below_key below_value field.Right = refl
+insert_tagged flat tag c k value node_key parent below below_key below_value field.Update = refl
+insert_tagged flat tag c k value node_key parent below below_key below_value field.LeftLeafKey = refl
+insert_tagged flat tag c k value node_key parent below below_key below_value field.RightLeafKey = refl
+insert_tagged flat tag c k value node_key parent below below_key below_value field.LeftValue = refl
+insert_tagged flat tag c k value node_key parent below below_key below_value field.RightValue = refl
 
 -- and of a delete
 delete_tagged : (tag gp parent leaf was : ℕ) → IsTagged tag (delete_filling gp parent leaf was)
@@ -228,7 +229,7 @@ module _ (plan : TablePlan) (s : TableState) (r : HasMachine plan s) (id : ℕ) 
       (subst (λ n. IsReached plan s r id v here (set s.words 0 (next + 1)) (claimed r.words n es) (taking next n es v) act.Claim Moved) e at)
 
   -- what a claim needs of the word that it found: a won one is of the next card
-  claims : (c node_key : ℕ) → MayClaim (flat_from plan) v c node_key → c ≤ plan.last_card → c ≡ next
+  claims : (c : ℕ) (node_key : NewNode) → MayClaim (flat_from plan) v c node_key → c ≤ plan.last_card → c ≡ next
       → IsReached plan s r id v here (set s.words 0 (c + 1)) (claimed r.words (expected_tag v) (filling_of next node_key v)) (after_claim true c node_key v) act.Claim Moved
   claims c node_key may room same =
       subst (λ d. IsReached plan s r id v here (set s.words 0 (d + 1)) (claimed r.words (expected_tag v) (filling_of next node_key v)) (after_claim true d node_key v) act.Claim Moved)
@@ -242,20 +243,24 @@ module _ (plan : TablePlan) (s : TableState) (r : HasMachine plan s) (id : ℕ) 
           (ap (λ (u : Worker). u.search.node) (mine_is plan s r id v here) ∙ may.stands)
           (ap (λ (u : Worker). u.search.parent) (mine_is plan s r id v here) ∙ may.behind)
 
+      -- the tree is flat in the machine as by the plan
+      flat_is : node_key.flat ≡ is_flat r.words
+      flat_is = may.shape ∙ ap (nat_lt 0) (sym r.shape)
+
       -- it may take a card in the machine as by the plan
       ready : MayTake r.words.flat_from (worker_of v.worker)
       ready = subst (λ n. MayTake n (worker_of v.worker)) (sym r.shape) may.ready
 
       puts : (op : Op) (what : Put) → put_of op ≡ Some what → v.worker.operation ≡ Some op → GivesPlace r.words what may.below
-          → (what.was ≡ None → IsInBlock r.words may.parent.node what.key) → IsNodeKey r.words.flat_from what.key (r.words.key may.below) node_key
+          → (what.was ≡ None → IsInBlock r.words may.parent.node what.key) → IsNodeKey r.words.flat_from what.key (r.words.key may.below) node_key.key
           → (IsLeaf may.below → told_value v.told may.below ≡ r.words.value may.below)
           → IsReached plan s r id v here (set s.words 0 (next + 1)) (claimed r.words (expected_tag v) (filling_of next node_key v)) (after_claim true next node_key v) act.Claim Moved
       puts op what is_put busy takes_it fits named value_is =
           let below_value = value_told v.told may.below in
           let below_is = told_below r.words v.told may.below value_is in
-          let es = layout.put_filling next what.key what.value node_key may.parent.node may.below may.key below_value in
-          let filled_as : es ≡ layout.put_filling next what.key what.value node_key may.parent.node may.below (r.words.key may.below) (layout.value_below r.words may.below) =
-          λ t. layout.put_filling next what.key what.value node_key may.parent.node may.below (sym key_is t) (below_is t) in
+          let es = layout.put_filling node_key.flat next what.key what.value node_key.key may.parent.node may.below may.key below_value in
+          let filled_as : es ≡ layout.put_filling (is_flat r.words) next what.key what.value node_key.key may.parent.node may.below (r.words.key may.below) (layout.value_below r.words may.below) =
+          λ t. layout.put_filling (flat_is t) next what.key what.value node_key.key may.parent.node may.below (sym key_is t) (below_is t) in
           let is : es ≡ filling_of next node_key v =
           put_filling op what is_put next node_key may.below may.parent v.worker.search.grandparent may.key (value_told v.told)
           ∙ (λ t. filling_for next node_key (sym busy t) (sym may.stands t) (sym may.behind t) v.worker.search.grandparent (unwrap_or (sym may.told t) 0) (value_told v.told)) in
@@ -264,12 +269,12 @@ module _ (plan : TablePlan) (s : TableState) (r : HasMachine plan s) (id : ℕ) 
           ∙ (λ t. tag_of_claim (sym busy t) (sym may.behind t) v.worker.search.grandparent) in
           let at = claimed_words may.parent.tag es in
           as_known may.parent.tag (expected_tag v) es (filling_of next node_key v) tag_is is
-          (takes may.parent.tag es (insert_tagged may.parent.tag next what.key what.value node_key may.parent.node may.below may.key below_value) (omega arith) (inl (record {
+          (takes may.parent.tag es (insert_tagged node_key.flat may.parent.tag next what.key what.value node_key.key may.parent.node may.below may.key below_value) (omega arith) (inl (record {
             op = op;
             what = what;
             below = may.below;
             parent = may.parent;
-            node_key = node_key;
+            node_key = node_key.key;
             busy = busy;
             puts = is_put;
             ready = ready;
@@ -310,7 +315,7 @@ module _ (plan : TablePlan) (s : TableState) (r : HasMachine plan s) (id : ℕ) 
       has_it x = ap (λ n. has_block n x) (sym r.shape)
 
       -- an insert's key is in the parent's block
-      fits_there : (k key : ℕ) → WantsInsert (flat_from plan) v k may.parent.node may.below key node_key → IsInBlock r.words may.parent.node k
+      fits_there : (k key : ℕ) → WantsInsert (flat_from plan) v k may.parent.node may.below key node_key.key → IsInBlock r.words may.parent.node k
       fits_there k key wants = record {
         inner = λ inner has.
             let told = wants.fits (has_it may.parent.node ∙ has) in
@@ -319,15 +324,15 @@ module _ (plan : TablePlan) (s : TableState) (r : HasMachine plan s) (id : ℕ) 
       }
 
       -- and not in that of an internal node at which it ends
-      lacks_there : (k : ℕ) → WantsInsert (flat_from plan) v k may.parent.node may.below may.key node_key → IsInternal may.below → ¬ IsInBlock r.words may.below k
+      lacks_there : (k : ℕ) → WantsInsert (flat_from plan) v k may.parent.node may.below may.key node_key.key → IsInternal may.below → ¬ IsInBlock r.words may.below k
       lacks_there k wants inner in_block =
           let edge = wants.edge inner in
           edge.1 (subst (λ n. InBlockOf n k) key_is (in_block.inner inner (sym (has_it may.below) ∙ edge.0)))
 
-      named_so : (k : ℕ) → IsNodeKey (flat_from plan) k may.key node_key → IsNodeKey r.words.flat_from k (r.words.key may.below) node_key
-      named_so k named = subst (λ n. IsNodeKey n k (r.words.key may.below) node_key) (sym r.shape) (subst (λ m. IsNodeKey (flat_from plan) k m node_key) (sym key_is) named)
+      named_so : (k : ℕ) → IsNodeKey (flat_from plan) k may.key node_key.key → IsNodeKey r.words.flat_from k (r.words.key may.below) node_key.key
+      named_so k named = subst (λ n. IsNodeKey n k (r.words.key may.below) node_key.key) (sym r.shape) (subst (λ m. IsNodeKey (flat_from plan) k m node_key.key) (sym key_is) named)
 
-      by : (op : Op) → v.worker.operation ≡ Some op → Wants (flat_from plan) v op may.parent.node may.below may.key node_key
+      by : (op : Op) → v.worker.operation ≡ Some op → Wants (flat_from plan) v op may.parent.node may.below may.key node_key.key
           → IsReached plan s r id v here (set s.words 0 (next + 1)) (claimed r.words (expected_tag v) (filling_of next node_key v)) (after_claim true next node_key v) act.Claim Moved
       by (Find k) busy wants = absurd wants
       by (Insert k value) busy wants = puts (Insert k value) (added k value) refl busy
@@ -363,7 +368,7 @@ module _ (plan : TablePlan) (s : TableState) (r : HasMachine plan s) (id : ℕ) 
           })) (at field.Gp, (at field.P, (at field.L, (at field.Was, tt)))))
 
   -- the event of a claim by whether it was won
-  record ClaimAt (c node_key : ℕ) (b : Bool) : Type 0 where
+  record ClaimAt (c : ℕ) (node_key : NewNode) (b : Bool) : Type 0 where
     kept : HasMachine plan (record { words = set s.words 0 (if b then c + 1 else get_or s.words 0 0); homes = s.homes; views = set s.views id (after_claim b c node_key v) })
     later : StagesLater r.stages kept.stages
     event : Becomes id (if b then Some act.Claim else None) Moved (machine plan s r id v here)
@@ -371,7 +376,7 @@ module _ (plan : TablePlan) (s : TableState) (r : HasMachine plan s) (id : ℕ) 
     wins : (d : ℕ) → wins_of (kept.stages d) ≡ wins_of (r.stages d) ++ act_wins (if b then Some act.Claim else None) v.worker.card Moved d
     still : (if b then Some act.Claim else None) ≡ None → kept.stages ≡ r.stages
 
-  claim_at : (c node_key : ℕ) → MayClaim (flat_from plan) v c node_key → c ≤ plan.last_card → (b : Bool) → (get_or s.words 0 0 == c) ≡ b → ClaimAt c node_key b
+  claim_at : (c : ℕ) (node_key : NewNode) → MayClaim (flat_from plan) v c node_key → c ≤ plan.last_card → (b : Bool) → (get_or s.words 0 0 == c) ≡ b → ClaimAt c node_key b
   claim_at c node_key may room true e =
       let reached = claims c node_key may room (sym (eqb-true (get_or s.words 0 0) c e) ∙ r.next) in record {
         kept = reached.kept.kept;
@@ -393,6 +398,6 @@ module _ (plan : TablePlan) (s : TableState) (r : HasMachine plan s) (id : ℕ) 
       }
 
   -- claim
-  pub keeps_claim : (c node_key : ℕ) → MayClaim (flat_from plan) v c node_key → c ≤ plan.last_card → IsEvent plan s r id v (call.Claim c node_key)
+  pub keeps_claim : (c : ℕ) (node_key : NewNode) → MayClaim (flat_from plan) v c node_key → c ≤ plan.last_card → IsEvent plan s r id v (call.Claim c node_key)
   keeps_claim c node_key may room =
       let h = claim_at c node_key may room (get_or s.words 0 0 == c) refl in record { kept = h.kept; later = h.later; event = h.event; wins = h.wins; still = h.still; tells = tt }

@@ -1,5 +1,5 @@
 -- A pass that is ready tells nodes that it has met apart by what child words hold of their numbers.
-use Rattle.std.proofs.Common.{◌≡◌, ◌≢◌, ℕ, ◌+◌, ◌%◌, ◌<◌, ◌≤◌, ◌&&◌, nat_lt, nat_le, if◌then◌else◌, Bool, true, false, Some, None, length, inl, inr, sym, ap, ◌∙◌, subst, arith}
+use Rattle.std.proofs.Common.{◌≡◌, ◌≢◌, ℕ, ◌+◌, ◌%◌, ◌<◌, ◌≤◌, ◌&&◌, nat_lt, nat_le, if◌then◌else◌, Bool, true, false, Some, None, length, inl, inr, sym, ap, ◌∙◌, subst, arith, ◌||◌, not, ◌==◌}
 use Rattle.std.proofs.lemmas.Bool.{cases_eq}
 use Rattle.std.proofs.lemmas.Bool.Decides.{nat_tests}
 use mathlib.Core.Option.{some}
@@ -52,6 +52,9 @@ first_uncut x first = omega arith
 later_cut : (x : ℕ) → turn_of (card x) % 1024 ≢ 0 → 67108864 ≤ card (cut_node x)
 later_cut x later = omega arith
 
+same_low : (x : ℕ) → cut_node x % 4 ≡ x % 4
+same_low x = omega arith
+
 both_past : (from a b : ℕ) → from ≤ a → from ≤ b → nat_le from a ≡ nat_le from b
 both_past from a b low low' = grind (arith, nat_tests)
 
@@ -61,7 +64,8 @@ block_told last from x low most has = elim (cases_eq (turn_of (card x) % 1024) 0
   | inl first ↦ ap (has_block from) (first_uncut x (turn_apart last (card x) has first))
   | inr later ↦
       let cut = later_cut x later in
-      ap (λ b. nat_lt 0 from && b) (both_past from (card (cut_node x)) (card x) (omega arith) (omega arith))
+      let past = both_past from (card (cut_node x)) (card x) (omega arith) (omega arith) in
+      λ t. nat_lt 0 from && (past t || not (same_low x t == 0))
 ]
 
 -- the first card that is not of a flat opening tree has a slot, or is the one behind the last one

@@ -16,6 +16,7 @@ use Rattle.ell_core.specs.history.Stages.{Stages}
 use Rattle.ell_core.proofs.lemmas.outcomes.Decide.{some_not_none}
 use Rattle.ell_cards.specs.declared.call.Call.{Call}
 use Rattle.ell_cards.specs.declared.call.Call.TheVariants as call
+use Rattle.ell_cards.specs.declared.call.NewNode.{NewNode}
 use Rattle.ell_cards.specs.declared.view.Known.{Known}
 use Rattle.ell_cards.specs.declared.view.Slots.{Slots}
 use Rattle.ell_cards.specs.declared.view.View.{View}
@@ -48,7 +49,7 @@ FillsField _ f = ⊥
 -- stores now; or the call has claimed it now, and nothing of it was stored
 pub data WaitedBefore (c : Call) (n : ℕ) (v w : View) (d : ℕ) : Type 0 where
   before : HoldsWaiting v d → ((f : Field) → HasStored w f → HasStored v f ⊎ FillsField c f) → WaitedBefore c n v w d
-  claimed : (q : ℕ) → c ≡ call.Claim d q → n ≡ d → w.stores ≡ [] → WaitedBefore c n v w d
+  claimed : (q : NewNode) → c ≡ call.Claim d q → n ≡ d → w.stores ≡ [] → WaitedBefore c n v w d
 
 -- where the pass has nothing in hand
 none_waits : (c : Call) (n : ℕ) (v w : View) (d : ℕ) → w.worker.card ≡ None → HoldsWaiting w d → WaitedBefore c n v w d
@@ -74,7 +75,7 @@ mark_waits false e x u c n v w d same stores h = by (is_mark_of e u.state u.card
     by true same stores = same_waits c n v w d (ap (λ k. k.card) same) (ap (λ k. k.flagged) same) stores h
     by false same stores = same_waits c n v w d (ap (λ k. k.card) same) (ap (λ k. k.flagged) same) stores h
 
-claim_waits : (b : Bool) (e q n : ℕ) → (n == e) ≡ b → (v w : View) (d : ℕ) → w.worker ≡ (after_claim b e q v).worker → w.stores ≡ (after_claim b e q v).stores
+claim_waits : (b : Bool) (e : ℕ) (q : NewNode) (n : ℕ) → (n == e) ≡ b → (v w : View) (d : ℕ) → w.worker ≡ (after_claim b e q v).worker → w.stores ≡ (after_claim b e q v).stores
     → HoldsWaiting w d → WaitedBefore (call.Claim e q) n v w d
 claim_waits true e q n is v w d same stores h =
     let at : e ≡ d = some_same (sym (ap (λ k. k.card) same) ∙ h.0) in

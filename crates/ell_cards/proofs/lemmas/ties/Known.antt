@@ -15,6 +15,7 @@ use Rattle.ell_core.specs.declared.fact.Fact.TheVariants as fact
 use Rattle.ell_core.specs.state.Facts.{known_of, same_fact}
 use Rattle.ell_cards.specs.declared.call.Call.{Call}
 use Rattle.ell_cards.specs.declared.call.Call.TheVariants as call
+use Rattle.ell_cards.specs.declared.call.NewNode.{NewNode}
 use Rattle.ell_cards.specs.declared.view.View.{View}
 use Rattle.ell_cards.specs.Calls.{after}
 use Rattle.ell_cards.specs.Changes.{after_claim, after_flag, after_mark, is_mark_of, with_fact, unmarking, if_won, left_view, right_view, joined_view, spent_view}
@@ -27,7 +28,7 @@ use Rattle.ell_cards.proofs.lemmas.seats.Seats.{set_there}
 use Rattle.ell_cards.proofs.lemmas.views.Facts.{knows_new, knows_more, facts_by_more}
 
 -- what a claim, a flag and a mark, won or lost, leave of what was known
-claim_knows : (b : Bool) (c q : ℕ) (v : View) (f : Fact) → Knows v f → Knows (after_claim b c q v) f
+claim_knows : (b : Bool) (c : ℕ) (q : NewNode) (v : View) (f : Fact) → Knows v f → Knows (after_claim b c q v) f
 claim_knows true c q v f h = h
 claim_knows false c q v f h = h
 

@@ -132,7 +132,7 @@ module _ (plan : TablePlan) (s : Slots) (low : s.last < 67108864) (tree : TableS
   }
 
 -- so it is as a table opens with these words of cards
-module _ (plan : TablePlan) (s : Slots) (cards all : List ℕ) (may : MayStart plan) (fit : SlotsFit plan (Some s)) (size : length cards ≡ table_size s.last)
+module _ (plan : TablePlan) (s : Slots) (cards all : List ℕ) (may : MayStart plan) (fit : SlotsFit plan (Some s)) (flat : plan.flat ≡ true) (size : length cards ≡ table_size s.last)
     (are : words_of cards ≡ words_at_start plan.flat plan.start) (small : (i : ℕ) → IsWord (get_or cards i 0)) (h : AreOpeningWords s (length plan.start) cards all) where
   abbrev long : ℕ
   long = table_size plan.last_card - length cards
@@ -186,6 +186,7 @@ module _ (plan : TablePlan) (s : Slots) (cards all : List ℕ) (may : MayStart p
         (length plan.start) next fit.3
         (no_info plan.flat plan.start (cards ++ replicate long 0) (words_same (cards ++ replicate long 0) cards (with_zeros cards long) ∙ are))
         (record { tree = first_of plan; period = period_by (Some s) }) refl refl out_opened (λ q x. false);
+    flat = flat;
     retired = λ seat c u at slot hand. absurd (some_not_none hand (alone_there (record { tree = first_of plan; period = period_by (Some s) }) (λ (x : Known). x.tree.worker.card ≡ None) refl seat u at));
   }
 
@@ -226,13 +227,14 @@ module _ (plan : TablePlan) (s : Slots) (cards all : List ℕ) (may : MayStart p
 pub openings_are_tied : OpeningsAreTied
 openings_are_tied plan s cards all placed may size are small h =
     let fit = subst (SlotsFit plan) placed may.slots in
-    let has = periods_opened plan s cards all may fit size are small h in record {
-      tree = tree_opened plan s cards all may fit size are small h;
-      reached = reached_opened plan s cards all may fit size are small h;
+    let flat = may.flat (λ none. some_not_none placed none) in
+    let has = periods_opened plan s cards all may fit flat size are small h in record {
+      tree = tree_opened plan s cards all may fit flat size are small h;
+      reached = reached_opened plan s cards all may fit flat size are small h;
       views = refl;
       lie = has.lie;
       dead = has.dead;
       was_dead = has.was_dead;
-      tied = subst (λ o. IsTiedByAges plan s (tree_opened plan s cards all may fit size are small h) (opening all [] (record { tree = first_of plan; period = period_by o })) has.lie has.dead has.was_dead)
+      tied = subst (λ o. IsTiedByAges plan s (tree_opened plan s cards all may fit flat size are small h) (opening all [] (record { tree = first_of plan; period = period_by o })) has.lie has.dead has.was_dead)
           (sym placed) (record { ages = has.ages; tied = has.tied });
     }

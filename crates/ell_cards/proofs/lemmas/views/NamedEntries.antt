@@ -18,6 +18,7 @@ use Rattle.ell_cards.specs.Changes.{forgotten, places_by, told_info, told_fillin
 use Rattle.ell_cards.specs.Guards.{Wants}
 use Rattle.ell_cards.proofs.lemmas.views.Depths.{met_more, met_there}
 use Rattle.ell_cards.proofs.lemmas.views.Entries.{filling_more}
+use Rattle.ell_cards.specs.declared.call.NewNode.{NewNode}
 
 -- where a card goes, by one of its words, is a node that by this list was met
 abbrev pub InfoIn : List Told → Field → ℕ → Type 0
@@ -106,7 +107,7 @@ filling_in c (d ∷ es) told so h =
     fixed_in c d.0 d.1 rest (info_on told rest (λ x. filling_more c es told (Met x)) d.0 d.1 so.0) (filling_in c es told so.1 h)
 
 -- which is so where the search has met its parent and its grandparent
-pub search_fills : (c q : ℕ) (o : Option Op) (node : Option ℕ) (parent above : Option Seen) (key : ℕ) (value_of : ℕ → ℕ) (told : List Told)
+pub search_fills : (c : ℕ) (q : NewNode) (o : Option Op) (node : Option ℕ) (parent above : Option Seen) (key : ℕ) (value_of : ℕ → ℕ) (told : List Told)
     → ((seen : Seen) → parent ≡ Some seen → Has told (Met seen.node)) → ((seen : Seen) → above ≡ Some seen → Has told (Met seen.node))
     → FillingIn told (filling_for c q o node parent above key value_of)
 search_fills c q (Some (Insert k value)) (Some x) (Some p) above key value_of told first second =
@@ -130,7 +131,7 @@ wants_above from v (Delete k) parent x key q h = λ none. some_not_none h.grandp
 wants_above from v (Swap k was value) parent x key q h = tt
 
 -- the leaf of its card is where it stands
-leaf_there : (c q : ℕ) (op : Op) (x : ℕ) (p : Seen) (above : Option Seen) (key : ℕ) (value_of : ℕ → ℕ) (told : List Told) → HasAbove op above
+leaf_there : (c : ℕ) (q : NewNode) (op : Op) (x : ℕ) (p : Seen) (above : Option Seen) (key : ℕ) (value_of : ℕ → ℕ) (told : List Told) → HasAbove op above
     → Has (told_filling c (filling_for c q (Some op) (Some x) (Some p) above key value_of) told) (Info c field.L x)
 leaf_there c q (Find k) x p above key value_of told has = absurd has
 leaf_there c q (Insert k value) x p above key value_of told has = earlier _ _ _ (latest _ _)
@@ -138,7 +139,7 @@ leaf_there c q (Swap k was value) x p above key value_of told has = earlier _ _ 
 leaf_there c q (Delete k) x p (Some g) key value_of told has = earlier _ _ _ (earlier _ _ _ (latest _ _))
 leaf_there c q (Delete k) x p None key value_of told has = absurd (has refl)
 
-pub leaf_filled : (c q : ℕ) (o : Option Op) (node : Option ℕ) (parent above : Option Seen) (key : ℕ) (value_of : ℕ → ℕ) (told : List Told) (op : Op) (x : ℕ) (p : Seen)
+pub leaf_filled : (c : ℕ) (q : NewNode) (o : Option Op) (node : Option ℕ) (parent above : Option Seen) (key : ℕ) (value_of : ℕ → ℕ) (told : List Told) (op : Op) (x : ℕ) (p : Seen)
     → o ≡ Some op → node ≡ Some x → parent ≡ Some p → HasAbove op above
     → Has (told_filling c (filling_for c q o node parent above key value_of) told) (Info c field.L x)
 leaf_filled c q o node parent above key value_of told op x p does stands behind has =

@@ -15,6 +15,7 @@ use Rattle.ell_ops.specs.declared.op.Op.{Op}
 use Rattle.ell_ops.specs.declared.op.Op.TheVariants.{Find, Insert, Delete, Swap}
 use Rattle.ell_word.specs.Node.{card}
 use Rattle.ell_cards.specs.declared.call.Call.TheVariants as call
+use Rattle.ell_cards.specs.declared.call.NewNode.{NewNode}
 use Rattle.ell_cards.specs.declared.view.Told.{Told}
 use Rattle.ell_cards.specs.declared.view.Told.TheVariants.{Key, Value, Info, Expects}
 use Rattle.ell_cards.specs.declared.view.View.{View}
@@ -30,7 +31,7 @@ use Rattle.ell_cards.specs.Stepping.{SameShare}
 use Rattle.ell_cards.proofs.lemmas.views.Entries.{filling_more}
 
 -- what was told before a claim is told after it
-pub told_on : (c node_key : ℕ) (v : View) (e : Told) → IsTold v e → IsTold (after_one c node_key v) e
+pub told_on : (c : ℕ) (node_key : NewNode) (v : View) (e : Told) → IsTold v e → IsTold (after_one c node_key v) e
 told_on c node_key v e h =
     earlier e (Expects c (expected_tag v)) (told_filling c (filling_of c node_key v) v.told) (filling_more c (filling_of c node_key v) v.told e h)
 
@@ -44,11 +45,11 @@ value_on c (e ∷ es) told x = by (is_fixed e.0) (value_on c es told x)
     by true rest = rest
     by false rest = rest
 
-values_on : (c node_key : ℕ) (v : View) → value_told (after_one c node_key v).told ≡ value_told v.told
+values_on : (c : ℕ) (node_key : NewNode) (v : View) → value_told (after_one c node_key v).told ≡ value_told v.told
 values_on c node_key v = λ t x. if x % 4 == 0 then 0 else value_on c (filling_of c node_key v) v.told x t
 
 -- so what fills a card after a claim fills it before that
-filling_on : (c d node_key : ℕ) (v : View) → filling_of d node_key (after_one c node_key v) ≡ filling_of d node_key v
+filling_on : (c d : ℕ) (node_key : NewNode) (v : View) → filling_of d node_key (after_one c node_key v) ≡ filling_of d node_key v
 filling_on c d node_key v =
     ap (filling_for d node_key v.worker.operation v.worker.search.node v.worker.search.parent v.worker.search.grandparent
     (unwrap_or v.here 0)) (values_on c node_key v)
@@ -96,7 +97,7 @@ claim_only c tag es told e (earlier _ _ _ h) = elim (filling_only c es told e h)
 ]
 
 -- what a pass knows after a row of claims
-pub rows_keep : (n c node_key : ℕ) (v : View) → IsAfterRow c (c + n) node_key v (cut_planned (after_row n c node_key v))
+pub rows_keep : (n c : ℕ) (node_key : NewNode) (v : View) → IsAfterRow c (c + n) node_key v (cut_planned (after_row n c node_key v))
 rows_keep zero c node_key v = subst (λ m. IsAfterRow c m node_key v (cut_planned (after_row zero c node_key v))) (omega arith) (record {
   operation = refl;
   search = refl;
@@ -185,10 +186,10 @@ rows_keep (suc n) c node_key v =
     })
 
 -- it has the keys and the share that it had
-pub row_keys : (n c node_key : ℕ) (v : View) → ledger_keys (after_row n c node_key v).worker.ledger ≡ ledger_keys v.worker.ledger
+pub row_keys : (n c : ℕ) (node_key : NewNode) (v : View) → ledger_keys (after_row n c node_key v).worker.ledger ≡ ledger_keys v.worker.ledger
 row_keys n c node_key v = ap ledger_keys (rows_keep n c node_key v).ledger
 
-pub row_share : (n c node_key : ℕ) (v : View) → SameShare v (cut_planned (after_row n c node_key v))
+pub row_share : (n c : ℕ) (node_key : NewNode) (v : View) → SameShare v (cut_planned (after_row n c node_key v))
 row_share n c node_key v = let h = rows_keep n c node_key v in record { share = h.share; ownable = h.shared }
 
 -- a pass that was told what it was told before, and whose search stands where it stood, wants the same
@@ -217,7 +218,7 @@ wants_same from v w more same (Delete k) parent x key node_key h = record {
 
 -- so in a flat tree, where it might claim the card from which it has claimed a row, it may claim the next one too, once it
 -- has read that: then the last one of the row is laid aside
-pub row_claims_on : (from : ℕ) → 0 < from → (n c node_key next : ℕ) (v : View) → next ≢ c + n → MayClaim from v c node_key
+pub row_claims_on : (from : ℕ) → 0 < from → (n c : ℕ) (node_key : NewNode) (next : ℕ) (v : View) → next ≢ c + n → MayClaim from v c node_key
     → MayClaim from (after call.Next next (after_row n c node_key v)) next node_key
 row_claims_on from flat n c node_key next v other m =
     let h = rows_keep n c node_key v in
@@ -234,11 +235,12 @@ row_claims_on from flat n c node_key next v other m =
       told = h.here ∙ m.told;
       behind = ap (λ (s : Search). s.parent) h.search ∙ m.behind;
       calm = m.calm;
-      wants = wants_same from v (after call.Next next (after_row n c node_key v)) h.told h.search m.op m.parent.node m.below m.key node_key m.wants;
+      wants = wants_same from v (after call.Next next (after_row n c node_key v)) h.told h.search m.op m.parent.node m.below m.key node_key.key m.wants;
+      shape = m.shape;
     }
 
 -- so it is after one claim
-pub one_claims_on : (from : ℕ) → 0 < from → (c node_key : ℕ) (v : View) → MayClaim from v c node_key → MayClaim from (after_one c node_key v) (c + 1) node_key
+pub one_claims_on : (from : ℕ) → 0 < from → (c : ℕ) (node_key : NewNode) (v : View) → MayClaim from v c node_key → MayClaim from (after_one c node_key v) (c + 1) node_key
 one_claims_on from flat c node_key v m = row_claims_on from flat 0 c node_key (c + 1) v (λ e. omega arith) m
 
 -- the nodes that fill a card are those where the search stands and stood
@@ -253,7 +255,7 @@ abbrev AllStood : Option ℕ → Option Seen → Option Seen → List (Field × 
 AllStood below parent above [] = Unit {0}
 AllStood below parent above (e ∷ es) = Stood below parent above e.0 e.1 × AllStood below parent above es
 
-filling_stood : (c node_key : ℕ) (op : Option Op) (node : Option ℕ) (parent above : Option Seen) (key : ℕ) (value_of : ℕ → ℕ)
+filling_stood : (c : ℕ) (node_key : NewNode) (op : Option Op) (node : Option ℕ) (parent above : Option Seen) (key : ℕ) (value_of : ℕ → ℕ)
     → AllStood node parent above (filling_for c node_key op node parent above key value_of)
 filling_stood c node_key (Some (Insert k value)) (Some below) (Some parent) above key value_of =
     ((below, parent, refl, refl, refl), (refl, (tt, (tt, (tt, (tt, (tt, (tt, (tt, (tt, tt))))))))))
@@ -275,7 +277,7 @@ stood_told Q c below parent above each (d ∷ es) all e h = by (is_fixed d.0) e 
     by true e rest (earlier _ _ _ g) = rest g
     by false e rest g = rest g
 
-claim_told : (Q : Told → Type 0) (c node_key : ℕ) (v : View) → Q (Expects c (expected_tag v))
+claim_told : (Q : Told → Type 0) (c : ℕ) (node_key : NewNode) (v : View) → Q (Expects c (expected_tag v))
     → ((f : Field) (x : ℕ) → Stood v.worker.search.node v.worker.search.parent v.worker.search.grandparent f x → Q (Info c f x))
     → (e : Told) → Has (told_of_claim c node_key v) e → Q e
 claim_told Q c node_key v tag each e (latest _ _) = tag
@@ -300,7 +302,7 @@ tag_seen last (Some (Delete k)) (Some seen) None near far = near seen refl
 tag_seen last (Some (Delete k)) (Some seen) (Some top) near far = far top refl
 
 -- a pass that names what is in a table with this last card does after a row of claims up to that
-pub row_named : (from last n c node_key : ℕ) (v : View) → MayClaim from v c node_key → c + n ≤ last → IsNamed last v
+pub row_named : (from last n c : ℕ) (node_key : NewNode) (v : View) → MayClaim from v c node_key → c + n ≤ last → IsNamed last v
     → IsNamed last (after_row n c node_key v)
 row_named from last n c node_key v may room h = record {
   node = λ x at. h.node x (sym (ap (λ (s : Search). s.node) keeps.search) ∙ at);
@@ -332,7 +334,7 @@ row_named from last n c node_key v may room h = record {
     named d low _ x at = (low, tt)
 
 -- and what it names lies in the slots in which it lay
-pub row_placed : (last n c node_key : ℕ) (v : View) → IsPlaced last v → IsPlaced last (after_row n c node_key v)
+pub row_placed : (last n c : ℕ) (node_key : NewNode) (v : View) → IsPlaced last v → IsPlaced last (after_row n c node_key v)
 row_placed last n c node_key v h = record {
   node = λ x at. h.node x (sym (ap (λ (s : Search). s.node) keeps.search) ∙ at);
   parent = λ x seen at behind. h.parent x seen (sym (ap (λ (s : Search). s.node) keeps.search) ∙ at) (sym (ap (λ (s : Search). s.parent) keeps.search) ∙ behind);

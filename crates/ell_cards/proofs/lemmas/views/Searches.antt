@@ -1,4 +1,4 @@
-use Rattle.std.proofs.Common.{◌≡◌, ◌≢◌, ◌==◌, ℕ, if◌then◌else◌, true, Option, Some, None, refl, sym, ap, subst, unwrap_or, nat_le, eq-eqb}
+use Rattle.std.proofs.Common.{◌≡◌, ◌≢◌, ◌==◌, ℕ, if◌then◌else◌, true, Option, Some, None, refl, sym, ap, subst, unwrap_or, nat_le, eq-eqb, nat_lt}
 use Rattle.ell_ops.specs.declared.op.Op.{Op}
 use Rattle.ell_ops.specs.declared.op.Op.TheVariants.{Find, Insert, Delete, Swap}
 use Rattle.ell_ops.specs.Meaning.{key_of}
@@ -13,6 +13,7 @@ use Rattle.ell_cards.specs.Changes.{after_upd, is_this, value_told, filling_for,
 use Rattle.ell_cards.proofs.lemmas.views.Afters.{after_next}
 use Rattle.ell_cards.specs.Guards.{MayGoDown, MayClaim, Wants}
 use Rattle.ell_cards.proofs.lemmas.views.Steps.{view_after, view_seen}
+use Rattle.ell_cards.specs.declared.call.NewNode.{NewNode}
 
 -- a node with the word that was read there, if one was, and the tag of a child word
 abbrev pub seen_at : ℕ → Option ℕ → ℕ → Option Seen
@@ -42,10 +43,10 @@ may_go_down a b op x u key k s same busy stands inner told no_card =
     })
 
 -- the claim word was read where a search ended, behind a parent that was read clean, and a claim may be made
-pub may_claim : (from : ℕ) (a b : PassModel) (op : Op) (c below key node_key : ℕ) (parent : Seen) → Steps a b (after_next c a.view) → Does a.view op → a.view.worker.card ≢ Some c
+pub may_claim : (from : ℕ) (a b : PassModel) (op : Op) (c below key : ℕ) (node_key : NewNode) (parent : Seen) → Steps a b (after_next c a.view) → Does a.view op → a.view.worker.card ≢ Some c
     → MayTake from a.view.worker → StandsAt a.view below → a.view.here ≡ Some key → a.view.worker.search.parent ≡ Some parent → IsClean parent.word
-    → Wants from a.view op parent.node below key node_key → MayClaim from b.view c node_key
-may_claim from a b op c below key node_key parent s busy other ready stands told behind calm wants =
+    → Wants from a.view op parent.node below key node_key.key → node_key.flat ≡ nat_lt 0 from → MayClaim from b.view c node_key
+may_claim from a b op c below key node_key parent s busy other ready stands told behind calm wants shape =
     subst (λ (w : View). MayClaim from w c node_key) (sym (view_after a b (after_next c a.view) s)) (record {
       op = op;
       below = below;
@@ -60,16 +61,17 @@ may_claim from a b op c below key node_key parent s busy other ready stands told
       behind = behind;
       calm = calm;
       wants = by op wants;
+      shape = shape;
     })
   where
-    by : (o : Op) → Wants from a.view o parent.node below key node_key → Wants from (after_next c a.view) o parent.node below key node_key
+    by : (o : Op) → Wants from a.view o parent.node below key node_key.key → Wants from (after_next c a.view) o parent.node below key node_key.key
     by (Find k) w = w
     by (Insert k value) w = record { leaf = w.leaf; edge = w.edge; fits = w.fits; named = w.named }
     by (Swap k was value) w = record { outer = w.outer; same = w.same; value = w.value; named = w.named }
     by (Delete k) w = record { outer = w.outer; same = w.same; above = w.above; grandparent = w.grandparent; calm = w.calm }
 
 -- what fills a card, by a search that ended at a node of this key
-pub filling_at : (v : View) (op : Op) (c node_key below key : ℕ) (parent : Seen) (above : Option Seen) → Does v op → StandsAt v below → v.here ≡ Some key
+pub filling_at : (v : View) (op : Op) (c : ℕ) (node_key : NewNode) (below key : ℕ) (parent : Seen) (above : Option Seen) → Does v op → StandsAt v below → v.here ≡ Some key
     → v.worker.search.parent ≡ Some parent → v.worker.search.grandparent ≡ above
     → filling_of c node_key v ≡ filling_for c node_key (Some op) (Some below) (Some parent) above key (value_told v.told)
 filling_at v op c node_key below key parent above busy stands told behind grandparent =

@@ -311,6 +311,7 @@ module _ (plan : TablePlan) (s : WholeState) (h : IsWhole plan s) (id : ℕ) (k 
         periods = tree_periods s id k here (view_after h.tree k.tree c) sl (place_of c) cut homes has.lie has.dead has.began has.was_dead tied_touch.inside rests (λ d is. absurd (some_not_none is unlost)) has.periods;
         ages = tied_ages.ages;
         tied = still_tied;
+        flat = has.flat;
         retired = retired_on plan sl h.tree has.ages.now.machine has.ages.now.uses after tied_ages.ages.now.machine tied_ages.ages.now.uses tied_ages.words tied_ages.out
             s (memory_after h.tree s homes id k c) has.lie h.views (slots_stay s id k here (view_after h.tree k.tree c) sl (place_of c) cut tied_touch.inside) held has.retired;
       }
@@ -319,7 +320,7 @@ module _ (plan : TablePlan) (s : WholeState) (h : IsWhole plan s) (id : ℕ) (k 
       noted_leaks : (p : Period) → Notes plan.slots c (found_by h.tree c) k.period p
           → NothingLeaks sl (record { words = set s.words (place_of c) cut; homes = homes; views = set s.views id (noting p) }) after.views tied_ages.ages.now.machine.words tied_ages.ages.now.machine.stages has.lie
       noted_leaks p notes =
-          leaks_after_call plan sl h.tree s id k here tree_here c may mem unlost has.ages.now.machine has.ages.now.uses tied_ages.ages.now.machine tied_ages.words tied_ages.later tied_ages.wins has.lie
+          leaks_after_call plan has.flat sl h.tree s id k here tree_here c may mem unlost has.ages.now.machine has.ages.now.uses tied_ages.ages.now.machine tied_ages.words tied_ages.later tied_ages.wins has.lie
           its_periods.1 has.retired has.tied.fits has.tied.own (set s.words (place_of c) cut) homes (slots_stay s id k here (view_after h.tree k.tree c) sl (place_of c) cut tied_touch.inside) p (slotted notes) (lost_by notes)
         where
           slotted : Notes plan.slots c (found_by h.tree c) k.period p → p.slot ≡ k.period.slot

@@ -1,13 +1,13 @@
 -- What a pass has noted for its card in hand, before it lets that go, is all that the card made dead.
-use Rattle.std.proofs.Common.{◌≡◌, ◌≢◌, ℕ, zero, suc, ◌+◌, ◌*◌, ◌%◌, ◌<◌, ◌==◌, if◌then◌else◌, Bool, true, false, not, inl, inr, refl, sym, ap, ◌∙◌, subst, arith, eq-eqb, eqb-true, ne_eqb}
-use Rattle.std.proofs.lemmas.Bool.{cases_eq}
+use Rattle.std.proofs.Common.{◌≡◌, ◌≢◌, ℕ, zero, suc, ◌+◌, ◌*◌, ◌%◌, ◌<◌, ◌==◌, if◌then◌else◌, Bool, true, false, not, inl, inr, refl, sym, ap, ◌∙◌, subst, arith, eq-eqb, eqb-true, ne_eqb, ◌&&◌, ◌||◌, nat_lt}
+use Rattle.std.proofs.lemmas.Bool.{cases_eq, false≢true}
 use mathlib.Core.Option.{some}
 use lib.ListN.{get_elem?}
 use Rattle.ell_ops.specs.Meaning.{key_of}
 use Rattle.ell_word.specs.Node.{IsInternal, card, left_leaf, right_leaf}
 use Rattle.ell_layout.specs.declared.field.Field.TheVariants as field
 use Rattle.ell_layout.specs.Words.{Words, IsLeaf}
-use Rattle.ell_layout.specs.Cards.{is_replace_card}
+use Rattle.ell_layout.specs.Cards.{is_replace_card, keeps_below}
 use Rattle.ell_core.specs.declared.fact.Fact.TheVariants as fact
 use Rattle.ell_core.specs.history.Stages.{Stage, Stages, is_node_born, is_born, is_cut, is_insert, insert_over, delete_over, is_backed}
 use Rattle.ell_core.specs.history.Invariant.{insert_key}
@@ -26,7 +26,7 @@ use Rattle.ell_cards.specs.Machines.{HasMachine}
 use Rattle.ell_cards.specs.Models.{TablePlan, Knows}
 use Rattle.ell_cards.specs.SlotWords.{has_slot_in}
 use Rattle.ell_cards.specs.States.{TableState}
-use Rattle.ell_cards.proofs.lemmas.runs.Alive.{own_key}
+use Rattle.ell_cards.proofs.lemmas.runs.Alive.{own_key, flat_some}
 use Rattle.ell_cards.proofs.lemmas.seats.Seats.{mine_is, mine_sound}
 use Rattle.ell_cards.proofs.lemmas.stepping.Exchanges.{told_is}
 
@@ -51,7 +51,7 @@ key_apart left right below apart same = elim (cases_eq left below) [
 ]
 
 module _ (plan : TablePlan) (tree : TableState) (id : ℕ) (v : View) (there : get_elem? tree.views id ≡ some v) (m : HasMachine plan tree) (s : Slots) (r : Retired) (c : ℕ) (hand : HasFlagged v c)
-    (P : ℕ → Type 0) (are : AreRetired m.words c r P) (own_slot : has_slot_in s.last c ≡ true) where
+    (P : ℕ → Type 0) (are : AreRetired m.words c r P) (own_slot : has_slot_in s.last c ≡ true) (flat : plan.flat ≡ true) where
   abbrev w : Words
   w = m.words
 
@@ -77,10 +77,22 @@ module _ (plan : TablePlan) (tree : TableState) (id : ℕ) (v : View) (there : g
         ((m.invariant.workers.each id).flagged p.op c (ap (λ (u : Worker). u.operation) (mine_is plan tree m id v there) ∙ p.busy)
         (ap (λ (u : Worker). u.card) (mine_is plan tree m id v there) ∙ hand.holds) (ap (λ (u : Worker). u.flagged) (mine_is plan tree m id v there) ∙ hand.flagged)).0
 
+    -- a card that keeps the node below has two leaf keys
+    two : keeps_below w c ≡ true → p.left ≢ p.right
+    two keeps same = false≢true (sym (ap (λ (b : Bool). not b && (nat_lt 0 w.flat_from || w.l c % 4 == 0)) (eq-eqb (w.key (left_leaf c)) (w.key (right_leaf c)) (left ∙ (same ∙ sym right)))) ∙ keeps)
+
+    -- in a flat tree one that does not has one
+    one : keeps_below w c ≡ false → p.left ≡ p.right
+    one goes = by (is_replace_card w c) refl
+      where
+        by : (b : Bool) → is_replace_card w c ≡ b → p.left ≡ p.right
+        by true e = sym left ∙ (eqb-true (w.key (left_leaf c)) (w.key (right_leaf c)) e ∙ right)
+        by false e = absurd (false≢true (sym goes ∙ (ap (λ (b : Bool). not b && (nat_lt 0 w.flat_from || w.l c % 4 == 0)) e ∙ ap (λ (b : Bool). b || w.l c % 4 == 0) (ap (λ n. nat_lt 0 n) m.shape ∙ flat_some plan flat))))
+
     -- the leaf of a key that is not the operation's is not used
-    not_own : (key : ℕ) → IsInternal (w.l c) → key ≡ w.key (w.l c) → key ≢ key_of p.op
-    not_own key inner same e =
-        key_apart (w.key (left_leaf c)) (w.key (right_leaf c)) (w.key (w.l c)) (λ both. p.apart (ap (λ y. y % 4) (sym below) ∙ inner) (sym left ∙ (both ∙ right))) (own ∙ (sym e ∙ same))
+    not_own : (key : ℕ) → p.left ≢ p.right → key ≡ w.key (w.l c) → key ≢ key_of p.op
+    not_own key apart same e =
+        key_apart (w.key (left_leaf c)) (w.key (right_leaf c)) (w.key (w.l c)) (λ both. apart (sym left ∙ (both ∙ right))) (own ∙ (sym e ∙ same))
 
     replaced_or_born : (i : ℕ) → i < 3 → (is_node_born (stage c) i ≡ true → ⊥) → P (4 * c + i)
     replaced_or_born i few unborn = by (is_replace_card w c) refl
@@ -98,26 +110,26 @@ module _ (plan : TablePlan) (tree : TableState) (id : ℕ) (v : View) (there : g
         by true e = at i few unborn (p.replaced (sym left ∙ (eqb-true (w.key (left_leaf c)) (w.key (right_leaf c)) e ∙ right)) own_slot)
         by false e = absurd (unborn (put_born (stage c) i over (brings ∙ ap not e) few))
 
-    unused : (i : ℕ) → i < 3 → IsInternal (w.l c) → IsLeaf (4 * c + i) → w.key (4 * c + i) ≡ w.key (w.l c) → P (4 * c + i)
-    unused zero few inner outer key = absurd (outer (omega arith))
-    unused (suc zero) few inner outer key =
-        are.own 1 (p.unused_left (ap (λ y. y % 4) (sym below) ∙ inner) (not_own p.left inner (sym left ∙ key)) own_slot)
-    unused (suc (suc zero)) few inner outer key =
-        are.own 2 (p.unused_right (ap (λ y. y % 4) (sym below) ∙ inner) (not_own p.right inner (sym right ∙ key)) own_slot)
-    unused (suc (suc (suc i))) few inner outer key = absurd (omega arith)
+    unused : (i : ℕ) → i < 3 → p.left ≢ p.right → IsLeaf (4 * c + i) → w.key (4 * c + i) ≡ w.key (w.l c) → P (4 * c + i)
+    unused zero few apart outer key = absurd (outer (omega arith))
+    unused (suc zero) few apart outer key =
+        are.own 1 (p.unused_left apart (not_own p.left apart (sym left ∙ key)) own_slot)
+    unused (suc (suc zero)) few apart outer key =
+        are.own 2 (p.unused_right apart (not_own p.right apart (sym right ∙ key)) own_slot)
+    unused (suc (suc (suc i))) few apart outer key = absurd (omega arith)
 
     put_done : (x : ℕ) → x % 4 < 3 → has_slot_in s.last (card x) ≡ true → Kills w stage c x → P x
-    put_done x few slot (inl (inl (changed, outer, is))) =
-        subst P is (are.leaf (p.leaf (λ three. absurd (omega (arith, few, is, below, three))) (λ inner. outer (ap (λ y. y % 4) below ∙ inner)) (subst (λ y. has_slot_in s.last (card y) ≡ true) (sym is ∙ below) slot)))
+    put_done x few slot (inl (inl (changed, goes, is))) =
+        subst P is (are.leaf (p.leaf (one goes) (λ three. absurd (omega (arith, few, is, below, three))) (subst (λ y. has_slot_in s.last (card y) ≡ true) (sym is ∙ below) slot)))
     put_done x few slot (inl (inr (cuts, is))) = absurd (one_kind (stage c) kind (cut-delete (stage c) cuts))
     put_done x few slot (inr (on, (ended, inl unborn))) =
         subst P (whole x c on few) (replaced_or_born (x % 4) few (λ born. unborn (subst (λ d. is_node_born (stage d) (x % 4) ≡ true) (sym on) born)))
       where
         whole : (x c : ℕ) → card x ≡ c → x % 4 < 3 → 4 * c + x % 4 ≡ x
         whole x c on few = omega (arith, on)
-    put_done x few slot (inr (on, (ended, inr (changed, inner, outer, key)))) =
+    put_done x few slot (inr (on, (ended, inr (changed, keeps, outer, key)))) =
         let at = whole x c on few in
-        subst P at (unused (x % 4) few (subst (λ d. IsInternal (w.l d)) on inner) (subst IsLeaf (sym at) outer) (ap w.key at ∙ (key ∙ ap (λ d. w.key (w.l d)) on)))
+        subst P at (unused (x % 4) few (two (subst (λ d. keeps_below w d ≡ true) on keeps)) (subst IsLeaf (sym at) outer) (ap w.key at ∙ (key ∙ ap (λ d. w.key (w.l d)) on)))
       where
         whole : (x c : ℕ) → card x ≡ c → x % 4 < 3 → 4 * c + x % 4 ≡ x
         whole x c on few = omega (arith, on)

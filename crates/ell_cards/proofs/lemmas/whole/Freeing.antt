@@ -106,7 +106,7 @@ module _ (plan : TablePlan) (s : Slots) (tree : TableState) (t : WholeState) (id
 
   -- what the pass knows to be dead is out
   pub dead_by : (x : ℕ) → KnowsDeadNode k.tree x → OutNow x
-  dead_by x knows = is_dead (known_dead_is_dead plan tree id k.tree there knows.0 x knows.1 h.ages.now.machine h.ages.now.uses.outs)
+  dead_by x knows = is_dead (known_dead_is_dead plan h.flat tree id k.tree there knows.0 x knows.1 h.ages.now.machine h.ages.now.uses.outs)
 
   -- a card of which the pass knows a node dead has won its flag
   known_won : (c i : ℕ) → i < 3 → KnowsDeadNode k.tree (4 * c + i) → HasWon h.ages.now.machine.stages c
@@ -158,6 +158,7 @@ module _ (plan : TablePlan) (s : Slots) (tree : TableState) (t : WholeState) (id
           tied = tie_of_period s tree t h.ages.now.machine.stages h.lie h.dead h.dead h.was_dead h.was_dead h.tied id k here (record (after_read slot n k.period) { sought = sought }) refl (set t.words (slot_word s slot) n)
               (λ j low. word_again t.words (slot_word s slot) (omega arith) j)
               (λ c lives. lives) (λ q a at an. inl (at, an, λ c lives. lives)) (λ seat q a u other at placed an c lives. lives) t.homes;
+          flat = h.flat;
           retired = retired_of_period plan s tree h.ages.now.machine h.ages.now.uses t id k here (record (after_read slot n k.period) { sought = sought }) (set t.words (slot_word s slot) n) h.lie h.lie
               (λ x out is. same_slots (set t.words (slot_word s slot) n) same x is)
               (retired_then (set t.words (slot_word s slot) n) (λ x out is. same_slots (set t.words (slot_word s slot) n) same x is) sought.retired mine) h.retired;
@@ -207,6 +208,7 @@ module _ (plan : TablePlan) (s : Slots) (tree : TableState) (t : WholeState) (id
           tied = tie_of_period s tree t h.ages.now.machine.stages h.lie h.dead (put h.dead c true) h.was_dead h.was_dead h.tied id k here (after_stamp c n k.period) refl (set t.words (clock_word s) n)
               (λ j low. word_again t.words (clock_word s) (omega arith) j)
               less (λ q a at an. inl (at, an, λ d lives. lives)) (λ seat q a u other at placed an d lives. lives) t.homes;
+          flat = h.flat;
           retired = retired_so plan s tree h.ages.now.machine h.ages.now.uses t id k here (after_stamp c n k.period) refl refl (set t.words (clock_word s) n) h.lie h.lie
               (λ x out is. same_slots (set t.words (clock_word s) n) same x is) h.retired;
         };
@@ -295,6 +297,7 @@ module _ (plan : TablePlan) (s : Slots) (tree : TableState) (t : WholeState) (id
       tied = tie_of_period s tree t h.ages.now.machine.stages h.lie h.dead h.dead h.was_dead h.was_dead h.tied id k here (record (k.period) { sought = sought }) refl (set t.words (slot_word s slot) n)
           (behind plan s tree t id k here h (slot_word s slot) n (omega arith)) (λ c lives. lives)
           (λ q a at an. inl (at, an, λ c lives. lives)) (λ seat q a u other at placed an c lives. lives) t.homes;
+      flat = h.flat;
       retired = retired_of_period plan s tree h.ages.now.machine h.ages.now.uses t id k here (record (k.period) { sought = sought }) (set t.words (slot_word s slot) n) h.lie h.lie
           (λ x out is. noted_then slot n inside was keeps x is) mine h.retired;
     };

@@ -104,6 +104,7 @@ module _ (plan : TablePlan) (s : Slots) (tree : TableState) (t : WholeState) (id
       tied = tie_of_period s tree t h.ages.now.machine.stages h.lie h.dead h.dead h.was_dead h.was_dead h.tied id k here p taken (set t.words i n) cards
           (λ c lives. lives) (λ q a at an. (let old = was q a at an in inl (old.0, old.1, λ c lives. lives)))
           (λ seat q a u other there at an c lives. lives) t.homes;
+      flat = h.flat;
       retired = retired_so plan s tree h.ages.now.machine h.ages.now.uses t id k here p taken (ap (λ (x : Seek). x.retired) sought) (set t.words i n) h.lie h.lie
           (λ x out is. noted_same plan s t.words (set t.words i n) h.lie (λ slot low. same slot) x is) h.retired;
     };
@@ -158,6 +159,7 @@ module _ (plan : TablePlan) (s : Slots) (tree : TableState) (t : WholeState) (id
           (λ seat r a u other there at an c lives. sym (ap (λ f. f c) (put_other h.was_dead q h.dead r
           (λ e. other (h.periods.apart seat id q u k there here (own (at ∙ ap (λ x. Some x) e)) (own placed))))) ∙ lives)
           t.homes;
+      flat = h.flat;
       retired = retired_so plan s tree h.ages.now.machine h.ages.now.uses t id k here (after_announce reading (get_or t.words (clock_word s) 0) k.period) refl refl (set t.words (place_word s q) (reading + 2)) h.lie h.lie
           (λ x out is. noted_same plan s t.words (set t.words (place_word s q) (reading + 2)) h.lie same_slots x is) h.retired;
     };

@@ -1,5 +1,6 @@
 -- No slot stays in use for nothing where a pass makes a step call.
 use Rattle.std.proofs.Common.{◌≡◌, ◌≢◌, ℕ, ◌+◌, ◌*◌, ◌%◌, ◌<◌, ◌≤◌, ◌==◌, if◌then◌else◌, Bool, true, false, Option, Some, None, List, [], ◌∷◌, ◌++◌, length, get_or, set, inl, inr, ◌⊎◌, refl, sym, ap, ◌∙◌, subst, arith, length-append}
+use Rattle.ell_core.proofs.lemmas.stages.Below.{keeps_later}
 use Rattle.std.proofs.lemmas.Bool.{cases_eq, false≢true}
 use Rattle.std.proofs.lemmas.Option.{same_Some}
 use mathlib.Core.Option.{some, none, some-injective}
@@ -23,6 +24,7 @@ use Rattle.ell_core.proofs.lemmas.stages.Ended.{ended_cases, insert_over-ended, 
 use Rattle.ell_core.proofs.lemmas.stages.Order.{changed-insert, cut-delete, one_kind, over-delete, backed-delete, insert_over-changed}
 use Rattle.ell_cards.specs.declared.call.Call.{Call}
 use Rattle.ell_cards.specs.declared.call.Call.TheVariants as call
+use Rattle.ell_cards.specs.declared.call.NewNode.{NewNode}
 use Rattle.ell_ops.specs.declared.op.Op.{Op}
 use Rattle.ell_ops.specs.declared.op.Op.TheVariants.{Find, Insert, Delete, Swap}
 use Rattle.ell_core.specs.declared.fact.Fact.{Fact}
@@ -111,13 +113,12 @@ module _ (w w' : Words) (old new : Stages) (words : WordsLater w w') (later : St
   ]
 
   pub killed_before : (x : ℕ) → Kills w' new c x → Kills w old c x
-  killed_before x (inl (inl (changed, outer, is))) =
-      let same = (words.info c below).l in
-      inl (inl (changed_before changed, (λ inner. outer (ap (λ y. y % 4) same ∙ inner)), sym same ∙ is))
+  killed_before x (inl (inl (changed, goes, is))) =
+      inl (inl (changed_before changed, sym (keeps_later w w' words c below) ∙ goes, sym (words.info c below).l ∙ is))
   killed_before x (inl (inr (cuts, inl is))) = inl (inr (cut_before cuts, inl (sym (words.info c below).p ∙ is)))
   killed_before x (inl (inr (cuts, inr is))) = inl (inr (cut_before cuts, inr (sym (words.info c below).l ∙ is)))
   killed_before x (inr (on, (over, inl unborn))) = inr (on, (subst (λ d. has_ended (old d) ≡ true) (sym on) ended, inl (λ born. unborn (later.born x born))))
-  killed_before x (inr (on, (over, inr (changed, inner, outer, key)))) =
+  killed_before x (inr (on, (over, inr (changed, keeps, outer, key)))) =
       let was = changed_before (subst (λ d. is_changed (new d) ≡ true) on changed) in
       let same = (words.info c below).l in
       let at : card x < w.next = subst (λ d. d < w.next) (sym on) below in
@@ -129,7 +130,7 @@ module _ (w w' : Words) (old new : Stages) (words : WordsLater w w') (later : St
           subst (λ d. has_ended (old d) ≡ true) (sym on) ended,
           inr (
             subst (λ d. is_changed (old d) ≡ true) (sym on) was,
-            ap (λ y. y % 4) (sym goes) ∙ inner,
+            sym (keeps_later w w' words (card x) at) ∙ keeps,
             outer,
             sym (words.key x at) ∙ (key ∙ (ap w'.key goes ∙ words.key (w.l (card x)) low)),
           ),
@@ -257,7 +258,7 @@ mark_free false d x u v w same free = by (is_mark_of d u.state u.card) same
     by true same = ap (λ k. k.operation) same ∙ free
     by false same = ap (λ k. k.operation) same ∙ free
 
-claim_free : (b : Bool) (d node_key : ℕ) (v : View) → v.worker.operation ≡ None → (after_claim b d node_key v).worker.operation ≡ None
+claim_free : (b : Bool) (d : ℕ) (node_key : NewNode) (v : View) → v.worker.operation ≡ None → (after_claim b d node_key v).worker.operation ≡ None
 claim_free true d node_key v free = free
 claim_free false d node_key v free = free
 
@@ -323,7 +324,7 @@ lets_go sl slot r v call.Leave go mem = mem
 lets_go sl slot r v (call.Answer said) go mem = mem
 lets_go sl slot r v _ go mem = absurd go
 
-module _ (plan : TablePlan) (sl : Slots) (tree : TableState) (t : WholeState) (id : ℕ) (k : Known) (here : get_elem? t.views id ≡ some k) (there : get_elem? tree.views id ≡ some k.tree)
+module _ (plan : TablePlan) (flat : plan.flat ≡ true) (sl : Slots) (tree : TableState) (t : WholeState) (id : ℕ) (k : Known) (here : get_elem? t.views id ≡ some k) (there : get_elem? tree.views id ≡ some k.tree)
     (c : Call) (may : May plan c k.tree) (mem : MayInMemory sl k.period.slot k.period.sought.retired k.tree c) (unlost : k.period.lost ≡ None)
     (m : HasMachine plan tree) (uses : HasUses (machine_of_table plan tree m)) (m' : HasMachine plan (state_after tree id k.tree c)) (words : WordsLater m.words m'.words) (later : StagesLater m.stages m'.stages)
     (wins : (d : ℕ) → wins_of (m'.stages d) ≡ wins_of (m.stages d) ++ turn_wins tree (Makes id c) d) (lie : ℕ → ℕ) (was : NothingLeaks sl t tree.views m.words m.stages lie)
@@ -367,7 +368,7 @@ module _ (plan : TablePlan) (sl : Slots) (tree : TableState) (t : WholeState) (i
       let card_is : card (4 * lie slot + i) ≡ lie slot = omega (arith, few) in
       let place : (4 * lie slot + i) % 4 ≡ i = omega (arith, few) in
       let lies_won : HasWon m.stages (lie slot) = killed_won d slot i few kills in
-      let done = all_retired plan tree id k.tree there m sl k.period.sought.retired d hand (λ x. IsOut plan tree m uses x × IsNotedThere sl t.words lie x) are (fits d won)
+      let done = all_retired plan tree id k.tree there m sl k.period.sought.retired d hand (λ x. IsOut plan tree m uses x × IsNotedThere sl t.words lie x) are (fits d won) flat
       (may_go.retired d hand) (4 * lie slot + i) (subst (λ j. j < 3) (sym place) few) (subst (λ e. has_slot_in sl.last e ≡ true) (sym card_is) (fits (lie slot) lies_won)) kills in
       let noted = noted_as plan sl t.words lie (lie slot) i few done.1 in
       let same = own slot low in

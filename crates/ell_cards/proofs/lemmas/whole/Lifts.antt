@@ -9,12 +9,13 @@ use Rattle.ell_word.specs.Word.{packed, unpacked}
 use Rattle.ell_word.specs.declared.update.Update.{Update}
 use Rattle.ell_layout.specs.declared.field.Field.{Field}
 use Rattle.ell_layout.specs.declared.field.Field.TheVariants as field
-use Rattle.ell_layout.specs.Cards.{stored, put_filling, delete_filling}
+use Rattle.ell_layout.specs.Cards.{stored, put_filling, delete_filling, stays_below}
 use Rattle.ell_core.specs.declared.fact.Fact.{Fact}
 use Rattle.ell_core.specs.declared.fact.Fact.TheVariants as fact
 use Rattle.ell_core.specs.declared.view.Seen.{Seen}
 use Rattle.ell_cards.specs.declared.call.Call.{Call}
 use Rattle.ell_cards.specs.declared.call.Call.TheVariants as call
+use Rattle.ell_cards.specs.declared.call.NewNode.{NewNode}
 use Rattle.ell_cards.specs.declared.view.Told.TheVariants.{Met, Info, Frozen, Expects}
 use Rattle.ell_cards.specs.declared.view.Slots.{Slots}
 use Rattle.ell_cards.specs.declared.view.View.{View}
@@ -144,22 +145,22 @@ module _ (plan : TablePlan) (v : View) (last : ℕ) (few : last ≤ greatest_car
   link_fits : (x tag : ℕ) → card x ≤ last → tag ≤ last → cut_word (linked (record { node = x; tag = tag })) ≡ linked (record { node = x; tag = tag })
   link_fits x tag low less = cut_same (linked (record { node = x; tag = tag })) (omega (arith, low, less, few))
 
-  put_fits : (c k value node_key parent below key there tag : ℕ) → c ≤ last → card parent ≤ last → card below ≤ last → tag ≤ last → (f : Field)
-      → shown_word f (stored (tagged tag (put_filling c k value node_key parent below key there)) f 0) ≡ stored (tagged tag (put_filling c k value node_key parent below key there)) f 0
-  put_fits c k value node_key parent below key there tag own above low less field.Gp = refl
-  put_fits c k value node_key parent below key there tag own above low less field.P = stays parent above
-  put_fits c k value node_key parent below key there tag own above low less field.L = link_fits below tag low less
-  put_fits c k value node_key parent below key there tag own above low less field.Left = left (below % 4 == 0 && nat_le key k)
+  put_fits : (flat : Bool) (c k value node_key parent below key there tag : ℕ) → c ≤ last → card parent ≤ last → card below ≤ last → tag ≤ last → (f : Field)
+      → shown_word f (stored (tagged tag (put_filling flat c k value node_key parent below key there)) f 0) ≡ stored (tagged tag (put_filling flat c k value node_key parent below key there)) f 0
+  put_fits flat c k value node_key parent below key there tag own above low less field.Gp = refl
+  put_fits flat c k value node_key parent below key there tag own above low less field.P = stays parent above
+  put_fits flat c k value node_key parent below key there tag own above low less field.L = link_fits below tag low less
+  put_fits flat c k value node_key parent below key there tag own above low less field.Left = left (stays_below flat below && nat_le key k)
     where
       left : (b : Bool) → cut_word (linked (record { node = if b then below else left_leaf c; tag = 0 })) ≡ linked (record { node = if b then below else left_leaf c; tag = 0 })
       left true = link_fits below 0 low (omega arith)
       left false = link_fits (left_leaf c) 0 (omega (arith, own)) (omega arith)
-  put_fits c k value node_key parent below key there tag own above low less field.Right = right (below % 4 == 0 && nat_lt k key)
+  put_fits flat c k value node_key parent below key there tag own above low less field.Right = right (stays_below flat below && nat_lt k key)
     where
       right : (b : Bool) → cut_word (linked (record { node = if b then below else right_leaf c; tag = 0 })) ≡ linked (record { node = if b then below else right_leaf c; tag = 0 })
       right true = link_fits below 0 low (omega arith)
       right false = link_fits (right_leaf c) 0 (omega (arith, own)) (omega arith)
-  put_fits c k value node_key parent below key there tag own above low less _ = refl
+  put_fits flat c k value node_key parent below key there tag own above low less _ = refl
 
   delete_fits : (above parent leaf was tag : ℕ) → card above ≤ last → card parent ≤ last → card leaf ≤ last → tag ≤ last → (f : Field)
       → shown_word f (stored (tagged tag (delete_filling above parent leaf was)) f 0) ≡ stored (tagged tag (delete_filling above parent leaf was)) f 0
@@ -178,14 +179,14 @@ module _ (plan : TablePlan) (v : View) (last : ℕ) (few : last ≤ greatest_car
   nothing_fits field.Right = refl
   nothing_fits _ = refl
 
-  filling_fits : (c node_key tag : ℕ) (op : Option Op) (node : Option ℕ) (parent above : Option Seen) (key : ℕ) (value_of : ℕ → ℕ) → c ≤ last → tag ≤ last
+  filling_fits : (c : ℕ) (node_key : NewNode) (tag : ℕ) (op : Option Op) (node : Option ℕ) (parent above : Option Seen) (key : ℕ) (value_of : ℕ → ℕ) → c ≤ last → tag ≤ last
       → ((x : ℕ) → node ≡ Some x → card x ≤ last) → ((x : ℕ) (seen : Seen) → node ≡ Some x → parent ≡ Some seen → card seen.node ≤ last)
       → ((x : ℕ) (seen top : Seen) → node ≡ Some x → parent ≡ Some seen → above ≡ Some top → card top.node ≤ last) → (f : Field)
       → shown_word f (stored (tagged tag (filling_for c node_key op node parent above key value_of)) f 0) ≡ stored (tagged tag (filling_for c node_key op node parent above key value_of)) f 0
   filling_fits c node_key tag (Some (Insert k value)) (Some below) (Some parent) above key value_of own less at behind top =
-      put_fits c k value node_key parent.node below key (value_of below) tag own (behind below parent refl refl) (at below refl) less
+      put_fits node_key.flat c k value node_key.key parent.node below key (value_of below) tag own (behind below parent refl refl) (at below refl) less
   filling_fits c node_key tag (Some (Swap k was value)) (Some below) (Some parent) above key value_of own less at behind top =
-      put_fits c k value node_key parent.node below key (value_of below) tag own (behind below parent refl refl) (at below refl) less
+      put_fits node_key.flat c k value node_key.key parent.node below key (value_of below) tag own (behind below parent refl refl) (at below refl) less
   filling_fits c node_key tag (Some (Delete k)) (Some leaf) (Some parent) (Some above) key value_of own less at behind top =
       delete_fits above.node parent.node leaf parent.word tag (top leaf parent above refl refl refl) (behind leaf parent refl refl) (at leaf refl) less
   filling_fits c node_key tag _ _ _ _ key value_of own less at behind top = nothing_fits
@@ -204,7 +205,7 @@ module _ (plan : TablePlan) (v : View) (last : ℕ) (few : last ≤ greatest_car
   abbrev PlanFits : View → Type 0
   PlanFits w = (f : Field) → shown_word f (stored w.planned f 0) ≡ stored w.planned f 0
 
-  claim_fits : (from c node_key : ℕ) (won : Bool) → MayClaim from v c node_key → c ≤ last → PlanFits v → PlanFits (after_claim won c node_key v)
+  claim_fits : (from c : ℕ) (node_key : NewNode) (won : Bool) → MayClaim from v c node_key → c ≤ last → PlanFits v → PlanFits (after_claim won c node_key v)
   claim_fits from c node_key true may own fits =
       filling_fits c node_key (expected_tag v) v.worker.operation v.worker.search.node v.worker.search.parent v.worker.search.grandparent (unwrap_or v.here 0)
       (value_told v.told) own

@@ -119,6 +119,7 @@ module _ (plan : TablePlan) (s : Slots) (tree : TableState) (t : WholeState) (id
     ages = lost_ages;
     tied = tie_of_period s tree t h.ages.now.machine.stages h.lie h.dead h.dead h.was_dead h.was_dead h.tied id k here noting refl t.words (λ i low. refl)
         (λ d lives. lives) (λ q a at an. inl (at, an, λ d lives. lives)) (λ seat q a u other at placed an d lives. lives) t.homes;
+    flat = h.flat;
     retired = retired_so plan s tree h.ages.now.machine h.ages.now.uses t id k here noting refl noted t.words h.lie h.lie (λ x out is. is) h.retired;
   }
 

@@ -1,6 +1,7 @@
 -- A pass notes dead nodes of a card in the word of the card's slot: nodes that its card in hand has taken out, or nodes of that
 -- card that never come.
 use Rattle.std.proofs.Common.{◌≡◌, ◌≢◌, ℕ, ◌+◌, ◌*◌, ◌%◌, ◌<◌, ◌≤◌, ◌==◌, ◌||◌, Bool, true, false, Some, List, length, get_or, set, inl, inr, ◌⊎◌, refl, sym, ap, ◌∙◌, subst, arith, eq-eqb, ne_eqb, true≢false, get_or-set_same, None, ⊎_elim}
+use Rattle.ell_core.proofs.lemmas.stages.Below.{goes-leaf}
 use Rattle.std.proofs.lemmas.Bool.{cases_eq}
 use Rattle.std.proofs.lemmas.Option.{same_Some}
 use mathlib.Core.Option.{some}
@@ -11,7 +12,7 @@ use Rattle.ell_layout.specs.declared.field.Field.TheVariants as field
 use Rattle.ell_layout.specs.Words.{Words}
 use Rattle.ell_core.specs.history.Invariant.{DeleteCard}
 use Rattle.ell_core.specs.history.Stages.{Stages, is_cut}
-use Rattle.ell_core.proofs.lemmas.stages.Order.{cut-delete}
+use Rattle.ell_core.proofs.lemmas.stages.Order.{cut-delete, changed-insert}
 use Rattle.ell_grace.specs.Gone.{TakesOut}
 use Rattle.ell_cards.specs.declared.card_nodes.CardNodes.{CardNodes}
 use Rattle.ell_cards.specs.declared.view.Known.{Known}
@@ -92,7 +93,8 @@ module _ (plan : TablePlan) (s : Slots) (tree : TableState) (t : WholeState) (id
         internal = sym (place_whole was.whole x was.is) ∙ inner
 
         by : TakesOut w stage c was.whole → w.p c ≡ was.whole
-        by (inl put) = absurd (put.1 (ap (λ y. y % 4) put.2 ∙ internal))
+        by (inl put) = absurd (goes-leaf w stage h.ages.now.uses.outs.invariant.words c
+            ((h.ages.now.uses.outs.invariant.words.cards c).insert (changed-insert (stage c) put.0)) put.1 (ap (λ y. y % 4) put.2 ∙ internal))
         by (inr (cut, inl p)) = p
         by (inr (cut, inr l)) = absurd ((cuts cut).leaf.outer (ap (λ y. y % 4) l ∙ internal))
 

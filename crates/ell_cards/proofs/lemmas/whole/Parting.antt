@@ -84,6 +84,7 @@ whole_splits plan k keys quiet may id s h here =
             periods = split_periods sl s id k here h.lie h.dead h.began h.was_dead h.periods (left_view keys k.tree) (right_view keys k.tree) left_rests right_rests quiet;
             ages = tie.on.ages;
             tied = tie.tied;
+            flat = h.flat;
             retired = retired_on plan sl tree h.ages.now.machine h.ages.now.uses (state_split tree id k.tree keys) tie.on.ages.now.machine tie.on.ages.now.uses tie.on.words tie.on.out
                 s (record { words = s.words; homes = s.homes; views = set s.views id (left_known keys k) ++ right_known keys k ∷ [] }) h.lie same (λ slot low. refl) (split_held s id k keys) h.retired;
           },
@@ -142,6 +143,7 @@ whole_joins plan k l free other_free unlost id other s h here aside there =
             periods = join_periods sl s id other k l here there aside h.lie h.dead h.began h.was_dead h.periods;
             ages = tie.on.ages;
             tied = tie.tied;
+            flat = h.flat;
             retired = retired_on plan sl tree h.ages.now.machine h.ages.now.uses (state_joined tree id other k.tree l.tree) tie.on.ages.now.machine tie.on.ages.now.uses tie.on.words tie.on.out
                 s (record { words = s.words; homes = s.homes; views = set (set s.views id (joined_known k l)) other spent_known }) h.lie same (λ slot low. refl) (join_held s id other k l) h.retired;
           },

@@ -5,6 +5,7 @@ use lib.ListN.{get_elem?}
 use prog.Atomic.{either}
 use Rattle.atomic_table.specs.Table.{Allows, Act, Valid, carried_after, keeps, stepped}
 use Rattle.ell_cards.specs.declared.call.Call.TheVariants as call
+use Rattle.ell_cards.specs.declared.call.NewNode.{NewNode}
 use Rattle.ell_cards.specs.declared.view.Known.{Known}
 use Rattle.ell_cards.specs.declared.view.Period.{Period}
 use Rattle.ell_cards.specs.declared.view.Slots.{Slots}
@@ -48,7 +49,7 @@ pub from_some : (plan : TablePlan) → plan.flat ≡ true → 0 < flat_from plan
 from_some plan flat = subst (λ b. 0 < (if b then length plan.start + 1 else 0)) (sym flat) (omega arith)
 
 -- where the last card was claimed, and the claim word read, the next one may be claimed
-pub claims_on : (plan : TablePlan) → plan.flat ≡ true → (c node_key : ℕ) (v : View) → c + 1 ≤ plan.last_card → May plan (call.Claim c node_key) v
+pub claims_on : (plan : TablePlan) → plan.flat ≡ true → (c : ℕ) (node_key : NewNode) (v : View) → c + 1 ≤ plan.last_card → May plan (call.Claim c node_key) v
     → May plan (call.Claim (c + 1) node_key) (after_one c node_key v)
 claims_on plan flat c node_key v room may = (one_claims_on (flat_from plan) (from_some plan flat) c node_key v may.0, room)
 
@@ -61,7 +62,7 @@ abbrev pub SlotIsBefore : Known → ℕ → Type 0
 SlotIsBefore k c = (d : ℕ) → k.period.slot ≡ Some d → d < c
 
 -- the card that was claimed has no slot yet
-aside_now : (c node_key : ℕ) (k : Known) → SlotIsBefore k c → LaysAside (record { tree = after_one c node_key k.tree; period = k.period })
+aside_now : (c : ℕ) (node_key : NewNode) (k : Known) → SlotIsBefore k c → LaysAside (record { tree = after_one c node_key k.tree; period = k.period })
 aside_now c node_key k before d waits at =
     let same = same_Some c d waits.0 in
     let low = before d at in
@@ -102,14 +103,14 @@ module _ (plan : TablePlan) (s : Slots) (placed : plan.slots ≡ Some s) where
     found = sym (has_periods t h).tied.claim
 
     -- after a claim
-    claimed : (c node_key : ℕ) → May plan (call.Claim c node_key) k.tree → LaysAside k → (won : Bool) → (get_or t.words 0 0 == c) ≡ won
+    claimed : (c : ℕ) (node_key : NewNode) → May plan (call.Claim c node_key) k.tree → LaysAside k → (won : Bool) → (get_or t.words 0 0 == c) ≡ won
         → IsWhole plan (claimed_to t id k (after_claim won c node_key k.tree) (cut_word (if won then c + 1 else get_or t.words 0 0)))
     claimed c node_key may aside won is =
         subst (λ b. IsWhole plan (claimed_to t id k (after_claim b c node_key k.tree) (cut_word (if b then c + 1 else get_or t.words 0 0)))) is
         (subst (λ n. IsWhole plan (claimed_to t id k (after_claim (n == c) c node_key k.tree) (cut_word (if n == c then c + 1 else n)))) found
         (tied_whole plan t h id k here (call.Claim c node_key) may tt s placed aside unlost tt (λ none. tt) k.period (nothing refl tt (λ some d flags. absurd flags))))
 
-    pub claim_won : (c node_key : ℕ) → May plan (call.Claim c node_key) k.tree → LaysAside k → get_or t.words 0 0 ≡ c
+    pub claim_won : (c : ℕ) (node_key : NewNode) → May plan (call.Claim c node_key) k.tree → LaysAside k → get_or t.words 0 0 ≡ c
         → IsWhole plan (claimed_to t id k (after_claim true c node_key k.tree) (c + 1))
     claim_won c node_key may aside is =
         let low = may.1 in
@@ -117,7 +118,7 @@ module _ (plan : TablePlan) (s : Slots) (placed : plan.slots ≡ Some s) where
         subst (λ n. IsWhole plan (claimed_to t id k (after_claim true c node_key k.tree) n)) (cut_same (c + 1) (omega arith))
         (claimed c node_key may aside true (eq-eqb (get_or t.words 0 0) c is))
 
-    pub claim_lost : (c node_key : ℕ) → May plan (call.Claim c node_key) k.tree → LaysAside k → (get_or t.words 0 0 == c) ≡ false → IsWord (get_or t.words 0 0)
+    pub claim_lost : (c : ℕ) (node_key : NewNode) → May plan (call.Claim c node_key) k.tree → LaysAside k → (get_or t.words 0 0 == c) ≡ false → IsWord (get_or t.words 0 0)
         → IsWhole plan (claimed_to t id k (after_claim false c node_key k.tree) (get_or t.words 0 0))
     claim_lost c node_key may aside is word =
         subst (λ n. IsWhole plan (claimed_to t id k (after_claim false c node_key k.tree) n)) (cut_same (get_or t.words 0 0) word)
@@ -141,7 +142,7 @@ module _ (plan : TablePlan) (s : Slots) (placed : plan.slots ≡ Some s) where
 
   module _ (flat : plan.flat ≡ true) where
     -- after a claim that was won, and the claim word read
-    pub one_on : (c node_key : ℕ) (t : WholeState) (h : IsWhole plan t) (id : ℕ) (k : Known) → get_elem? t.views id ≡ some k → k.period.lost ≡ None → LaysAside k
+    pub one_on : (c : ℕ) (node_key : NewNode) (t : WholeState) (h : IsWhole plan t) (id : ℕ) (k : Known) → get_elem? t.views id ≡ some k → k.period.lost ≡ None → LaysAside k
         → May plan (call.Claim c node_key) k.tree → get_or t.words 0 0 ≡ c → IsWhole plan (claimed_to t id k (after_one c node_key k.tree) (c + 1))
     one_on c node_key t h id k here unlost aside may is =
         let low = may.1 in
@@ -152,7 +153,7 @@ module _ (plan : TablePlan) (s : Slots) (placed : plan.slots ≡ Some s) where
         (set_there t.views id now k here) unlost (c + 1) (get_or-set_same t.words 0 (c + 1) 0 (has_words t h)) (omega arith))
 
     -- a row of claims
-    pub row_whole : (n c node_key : ℕ) (t : WholeState) (h : IsWhole plan t) (id : ℕ) (k : Known) → get_elem? t.views id ≡ some k → k.period.lost ≡ None → LaysAside k → SlotIsBefore k c
+    pub row_whole : (n c : ℕ) (node_key : NewNode) (t : WholeState) (h : IsWhole plan t) (id : ℕ) (k : Known) → get_elem? t.views id ≡ some k → k.period.lost ≡ None → LaysAside k → SlotIsBefore k c
         → May plan (call.Claim c node_key) k.tree → get_or t.words 0 0 ≡ c → c + n ≤ plan.last_card
         → IsWhole plan (claimed_to t id k (after_row n c node_key k.tree) (c + n + 1))
     row_whole zero c node_key t h id k here unlost aside before may is room =
@@ -167,13 +168,13 @@ module _ (plan : TablePlan) (s : Slots) (placed : plan.slots ≡ Some s) where
         (get_or-set_same t.words 0 (c + 1) 0 (has_words t h)) (omega arith)))
 
 -- what was planned before a row of claims is gone after it
-planned_anew : (n c node_key : ℕ) (v : View) → after_row n c node_key (cut_planned v) ≡ after_row n c node_key v
+planned_anew : (n c : ℕ) (node_key : NewNode) (v : View) → after_row n c node_key (cut_planned v) ≡ after_row n c node_key v
 planned_anew zero c node_key v = refl
 planned_anew (suc n) c node_key v = refl
 
 -- what is shown of what a pass knows after a row of claims
 module _ (plan : TablePlan) (s : Slots) (placed : plan.slots ≡ Some s) (flat : plan.flat ≡ true) where
-  row_shown : (n c node_key : ℕ) (t : WholeState) (h : IsWhole plan t) (id : ℕ) (k : Known) → get_elem? t.views id ≡ some k → k.period.lost ≡ None → LaysAside k → SlotIsBefore k c
+  row_shown : (n c : ℕ) (node_key : NewNode) (t : WholeState) (h : IsWhole plan t) (id : ℕ) (k : Known) → get_elem? t.views id ≡ some k → k.period.lost ≡ None → LaysAside k → SlotIsBefore k c
       → May plan (call.Claim c node_key) k.tree → get_or t.words 0 0 ≡ c → c + n ≤ plan.last_card
       → shown (after_row n c node_key k.tree) ≡ cut_planned (after_row n c node_key (shown k.tree))
   row_shown zero c node_key t h id k here unlost aside before may is room = claims_are_shown plan c node_key k.tree (whole_apart plan s placed t h id k here)
@@ -187,7 +188,7 @@ module _ (plan : TablePlan) (s : Slots) (placed : plan.slots ≡ Some s) (flat :
       ∙ ap cut_planned (ap (after_row n (c + 1) node_key) first ∙ planned_anew n (c + 1) node_key (after_one c node_key (shown k.tree)))
 
 -- a pass takes all numbers from its next one to a last one, or loses the claim
-module _ (plan : TablePlan) (s : Slots) (placed : plan.slots ≡ Some s) (flat : plan.flat ≡ true) (p : PassModel) (first last node_key : ℕ) (order : first ≤ last) (room : last ≤ plan.last_card) (may : MayClaim (flat_from plan) p.view first node_key)
+module _ (plan : TablePlan) (s : Slots) (placed : plan.slots ≡ Some s) (flat : plan.flat ≡ true) (p : PassModel) (first last : ℕ) (node_key : NewNode) (order : first ≤ last) (room : last ≤ plan.last_card) (may : MayClaim (flat_from plan) p.view first node_key)
     (lays : (d : ℕ) → HoldsWaiting p.view d → p.slot ≢ Some d) where
   abbrev v : View
   v = p.view
@@ -235,7 +236,7 @@ pub one_back : (last : ℕ) → last + 1 - 1 ≡ last
 one_back last = omega arith
 
 -- whichever places there are
-pub row_goes_any : (plan : TablePlan) → plan.slots ≢ None → plan.flat ≡ true → (p : PassModel) (first last node_key : ℕ) → first ≤ last → last ≤ plan.last_card
+pub row_goes_any : (plan : TablePlan) → plan.slots ≢ None → plan.flat ≡ true → (p : PassModel) (first last : ℕ) (node_key : NewNode) → first ≤ last → last ≤ plan.last_card
     → MayClaim (flat_from plan) p.view first node_key → MayInTable plan p (call.Claim first node_key)
     → MayStepOn plan p 0 (λ n. either (n == first) (last + 1) n) (RowTells plan first last node_key p)
 row_goes_any plan there flat p first last node_key order room may lays = by plan.slots refl
@@ -245,7 +246,7 @@ row_goes_any plan there flat p first last node_key order room may lays = by plan
     by (Some s) placed = row_goes plan s placed flat p first last node_key order room may (lays s placed)
 
 -- the pass has the keys and the share that it had, and names what is in the table
-pub row_keeps_pass : (plan : TablePlan) (p : PassModel) (first last node_key : ℕ) → KeepsPass plan p.view (RowTells plan first last node_key p)
+pub row_keeps_pass : (plan : TablePlan) (p : PassModel) (first last : ℕ) (node_key : NewNode) → KeepsPass plan p.view (RowTells plan first last node_key p)
 row_keeps_pass plan p first last node_key n w h = by (n == first) h.0
   where
     v : View
@@ -261,7 +262,7 @@ row_keeps_pass plan p first last node_key n w h = by (n == first) h.0
         (ap (λ (u : View). ledger_keys u.worker.ledger) is, subst (SameShare v) (sym is) (record { share = refl; ownable = refl }), h.1)
 
 -- a claim of one card tells what such a row does
-claim_tells : (plan : TablePlan) (c node_key : ℕ) (v : View) → MayTell plan (call.Claim c node_key) v (λ n w. (w ≡ after_claimed_row (n == c) c c node_key v) × IsInside plan w)
+claim_tells : (plan : TablePlan) (c : ℕ) (node_key : NewNode) (v : View) → MayTell plan (call.Claim c node_key) v (λ n w. (w ≡ after_claimed_row (n == c) c c node_key v) × IsInside plan w)
 claim_tells plan c node_key v s h id w here is apart (call.Claim d key) same may can placed later =
     let card : d ≡ c = cc in
     let node : key ≡ node_key = cc in
@@ -285,7 +286,7 @@ claim_tells plan c node_key v s h id w here is apart (call.Claim d key) same may
 claim_tells plan c node_key v s h id w here is apart _ same may can placed later = absurd cc
 
 -- so a claim is a step that the rule allows
-pub claim_goes : (plan : TablePlan) (p : PassModel) (c node_key : ℕ) → May plan (call.Claim c node_key) p.view → c + 1 < 2 ^ 64 → MayInTable plan p (call.Claim c node_key)
+pub claim_goes : (plan : TablePlan) (p : PassModel) (c : ℕ) (node_key : NewNode) → May plan (call.Claim c node_key) p.view → c + 1 < 2 ^ 64 → MayInTable plan p (call.Claim c node_key)
     → MayStepOn plan p 0 (λ n. either (n == c) (c + 1) n) (RowTells plan c c node_key p)
 claim_goes plan p c node_key may low lays k is slotted unlost id t h homes here small =
     let x = tree_step plan k (call.Claim c node_key) (λ n. either (n == c) (c + 1) n) (λ n w. (w ≡ after_claimed_row (n == c) c c node_key p.view) × IsInside plan w) (λ n. k.period) tt

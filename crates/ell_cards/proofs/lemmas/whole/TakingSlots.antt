@@ -108,6 +108,7 @@ module _ (plan : TablePlan) (s : Slots) (tree : TableState) (t : WholeState) (id
           periods = slot_taken s t id k here h.lie h.dead h.began h.was_dead h.periods size (slot_of c) inside own full past (turn_of c) c refl;
           ages = it.ages;
           tied = it.tied;
+          flat = h.flat;
           retired = it.retired h.retired;
         };
         leaks = it.leaks unlost;

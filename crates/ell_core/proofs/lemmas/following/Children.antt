@@ -6,7 +6,7 @@ use Rattle.ell_core.specs.declared.event.Act.{Act}
 use Rattle.ell_core.specs.declared.event.Act.TheVariants as act
 use Rattle.ell_core.specs.declared.event.Event.{Event}
 use Rattle.ell_core.specs.declared.event.Stepped.{Stepped}
-use Rattle.ell_layout.specs.Words.{Words, with_update, relinked}
+use Rattle.ell_layout.specs.Words.{Words, with_update, relinked, is_flat}
 use Rattle.ell_core.specs.state.Machine.{Machine, Scene, scene}
 use Rattle.ell_layout.specs.Cards.{exchange_side, claimed, put_filling, value_below, delete_filling}
 use Rattle.ell_core.specs.acts.Exchanges.{won_or_lost, exchanged_update, exchanged_child, finds_link}
@@ -49,7 +49,7 @@ row_children act.Again s said after row none x right low = ap (λ (z : Scene). z
 row_children act.Leave s said after row none x right low = ap (λ (z : Scene). z.words.child x right) row.gives
 row_children act.Answer s said after row none x right low = ap (λ (z : Scene). z.words.child x right) row.gives
 row_children act.Claim s said after (inl row) none x right low = ap (λ (z : Scene). z.words.child x right) row.gives
-    ∙ claim_child s.words row.parent.tag (put_filling s.words.next row.what.key row.what.value row.node_key row.parent.node row.below (s.words.key row.below) (value_below s.words row.below)) x right low
+    ∙ claim_child s.words row.parent.tag (put_filling (is_flat s.words) s.words.next row.what.key row.what.value row.node_key row.parent.node row.below (s.words.key row.below) (value_below s.words row.below)) x right low
 row_children act.Claim s said after (inr row) none x right low = ap (λ (z : Scene). z.words.child x right) row.gives
     ∙ claim_child s.words row.grandparent.tag (delete_filling row.grandparent.node row.parent.node row.leaf row.parent.word) x right low
 row_children act.IFlag s said after row none x right low = ap (λ (z : Scene). z.words.child x right) row.gives ∙ update_child s.words _ _ _ x right

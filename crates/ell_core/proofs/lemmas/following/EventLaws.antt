@@ -5,7 +5,7 @@ use Rattle.ell_core.specs.declared.event.Act.TheVariants as act
 use Rattle.ell_core.specs.declared.event.Event.{Event}
 use Rattle.ell_core.specs.declared.event.Stepped.{Stepped}
 use Rattle.ell_core.specs.declared.event.Stepped.TheVariants.{Moved, Won, Lost, Answered}
-use Rattle.ell_layout.specs.Words.{Words}
+use Rattle.ell_layout.specs.Words.{Words, is_flat}
 use Rattle.ell_core.specs.state.Machine.{Machine, Scene, scene, with_scene}
 use Rattle.ell_core.specs.declared.fact.Fact.TheVariants.{Marked}
 use Rattle.ell_layout.specs.declared.field.Field.{Field}
@@ -54,7 +54,7 @@ claimed_keys m stage i said becomes tag filling invariant is after =
 claim_keys : (m : Machine) (stage : Stages) (i : ℕ) (said : Stepped) (becomes : Scene) → Invariant m stage
     → Row act.Claim (scene m i) said becomes → Follows m stage act.Claim i said (with_scene m i becomes) → SamePairs m.words becomes.words
 claim_keys m stage i said becomes invariant (inl row) after =
-    claimed_keys m stage i said becomes row.parent.tag (put_filling m.words.next row.what.key row.what.value row.node_key row.parent.node row.below (m.words.key row.below) (value_below m.words row.below)) invariant row.gives after
+    claimed_keys m stage i said becomes row.parent.tag (put_filling (is_flat m.words) m.words.next row.what.key row.what.value row.node_key row.parent.node row.below (m.words.key row.below) (value_below m.words row.below)) invariant row.gives after
 claim_keys m stage i said becomes invariant (inr row) after =
     claimed_keys m stage i said becomes row.grandparent.tag (delete_filling row.grandparent.node row.parent.node row.leaf row.parent.word) invariant row.gives after
 

@@ -5,7 +5,7 @@ use Rattle.ell_core.specs.declared.event.Act.{Act}
 use Rattle.ell_core.specs.declared.event.Act.TheVariants as act
 use Rattle.ell_core.specs.declared.event.Stepped.{Stepped}
 use Rattle.ell_core.specs.declared.fact.Fact.TheVariants.{Cut}
-use Rattle.ell_layout.specs.Words.{Words, relinked}
+use Rattle.ell_layout.specs.Words.{Words, relinked, is_flat}
 use Rattle.ell_core.specs.state.Machine.{Machine, Scene, scene, with_scene}
 use Rattle.ell_layout.specs.Cards.{marked, is_right, child_for, exchange_side, claimed, put_filling, value_below, delete_filling}
 use Rattle.ell_layout.specs.declared.field.Field.{Field}
@@ -99,7 +99,7 @@ module _ (m : Machine) (stage : Stages) (i : ℕ) (said : Stepped) (becomes : Sc
   pub moved_by : (a : Act) → Row a (scene m i) said becomes → Follows m stage a i said (with_scene m i becomes)
       → (x : ℕ) (right : Bool) → IsInternal x → Born stage x → Moved m.words becomes.words x right
   moved_by act.Claim (inl row) follows x right inner born =
-      moved_claim row.parent.tag (put_filling m.words.next row.what.key row.what.value row.node_key row.parent.node row.below (m.words.key row.below) (value_below m.words row.below)) row.gives x right born
+      moved_claim row.parent.tag (put_filling (is_flat m.words) m.words.next row.what.key row.what.value row.node_key row.parent.node row.below (m.words.key row.below) (value_below m.words row.below)) row.gives x right born
   moved_by act.Claim (inr row) follows x right inner born =
       moved_claim row.grandparent.tag (delete_filling row.grandparent.node row.parent.node row.leaf row.parent.word) row.gives x right born
   moved_by (act.IChild c) row follows x right inner born =

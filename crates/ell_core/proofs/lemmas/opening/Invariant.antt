@@ -225,11 +225,11 @@ module _ (start : List (ℕ × ℕ)) (ascending : IsStrictlyIncreasing (keys_of 
   -- the words of a tree that is not flat, or is flat from the first card on that is not of the opening tree
   module _ (from : ℕ) (flat : 0 < from → from ≡ length start + 1) where
     -- the nodes of the opening tree have no blocks
-    not_out : (x : ℕ) → 0 < from → Born (start_stages (length start + 1)) x → ¬ ((opening_from from).holds x ≡ false)
-    not_out x is_flat born out =
+    not_out : (x : ℕ) → IsInternal x → 0 < from → Born (start_stages (length start + 1)) x → ¬ ((opening_from from).holds x ≡ false)
+    not_out x inner is_flat born out =
         let is = flat is_flat in
         let below = node_there x born in
-        false≢true (sym (none_before from x (omega arith)) ∙ block_by from x out)
+        false≢true (sym (none_before from x inner (omega arith)) ∙ block_by from x out)
 
     -- a flat tree is a trie
     trie : 0 < from → IsTrie (Born (start_stages (length start + 1))) (opening_from from) w.key w.child
@@ -237,14 +237,14 @@ module _ (start : List (ℕ × ℕ)) (ascending : IsStrictlyIncreasing (keys_of 
       start = below_born (length start + 1) 0 0 (omega arith) some;
       closed = λ x side inner born. subst (λ n. Born (start_stages (length start + 1)) (w.child n side)) (sym (node_of x inner))
           (children_born (card x) side (node_there x born));
-      plain = λ x side inner born out. absurd (not_out x is_flat born out);
+      plain = λ x side inner born out. absurd (not_out x inner is_flat born out);
       deeper = λ x side inner born held below. subst (λ n. depth_of n (card x) < depth_of n (card (w.child x side))) (sym (flat is_flat))
           (subst (λ n. depth_of (length start + 1) (card x) < depth_of (length start + 1) (card (w.child n side))) (sym (node_of x inner))
           (deeper side (card x) (node_there x born) (subst (λ n. IsInternal (w.child n side)) (node_of x inner) below)));
       few = λ x inner held. depths_few from x is_flat inner held;
-      small = λ x inner born out. absurd (not_out x is_flat born out);
-      leaf = λ x side inner born out. absurd (not_out x is_flat born out);
-      inner = λ x side inner born out. absurd (not_out x is_flat born out);
+      small = λ x inner born out. absurd (not_out x inner is_flat born out);
+      leaf = λ x side inner born out. absurd (not_out x inner is_flat born out);
+      inner = λ x side inner born out. absurd (not_out x inner is_flat born out);
     }
 
     -- children have greater ranks

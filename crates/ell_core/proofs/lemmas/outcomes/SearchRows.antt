@@ -12,7 +12,7 @@ use Rattle.ell_layout.specs.Cards.{child_for, put_filling, value_below, delete_f
 use Rattle.ell_core.specs.state.Facts.{learned_any, told_by}
 use Rattle.ell_core.specs.state.Machine.{Worker, Scene}
 use Rattle.ell_core.specs.acts.Searching.{put_of, GivesPlace, IsClean, Begin, Upd, Down, AtCleanLeaf, AtCleanNode, MayTake, ClaimPut, ClaimDelete, MayStop, Again, Leave, value_at, leaf_answer, card_answer, AnswersAtLeaf, AnswersByCard, HasAnswer, Answer, begun, ended, with_read, gone_down, claims, ledger_after}
-use Rattle.ell_layout.specs.Words.{Words, IsLeaf}
+use Rattle.ell_layout.specs.Words.{Words, IsLeaf, is_flat}
 use Rattle.ell_core.specs.tree.Flat.{IsInBlock, IsNodeKey}
 use Rattle.ell_core.proofs.lemmas.outcomes.Decide.{Decided, HasOne, Settled, ap2, subst2, settles_either, cases_option, cases_put, decides_takes, cases_delete, decides_clean, decides_internal, same_value, some_not_none, same_seen}
 use Rattle.ell_core.proofs.lemmas.tree.Blocks.{in_block-or_not}
@@ -188,7 +188,7 @@ same_delete e f = cc
 -- the scene after a claim for an insert or a swap
 abbrev put_claimed : Scene → Put → ℕ → ℕ → Seen → Scene
 put_claimed s what node_key below parent = claims s parent.tag
-    (put_filling s.words.next what.key what.value node_key parent.node below (s.words.key below) (value_below s.words below))
+    (put_filling (is_flat s.words) s.words.next what.key what.value node_key parent.node below (s.words.key below) (value_below s.words below))
 
 -- it is one scene for one put, node key, node and parent
 same_claimed : (s : Scene) {what then : Put} {node_key other below x : ℕ} {parent y : Seen} → what ≡ then → node_key ≡ other → below ≡ x → parent ≡ y

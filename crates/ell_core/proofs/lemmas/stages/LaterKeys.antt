@@ -1,4 +1,4 @@
-use Rattle.std.proofs.Common.{◌≡◌, ℕ, ◌%◌, ◌<◌, nat_le, Bool, true, false, subst, Option, Some, None, refl, sym, ap, ◌∙◌, arith, ◌==◌, if◌then◌else◌}
+use Rattle.std.proofs.Common.{◌≡◌, ℕ, ◌%◌, ◌<◌, nat_le, nat_lt, Bool, true, false, subst, Option, Some, None, refl, sym, ap, ◌∙◌, arith, ◌==◌, if◌then◌else◌}
 use Rattle.ell_word.specs.Node.{card, internal, left_leaf, right_leaf, IsNode}
 use Rattle.ell_layout.specs.Words.{Words}
 use Rattle.ell_layout.specs.Cards.{is_right, left_of_card, right_of_card}
@@ -97,8 +97,8 @@ module _ (old new : Words) (stage : Stages) (sound : WordsAreSound old stage) (w
 
     -- the children of its node are to be those that were
     pub filled_child_later : (right : Bool) → filled_child new c right ≡ filled_child old c right
-    filled_child_later false = λ t. left_of_card c (insert_key_later t) (insert_info.l t) (insert_leaf_key t)
-    filled_child_later true = λ t. right_of_card c (insert_key_later t) (insert_info.l t) (insert_leaf_key t)
+    filled_child_later false = λ t. left_of_card (nat_lt 0 (words.flat t)) c (insert_key_later t) (insert_info.l t) (insert_leaf_key t)
+    filled_child_later true = λ t. right_of_card (nat_lt 0 (words.flat t)) c (insert_key_later t) (insert_info.l t) (insert_leaf_key t)
 
     -- it adds its key still, or replaces a leaf of its key and of that value
     pub putting_later : (was : Option ℕ) → IsPutting old c was → IsPutting new c was

@@ -24,17 +24,21 @@ plain_by from x h = ap not h
 pub block_by : (from x : ℕ) → (opening_from from).holds x ≡ false → has_block from x ≡ true
 block_by from x h = elim (cases_Bool (has_block from x)) [ inl e ↦ e | inr e ↦ absurd (false≢true (sym h ∙ ap not e)) ]
 
--- a node has a block exactly if its card is not of the opening tree
+-- an internal node has a block exactly if its card is not of the opening tree, and each leaf has one
 pub block_from : (from x : ℕ) → 0 < from → from ≤ card x → has_block from x ≡ true
 unfolding has_block
 block_from from x some past = grind (arith, nat_tests)
 
-pub none_before : (from x : ℕ) → card x < from → has_block from x ≡ false
+pub leaf_block : (from x : ℕ) → 0 < from → IsLeaf x → has_block from x ≡ true
 unfolding has_block
-none_before from x less = grind (arith, nat_tests)
+leaf_block from x some outer = grind (arith, nat_tests)
 
-pub block_past : (from x : ℕ) → has_block from x ≡ true → from ≤ card x
-block_past from x h = elim (cases_lt (card x) from) [ inr past ↦ past | inl less ↦ absurd (false≢true (sym (none_before from x less) ∙ h)) ]
+pub none_before : (from x : ℕ) → IsInternal x → card x < from → has_block from x ≡ false
+unfolding has_block
+none_before from x inner less = grind (arith, nat_tests)
+
+pub block_past : (from x : ℕ) → IsInternal x → has_block from x ≡ true → from ≤ card x
+block_past from x inner h = elim (cases_lt (card x) from) [ inr past ↦ past | inl less ↦ absurd (false≢true (sym (none_before from x inner less) ∙ h)) ]
 
 -- and in a tree that is not flat no node has one
 pub none_plain : (x : ℕ) → has_block 0 x ≡ false

@@ -43,7 +43,7 @@ depths_few from x some inner holds = elim (cases_lt (card x) from) [
 pub rank_root : (w : Words) → rank w 0 ≡ 0
 rank_root w = elim (cases_eq w.flat_from 0) [
   | inl plain ↦ rank_plain w plain 0
-  | inr some ↦ rank_flat w (omega arith) 0 ∙ (paths.rank_open (opening_from w.flat_from) w.key 0 (ap not (none_before w.flat_from 0 (omega arith))) refl
+  | inr some ↦ rank_flat w (omega arith) 0 ∙ (paths.rank_open (opening_from w.flat_from) w.key 0 (ap not (none_before w.flat_from 0 refl (omega arith))) refl
       ∙ depth_root w.flat_from)
 ]
 

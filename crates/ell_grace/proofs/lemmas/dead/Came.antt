@@ -3,7 +3,7 @@ use Rattle.std.proofs.Common.{◌≡◌, ◌≢◌, ℕ, ◌+◌, ◌*◌, ◌%�
 use Rattle.std.proofs.lemmas.Bool.{cases_Bool, cases_eq, false≢true}
 use Rattle.ell_word.specs.Node.{IsInternal, card}
 use Rattle.ell_layout.specs.Words.{Words, IsLeaf}
-use Rattle.ell_layout.specs.Cards.{marked}
+use Rattle.ell_layout.specs.Cards.{keeps_below, marked}
 use Rattle.ell_core.specs.state.Machine.{Machine}
 use Rattle.ell_core.specs.tree.Tree.{Reached}
 use Rattle.ell_core.specs.history.Stages.{Stage, Stages, DMarked, Born, is_start, is_changed, is_cut}
@@ -45,11 +45,11 @@ module _ (m : Machine) (has : HasUses m) where
   unused_or_not : (x : ℕ) → IsLeaf x → IsUnused w stage x ⊎ (¬ IsUnused w stage x)
   unused_or_not x outer = elim (cases_Bool (is_changed (stage (card x)))) [
     | inr still ↦ inr (λ unused. false≢true (sym still ∙ unused.0))
-    | inl changed ↦ elim (cases_eq (w.l (card x) % 4) 0) [
-      | inr leaf ↦ inr (λ unused. leaf unused.1)
-      | inl inner ↦ elim (cases_eq (w.key x) (w.key (w.l (card x)))) [
+    | inl changed ↦ elim (cases_Bool (keeps_below w (card x))) [
+      | inr goes ↦ inr (λ unused. false≢true (sym goes ∙ unused.1))
+      | inl keeps ↦ elim (cases_eq (w.key x) (w.key (w.l (card x)))) [
         | inr other ↦ inr (λ unused. other unused.3)
-        | inl same ↦ inl (changed, inner, outer, same)
+        | inl same ↦ inl (changed, keeps, outer, same)
       ]
     ]
   ]

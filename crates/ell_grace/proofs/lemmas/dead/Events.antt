@@ -8,7 +8,7 @@ use Rattle.ell_core.specs.declared.event.Event.{Event}
 use Rattle.ell_core.specs.declared.event.Stepped.{Stepped}
 use Rattle.ell_core.specs.declared.fact.Fact.TheVariants.{Marked}
 use Rattle.ell_layout.specs.Words.{Words}
-use Rattle.ell_layout.specs.Cards.{is_replace_card, brought, sibling}
+use Rattle.ell_layout.specs.Cards.{is_replace_card, brought, keeps_below, sibling}
 use Rattle.ell_core.specs.state.Machine.{Machine, Scene, scene, with_scene}
 use Rattle.ell_core.specs.acts.Events.{Row, Steps}
 use Rattle.ell_core.specs.acts.Wins.{win_for, wins_by}
@@ -18,11 +18,11 @@ use Rattle.ell_core.specs.history.Later.{Follows}
 use Rattle.ell_grace.specs.Gone.{OutsAreSound}
 use Rattle.ell_grace.specs.Dead.{IsUnused, UsesAreSound}
 use Rattle.ell_core.proofs.lemmas.words.Later.{child_there, child_elsewhere}
-use Rattle.ell_core.proofs.lemmas.stages.Edges.{replaces_leaf}
+use Rattle.ell_core.proofs.lemmas.stages.Below.{keeps-none, keeps_later}
 use Rattle.ell_core.proofs.lemmas.stages.Order.{insert-claimed, changed-insert, one_kind, marked_cases}
 use Rattle.ell_core.proofs.lemmas.stages.Sums.{child_changes, sum_by, sum_same, changed-sum, none_won}
 use Rattle.ell_core.proofs.lemmas.following.Children.{row_children}
-use Rattle.ell_core.proofs.lemmas.keeping.insert_child.Card.{ichild_words, its_card, its_flag, its_child, same_by}
+use Rattle.ell_core.proofs.lemmas.keeping.insert_child.Card.{ichild_words, its_card, its_flag, its_child}
 use Rattle.ell_core.proofs.lemmas.keeping.insert_child.IChild.{waits_or_made, won_waiting, lost_changed}
 use Rattle.ell_core.proofs.lemmas.keeping.delete_child.DChild.{dchild-won, dchild-lost}
 use Rattle.ell_core.proofs.lemmas.keeping.delete_child.Tree.{cut_words, CutsAt, cuts_at}
@@ -77,8 +77,7 @@ module _ (m : Machine) (stage : Stages) (i : ℕ) (c : ℕ) (said : Stepped) (be
       by false two unused = unused.2 (omega arith)
       by true one unused =
           let on : card (right_leaf c) ≡ c = omega arith in
-          replaces_leaf m.words stage invariant.words c (its_card m.words stage invariant.words c flagged) (same_by m.words c one)
-          (subst IsInternal (ap becomes.words.l on ∙ (follows.words.info c i_low).l) unused.1)
+          false≢true (sym (keeps-none m.words c one) ∙ (sym (keeps_later m.words becomes.words follows.words c i_low) ∙ (ap (keeps_below becomes.words) (sym on) ∙ unused.1)))
 
   ichild_uses : UsesAreSound becomes.words follows.stages
   ichild_uses = uses_from m stage i (act.IChild c) said becomes invariant row follows outs uses (record {

@@ -1,5 +1,5 @@
 use Rattle.std.proofs.Common.{◌≡◌, ℕ, ◌%◌, ◌<◌, ◌==◌, ◌||◌, ◌&&◌, nat_le, inl, inr, true, not, sym, ap, ◌∙◌, subst, arith}
-use Rattle.ell_word.specs.Node.{IsInternal, card, internal, left_leaf, right_leaf}
+use Rattle.ell_word.specs.Node.{card, internal, left_leaf, right_leaf}
 use Rattle.ell_core.specs.declared.fact.Fact.TheVariants as fact
 use Rattle.ell_layout.specs.Words.{Words}
 use Rattle.ell_layout.specs.Cards.{is_replace_card, brought_by, brought}
@@ -8,6 +8,7 @@ use Rattle.ell_core.specs.history.Invariant.{insert_side, InsertCard, WordsAreSo
 use Rattle.ell_core.specs.history.Later.{WordsLater, StagesLater}
 use Rattle.ell_core.specs.statements.Since.{has_ended}
 use Rattle.ell_core.proofs.lemmas.stages.Order.{insert-claimed, changed-insert, insert_over-changed, over-delete, backed-delete, changed_nodes}
+use Rattle.ell_core.proofs.lemmas.stages.Below.{keeps_later}
 use Rattle.ell_core.proofs.lemmas.stages.Ended.{ended_cases, ends_last}
 use Rattle.ell_grace.specs.Dead.{IsUnused, NeverComes}
 use Rattle.ell_grace.proofs.lemmas.outs.Taken.{born_low}
@@ -75,7 +76,7 @@ module _ (old : Words) (stage : Stages) (sound : WordsAreSound old stage) (new :
   unused_on x h =
       let low = changed_low (card x) h.0 in (
         later.told (fact.IChanged (card x)) (card x) h.0,
-        subst IsInternal (sym (words.info (card x) low).l) h.1,
+        keeps_later old new words (card x) low ∙ h.1,
         h.2,
         words.key x low ∙ (h.3 ∙ sym (lower_key (card x) h.0)),
       )
@@ -86,7 +87,7 @@ module _ (old : Words) (stage : Stages) (sound : WordsAreSound old stage) (new :
       let changed = born-changed (stage (card x)) (after (card x)) (x % 4) (later.start (card x)) born h.0 in
       let low = changed_low (card x) changed in (
         changed,
-        subst IsInternal (words.info (card x) low).l h.1,
+        sym (keeps_later old new words (card x) low) ∙ h.1,
         h.2,
         sym (words.key x low) ∙ (h.3 ∙ lower_key (card x) changed),
       )

@@ -1,6 +1,6 @@
 -- Each leaf that is used is a child of an internal node that is not taken out, or was taken out.
 use Rattle.std.proofs.Common.{◌≡◌, ◌≢◌, ℕ, ◌%◌, ◌<◌, ◌≤◌, ◌==◌, ◌||◌, ◌&&◌, ◌++◌, nat_le, List, [], ◌∷◌, eq-eqb, if◌then◌else◌, ◌⊎◌, inl, inr, Bool, true, false, not, Some, refl, sym, ap, ◌∙◌, subst, arith, eqb-true}
-use Rattle.std.proofs.lemmas.Bool.{cases_eq}
+use Rattle.std.proofs.lemmas.Bool.{cases_eq, cases_Bool}
 use Rattle.std.proofs.lemmas.Bool.Decides.{nat_tests}
 use Rattle.ell_word.specs.Node.{IsInternal, card, internal, left_leaf, right_leaf}
 use Rattle.ell_core.specs.declared.exchange.Exchange.{Exchange}
@@ -8,8 +8,8 @@ use Rattle.ell_core.specs.declared.exchange.Exchange.TheVariants as exchange
 use Rattle.ell_core.specs.declared.event.Act.{Act}
 use Rattle.ell_core.specs.declared.event.Act.TheVariants as act
 use Rattle.ell_core.specs.declared.event.Stepped.{Stepped}
-use Rattle.ell_layout.specs.Words.{Words, IsLeaf}
-use Rattle.ell_layout.specs.Cards.{is_replace_card, brought, brought_by, sibling, iflag, dflag, marked}
+use Rattle.ell_layout.specs.Words.{Words, IsLeaf, is_flat}
+use Rattle.ell_layout.specs.Cards.{is_replace_card, keeps_below, stays_below, brought, brought_by, sibling, iflag, dflag, marked}
 use Rattle.ell_core.specs.state.Machine.{Machine, Scene, scene, with_scene}
 use Rattle.ell_core.specs.acts.Events.{Row}
 use Rattle.ell_core.specs.acts.Wins.{win_for, wins_by}
@@ -25,7 +25,8 @@ use Rattle.ell_core.proofs.lemmas.tree.Reached.{Spans-reached}
 use Rattle.ell_core.proofs.lemmas.stages.Order.{insert-claimed, delete-claimed, changed-insert, cut-delete, one_kind, all-born, changed_nodes}
 use Rattle.ell_core.proofs.lemmas.stages.Sums.{child_changes, sum_append, sum_by, sum_same, changed-sum, sum-changed}
 use Rattle.ell_core.proofs.lemmas.following.Children.{row_children}
-use Rattle.ell_core.proofs.lemmas.keeping.insert_child.Nodes.{leaf_on, child_is}
+use Rattle.ell_core.proofs.lemmas.stages.Below.{goes-leaf, keeps-two, keeps-stays, keeps_later}
+use Rattle.ell_core.proofs.lemmas.keeping.insert_child.Nodes.{leaf_on, child_is, its_keys, below_child}
 use Rattle.ell_core.proofs.lemmas.keeping.insert_child.Card.{ichild_words, its_card, its_flag, its_child, parent_in, not_born}
 use Rattle.ell_core.proofs.lemmas.keeping.insert_child.IChild.{won_waiting}
 use Rattle.ell_core.proofs.lemmas.keeping.delete_child.DChild.{dchild-won}
@@ -148,11 +149,18 @@ module _ (m : Machine) (stage : Stages) (i : ℕ) (c : ℕ) (said : Stepped) (be
   i_keeps : (y : ℕ) → IsInternal y → (d : ℕ) → acted (stage d) ≡ 0 → ¬ TakesOut becomes.words follows.stages d y
   i_keeps y inner d zero takes =
       let it = i_leaf m stage i c said becomes invariant row follows outs flagged d y (i_only d zero (takes-acted becomes.words follows.stages d y takes)) takes in
-      it.1 (subst IsInternal (sym it.0) inner)
+      goes-leaf m.words stage invariant.words c (its_card m.words stage invariant.words c flagged) it.1 (subst IsInternal (sym it.0) inner)
 
   -- the parent of the card was in the tree
   parent_stays : (d : ℕ) → ¬ TakesOut m.words stage d (m.words.p c)
   parent_stays d takes = outs.out d (m.words.p c) takes (Spans-reached m.words (parent_in m.words stage invariant.words c flagged).spans)
+
+  -- the card's node has the children that it had
+  its_kid : (right : Bool) → becomes.words.child (internal c) right ≡ m.words.child (internal c) right
+  its_kid right = ap (λ (n : Words). n.child (internal c) right) i_words ∙ elim (child_elsewhere m.words (m.words.p c) (brought m.words c) (insert_side m.words c) (internal c) right) [
+    | inl e ↦ absurd (not_born m.words stage invariant.words c flagged (m.words.p c) (omega (arith, e.0)) (its_card m.words stage invariant.words c flagged).parent.born)
+    | inr e ↦ e
+  ]
 
   -- a leaf of the card that comes and is used stands under its parent, if it replaces a leaf, or under its own node
   own_leaf_kept : (x : ℕ) → card x ≡ c → IsLeaf x → Born follows.stages x → ¬ IsUnused becomes.words follows.stages x → is_changed (follows.stages c) ≡ true
@@ -189,12 +197,6 @@ module _ (m : Machine) (stage : Stages) (i : ℕ) (c : ℕ) (said : Stepped) (be
           at : (x c : ℕ) → card x ≡ c → x % 4 ≡ 2 → right_leaf c ≡ x
           at x c on place = omega (arith, on, place)
 
-      kid : (right : Bool) → becomes.words.child (internal c) right ≡ m.words.child (internal c) right
-      kid right = ap (λ (n : Words). n.child (internal c) right) i_words ∙ elim (child_elsewhere m.words (m.words.p c) (brought m.words c) (insert_side m.words c) (internal c) right) [
-        | inl e ↦ absurd (not_born m.words stage invariant.words c flagged (m.words.p c) (omega (arith, e.0)) (its_card m.words stage invariant.words c flagged).parent.born)
-        | inr e ↦ e
-      ]
-
       -- it is the one on a side
       on_side : (two : is_replace_card m.words c ≡ false) (right : Bool) → leaf_on m.words stage invariant.words c flagged two right ≡ x → IsChildStill becomes.words follows.stages x
       on_side two right is = elim (child_is m.words stage invariant.words c flagged two right) [
@@ -208,19 +210,19 @@ module _ (m : Machine) (stage : Stages) (i : ℕ) (c : ℕ) (said : Stepped) (be
                 (taken_born m.words stage invariant.words d (internal c) (had_taken m stage i (act.IChild c) said becomes invariant row follows outs d (internal c) some takes))
           ];
           right = right;
-          child = kid right ∙ (e ∙ is);
+          child = its_kid right ∙ (e ∙ is);
         }
         | inr h ↦ absurd (used (unused h.1 h.2))
       ]
         where
-          -- else it has the key of the internal node above which the card goes
-          unused : IsInternal (m.words.l c) → m.words.key (m.words.l c) ≡ m.words.key (leaf_on m.words stage invariant.words c flagged two right) → IsUnused becomes.words follows.stages x
-          unused inner key =
+          -- else it has the key of the node above which the card goes
+          unused : stays_below (is_flat m.words) (m.words.l c) ≡ true → m.words.key (m.words.l c) ≡ m.words.key (leaf_on m.words stage invariant.words c flagged two right) → IsUnused becomes.words follows.stages x
+          unused kept key =
               let goes = follows.words.info c i_low in
               let lower = (its_card m.words stage invariant.words c flagged).lower in
               let low_x : card x < m.words.next = subst (λ n. n < m.words.next) (sym on) i_low in (
                 subst (λ n. is_changed (follows.stages n) ≡ true) (sym on) changed,
-                subst IsInternal (sym (ap becomes.words.l on ∙ goes.l)) inner,
+                ap (keeps_below becomes.words) on ∙ (keeps_later m.words becomes.words follows.words c i_low ∙ (keeps-stays m.words c two ∙ kept)),
                 outer,
                 follows.words.key x low_x ∙ (ap m.words.key (sym is) ∙ (sym key ∙ (sym (follows.words.key (m.words.l c) (born_low m.words stage invariant.words (m.words.l c) lower))
                     ∙ ap becomes.words.key (sym (ap becomes.words.l on ∙ goes.l))))),
@@ -251,14 +253,48 @@ module _ (m : Machine) (stage : Stages) (i : ℕ) (c : ℕ) (said : Stepped) (be
     | inr cuts ↦ absurd (one_kind (follows.stages c) (follows.later.insert c (ap is_insert flagged)) (cut-delete (follows.stages c) cuts))
   ]
 
+  its_own_born : is_replace_card m.words c ≡ false → Born follows.stages (internal c)
+  its_own_born two = all-born (follows.stages (card (internal c))) (internal c % 4) (omega arith) (subst (λ n. is_born (follows.stages n) ≡ true) (omega arith)
+      ((follows.invariant.words.inserts c).brings changed_now
+      ∙ ap not (replace_same m.words stage invariant.words becomes.words follows.stages follows.invariant.words follows.words follows.later c i_low ∙ two)))
+
+  -- the node above which it goes stands below the card's own node, if it stays
+  stays_lower : keeps_below m.words c ≡ true → IsChildStill becomes.words follows.stages (m.words.l c)
+  stays_lower keeps = elim (its_keys m.words stage invariant.words c flagged two) [
+    | inl h ↦ at false (below_child m.words stage invariant.words c flagged two kept true h.1 h.0)
+    | inr h ↦ at true (below_child m.words stage invariant.words c flagged two kept false h.0 h.1)
+  ]
+    where
+      two : is_replace_card m.words c ≡ false
+      two = keeps-two m.words c keeps
+
+      kept : stays_below (is_flat m.words) (m.words.l c) ≡ true
+      kept = sym (keeps-stays m.words c two) ∙ keeps
+
+      at : (right : Bool) → m.words.child (internal c) right ≡ m.words.l c → IsChildStill becomes.words follows.stages (m.words.l c)
+      at right is = record {
+        parent = internal c;
+        inner = omega arith;
+        born = its_own_born two;
+        still = λ d takes. elim (zero_or_more (acted (stage d))) [
+          | inl zero ↦ i_keeps (internal c) (omega arith) d zero takes
+          | inr some ↦ not_born m.words stage invariant.words c flagged (internal c) (omega arith)
+              (taken_born m.words stage invariant.words d (internal c) (had_taken m stage i (act.IChild c) said becomes invariant row follows outs d (internal c) some takes))
+        ];
+        right = right;
+        child = its_kid right ∙ is;
+      }
+
   pub ichild_kept : LeavesAreKept m.words stage → LeavesAreKept becomes.words follows.stages
   ichild_kept = kept_from m stage i (act.IChild c) said becomes invariant row follows outs (record {
     moves = λ x outer h. elim (child_elsewhere m.words (m.words.p c) (brought m.words c) (insert_side m.words c) h.parent h.right) [
       | inl e ↦
           let at : m.words.l c ≡ x = sym (its_child m.words stage invariant.words c flagged)
           ∙ (ap (m.words.child (m.words.p c)) (sym e.1) ∙ (ap (λ y. m.words.child y h.right) (sym e.0) ∙ h.child)) in
-          let same = (follows.words.info c i_low).l in
-          inr (c, inl (changed_now, subst IsLeaf (sym (same ∙ at)) outer, same ∙ at))
+          elim (cases_Bool (keeps_below m.words c)) [
+            | inr goes ↦ inr (c, inl (changed_now, keeps_later m.words becomes.words follows.words c i_low ∙ goes, (follows.words.info c i_low).l ∙ at))
+            | inl keeps ↦ inl (subst (IsChildStill becomes.words follows.stages) at (stays_lower keeps))
+          ]
       | inr e ↦ inl (stays_child m stage i (act.IChild c) said becomes invariant row follows outs x h (ap (λ (n : Words). n.child h.parent h.right) i_words ∙ e)
           (λ d zero. i_keeps h.parent h.inner d zero))
     ];

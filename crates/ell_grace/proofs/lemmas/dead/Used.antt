@@ -5,8 +5,8 @@ use Rattle.ell_core.specs.declared.event.Act.{Act}
 use Rattle.ell_core.specs.declared.event.Stepped.{Stepped}
 use Rattle.ell_core.specs.declared.fact.Fact.TheVariants as fact
 use Rattle.ell_layout.specs.declared.field.Field.TheVariants.{Left, Right}
-use Rattle.ell_layout.specs.Words.{Words}
-use Rattle.ell_layout.specs.Cards.{iflag, is_replace_card, brought}
+use Rattle.ell_layout.specs.Words.{Words, is_flat}
+use Rattle.ell_layout.specs.Cards.{iflag, is_replace_card, brought, keeps_below, stays_below}
 use Rattle.ell_core.specs.state.Machine.{Machine, Scene, scene, with_scene}
 use Rattle.ell_core.specs.acts.Events.{Row}
 use Rattle.ell_core.specs.history.Stages.{Stage, Stages, IFlagged, Born, is_start, is_insert, is_born, insert_open, insert_over, is_changed}
@@ -16,6 +16,8 @@ use Rattle.ell_grace.specs.Gone.{TakesOut, OutsAreSound}
 use Rattle.ell_grace.specs.Dead.{IsUnused, LeavesAreKept, UsesAreSound}
 use Rattle.ell_core.proofs.lemmas.stages.Order.{insert-claimed, insert_won-insert, changed-won, changed-insert, cut-delete, inner-born, all-born, one_kind, waits_or_changed}
 use Rattle.ell_core.proofs.lemmas.stages.Sums.{sum-changed}
+use Rattle.ell_core.proofs.lemmas.stages.Below.{keeps-stays, keeps_later}
+use Rattle.ell_core.proofs.lemmas.keeping.insert_child.Card.{its_card, its_child}
 use Rattle.ell_core.proofs.lemmas.keeping.insert_child.Nodes.{leaf_on, its_keys, key_differs, child_is, below_child}
 use Rattle.ell_grace.proofs.lemmas.outs.Taken.{zero_or_more, acted, taken_born, born_low}
 use Rattle.ell_grace.proofs.lemmas.outs.Newly.{had_taken}
@@ -93,15 +95,15 @@ module _ (m : Machine) (stage : Stages) (i : ℕ) (a : Act) (said : Stepped) (be
   ]
 
   -- a leaf of such a card that nobody uses is no child of its internal node
-  new_leaf : (c : ℕ) (flagged : stage c ≡ IFlagged) (two : is_replace_card old c ≡ false) (right : Bool) → IsInternal (old.l c)
+  new_leaf : (c : ℕ) (flagged : stage c ≡ IFlagged) (two : is_replace_card old c ≡ false) (right : Bool) → stays_below (is_flat old) (old.l c) ≡ true
       → old.key (leaf_on old stage invariant.words c flagged two right) ≡ old.key (old.l c) → old.child (internal c) right ≡ old.l c
-  new_leaf c flagged two false inner same = elim (its_keys old stage invariant.words c flagged two) [
-    | inl h ↦ below_child old stage invariant.words c flagged two inner true h.1 h.0
+  new_leaf c flagged two false kept same = elim (its_keys old stage invariant.words c flagged two) [
+    | inl h ↦ below_child old stage invariant.words c flagged two kept true h.1 h.0
     | inr h ↦ absurd (key_differs old stage invariant.words c flagged two (sym same ∙ h.0))
   ]
-  new_leaf c flagged two true inner same = elim (its_keys old stage invariant.words c flagged two) [
+  new_leaf c flagged two true kept same = elim (its_keys old stage invariant.words c flagged two) [
     | inl h ↦ absurd (key_differs old stage invariant.words c flagged two (sym same ∙ h.1))
-    | inr h ↦ below_child old stage invariant.words c flagged two inner false h.0 h.1
+    | inr h ↦ below_child old stage invariant.words c flagged two kept false h.0 h.1
   ]
 
   -- the children of an internal node that comes into the tree are used
@@ -114,22 +116,30 @@ module _ (m : Machine) (stage : Stages) (i : ℕ) (a : Act) (said : Stepped) (be
       let same : new.child (internal c) right ≡ old.child (internal c) right = kid right (follows.unborn c low none) in
       let free = subst (IsUnused new stages) same unused in
       elim (child_is old stage invariant.words c flagged two right) [
-        | inr h ↦ free.2 (subst IsInternal (sym h.0) h.1)
+        | inr h ↦ uses.used (old.p c) (its_card old stage invariant.words c flagged).parent.inner (its_card old stage invariant.words c flagged).parent.born (insert_side old c)
+            (subst (IsUnused old stage) (sym (its_child old stage invariant.words c flagged))
+            (back (old.l c) (its_card old stage invariant.words c flagged).lower (subst (IsUnused new stages) h.0 free)))
         | inl e ↦
             let at = subst (IsUnused new stages) e free in
             let on : card (leaf_on old stage invariant.words c flagged two right) ≡ c = of_card right in
             let goes = follows.words.info c low in
             let lower = ((invariant.words.cards c).insert (ap is_insert flagged)).lower in
-            let inner : IsInternal (old.l c) = subst IsInternal (ap new.l on ∙ goes.l) at.1 in
+            let kept : stays_below (is_flat old) (old.l c) ≡ true =
+            sym (keeps-stays old c two) ∙ (sym (keeps_later old new follows.words c low) ∙ (ap (keeps_below new) (sym on) ∙ at.1)) in
             let key : old.key (leaf_on old stage invariant.words c flagged two right) ≡ old.key (old.l c) =
             sym (follows.words.key (leaf_on old stage invariant.words c flagged two right) (subst (λ n. n < old.next) (sym on) low))
             ∙ (at.3 ∙ (ap new.key (ap new.l on ∙ goes.l) ∙ follows.words.key (old.l c) (born_low old stage invariant.words (old.l c) lower))) in
-            free.2 (subst IsInternal (sym (new_leaf c flagged two right inner key)) inner)
+            let there = new_leaf c flagged two right kept key in
+            past right (sym e ∙ there)
       ]
     where
       kid : (side : Bool) → SaysTheSame old new c → new.child (internal c) side ≡ old.child (internal c) side
       kid false says = says.words Left
       kid true says = says.words Right
+
+      past : (side : Bool) → (if side then right_leaf c else left_leaf c) ≡ old.l c → ⊥
+      past false is = let before = (its_card old stage invariant.words c (new_card c born none).0).before in omega arith
+      past true is = let before = (its_card old stage invariant.words c (new_card c born none).0).before in omega arith
 
       of_card : (side : Bool) → card (if side then right_leaf c else left_leaf c) ≡ c
       of_card false = omega arith

@@ -153,11 +153,11 @@ p5 = goes_down m4 0 (Insert 6 60) (record { node = 4; word = 3; tag = 0 }) 5 p4 
 
 -- it claims a card
 abbrev m6 : Machine
-m6 = with_scene m5 0 (claims (scene m5 0) 0 (put_filling 2 6 60 6 4 5 5 50))
+m6 = with_scene m5 0 (claims (scene m5 0) 0 (put_filling true 2 6 60 6 4 5 5 50))
 
 p6 : IsPassed m6
 unfolding descend
-p6 = on m5 0 act.Claim Moved (claims (scene m5 0) 0 (put_filling 2 6 60 6 4 5 5 50)) p5 there0 (λ h. h)
+p6 = on m5 0 act.Claim Moved (claims (scene m5 0) 0 (put_filling true 2 6 60 6 4 5 5 50)) p5 there0 (λ h. h)
     (inl (record {
       op = Insert 6 60;
       what = record { key = 6; value = 60; was = None };
@@ -169,7 +169,7 @@ p6 = on m5 0 act.Claim Moved (claims (scene m5 0) 0 (put_filling 2 6 60 6 4 5 5 
       ready = inl refl;
       at = record { stands = refl; behind = refl; calm = refl };
       takes = record { leaf = λ outer e. (let h : 5 ≡ 6 = e in omega arith); edge = λ inner. (let h : 5 % 4 ≡ 0 = inner in absurd (omega arith)) };
-      fits = λ none. no_block m5.words 4 6 (none_before 2 4 (omega arith));
+      fits = λ none. no_block m5.words 4 6 (none_before 2 4 refl (omega arith));
       named = first_key;
       says = refl;
       gives = refl;
@@ -255,11 +255,11 @@ p14 = goes_down m13 1 (Insert 9 90) (record { node = 4; word = 11; tag = 1 }) 8 
 
 -- it claims a card
 abbrev m15 : Machine
-m15 = with_scene m14 1 (claims (scene m14 1) 1 (put_filling 3 9 90 8 4 8 6 0))
+m15 = with_scene m14 1 (claims (scene m14 1) 1 (put_filling true 3 9 90 8 4 8 6 0))
 
 p15 : IsPassed m15
 unfolding descend
-p15 = on m14 1 act.Claim Moved (claims (scene m14 1) 1 (put_filling 3 9 90 8 4 8 6 0)) p14 there1 (λ h. h)
+p15 = on m14 1 act.Claim Moved (claims (scene m14 1) 1 (put_filling true 3 9 90 8 4 8 6 0)) p14 there1 (λ h. h)
     (inl (record {
       op = Insert 9 90;
       what = record { key = 9; value = 90; was = None };
@@ -271,7 +271,7 @@ p15 = on m14 1 act.Claim Moved (claims (scene m14 1) 1 (put_filling 3 9 90 8 4 8
       ready = inl refl;
       at = record { stands = refl; behind = refl; calm = refl };
       takes = record { leaf = λ outer. absurd (outer refl); edge = λ inner. (refl, lacks m14.words refl refl) };
-      fits = λ none. no_block m14.words 4 9 (none_before 2 4 (omega arith));
+      fits = λ none. no_block m14.words 4 9 (none_before 2 4 refl (omega arith));
       named = second_key;
       says = refl;
       gives = refl;
@@ -371,29 +371,29 @@ p25 : IsPassed m25
 unfolding descend
 p25 = reads m24 2 8 3 None p24 there2 refl refl refl refl refl
 
--- it goes down to node 9
+-- it goes down to node 5
 abbrev m26 : Machine
-m26 = with_scene m25 2 (down_scene m25 2 (record { node = 8; word = 3; tag = 0 }) 9)
+m26 = with_scene m25 2 (down_scene m25 2 (record { node = 8; word = 3; tag = 0 }) 5)
 
 p26 : IsPassed m26
 unfolding descend
-p26 = goes_down m25 2 (Delete 5) (record { node = 8; word = 3; tag = 0 }) 9 p25 there2 refl refl refl refl refl refl refl
+p26 = goes_down m25 2 (Delete 5) (record { node = 8; word = 3; tag = 0 }) 5 p25 there2 refl refl refl refl refl refl refl
 
 -- it claims a card
 abbrev m27 : Machine
-m27 = with_scene m26 2 (claims (scene m26 2) 0 (delete_filling 12 8 9 3))
+m27 = with_scene m26 2 (claims (scene m26 2) 0 (delete_filling 12 8 5 3))
 
 p27 : IsPassed m27
 unfolding descend
-p27 = on m26 2 act.Claim Moved (claims (scene m26 2) 0 (delete_filling 12 8 9 3)) p26 there2 (λ h. h)
+p27 = on m26 2 act.Claim Moved (claims (scene m26 2) 0 (delete_filling 12 8 5 3)) p26 there2 (λ h. h)
     (inr (record {
       key = 5;
-      leaf = 9;
+      leaf = 5;
       parent = (record { node = 8; word = 3; tag = 0 });
       grandparent = (record { node = 12; word = 3; tag = 0 });
       deletes = refl;
       ready = inl refl;
-      at = record { stands = refl; outer = λ e. (let h : 9 % 4 ≡ 0 = e in absurd (omega arith)); behind = refl; calm = refl };
+      at = record { stands = refl; outer = λ e. (let h : 5 % 4 ≡ 0 = e in absurd (omega arith)); behind = refl; calm = refl };
       present = refl;
       above = refl;
       calm = refl;

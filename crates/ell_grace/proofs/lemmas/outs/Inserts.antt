@@ -5,7 +5,7 @@ use Rattle.ell_core.specs.declared.exchange.Exchange.TheVariants as exchange
 use Rattle.ell_core.specs.declared.event.Act.TheVariants as act
 use Rattle.ell_core.specs.declared.event.Stepped.{Stepped}
 use Rattle.ell_layout.specs.Words.{Words, IsLeaf}
-use Rattle.ell_layout.specs.Cards.{iflag, dflag, marked, is_replace_card, brought}
+use Rattle.ell_layout.specs.Cards.{iflag, dflag, marked, is_replace_card, brought, keeps_below}
 use Rattle.ell_core.specs.state.Machine.{Machine, Scene, scene, with_scene}
 use Rattle.ell_core.specs.acts.Events.{Row}
 use Rattle.ell_core.specs.acts.Wins.{win_for, wins_by}
@@ -18,6 +18,7 @@ use Rattle.ell_core.proofs.lemmas.words.Later.{child_there, child_elsewhere}
 use Rattle.ell_core.proofs.lemmas.tree.Paths.{Reached-child}
 use Rattle.ell_core.proofs.lemmas.tree.Reached.{Spans-reached}
 use Rattle.ell_core.proofs.lemmas.tree.Lawful.{one_leaf}
+use Rattle.ell_core.proofs.lemmas.stages.Below.{goes-leaf, keeps-stays, keeps_later}
 use Rattle.ell_core.proofs.lemmas.stages.Order.{cut-delete, cut-marked, insert-claimed, one_kind}
 use Rattle.ell_core.proofs.lemmas.keeping.insert_child.Nodes.{own_child, leaf_on}
 use Rattle.ell_core.proofs.lemmas.keeping.insert_child.Card.{ichild_words, its_card, its_flag, its_child, no_mark, parent_in, not_born}
@@ -54,8 +55,11 @@ module _ (w : Words) (stage : Stages) (sound : WordsAreSound w stage) (c : ℕ) 
     | inr e ↦ e
   ]
 
-  -- where it goes to a leaf
-  module _ (lower : IsLeaf (w.l c)) where
+  -- where the node above which it goes does not stay
+  module _ (goes : keeps_below w c ≡ false) where
+    lower : IsLeaf (w.l c)
+    lower = goes-leaf w stage sound c (its_card w stage sound c flagged) goes
+
     -- two leaves of one key
     clash : (y : ℕ) → Reached after (w.l c) → Reached after y → IsLeaf y → internal c < y → w.key y ≡ w.key (w.l c) → ⊥
     clash y there reached outer above same =
@@ -68,7 +72,7 @@ module _ (w : Words) (stage : Stages) (sound : WordsAreSound w stage) (c : ℕ) 
     own_reached : (two : is_replace_card w c ≡ false) (right : Bool) → Reached after (internal c)
         → Reached after (leaf_on w stage sound c flagged two right)
     own_reached two right reached =
-        subst (Reached after) (kid right ∙ own_child w stage sound c flagged two lower right)
+        subst (Reached after) (kid right ∙ own_child w stage sound c flagged two (sym (keeps-stays w c two) ∙ goes) right)
         (Reached-child after (internal c) right reached (omega arith))
 
     -- the leaf is not in the tree any more
@@ -111,8 +115,9 @@ module _ (m : Machine) (stage : Stages) (i : ℕ) (c : ℕ) (said : Stepped) (be
   i_sound = subst (λ (n : Words). WordsAreSound n follows.stages) i_words follows.invariant.words
 
   -- the leaf is what it has taken
-  pub i_leaf : (d x : ℕ) → d ≡ c → TakesOut becomes.words follows.stages d x → (m.words.l c ≡ x) × IsLeaf (m.words.l c)
-  i_leaf d x e (inl h) = (sym (follows.words.info c i_low).l ∙ (ap becomes.words.l (sym e) ∙ h.2), subst IsLeaf (ap becomes.words.l e ∙ (follows.words.info c i_low).l) h.1)
+  pub i_leaf : (d x : ℕ) → d ≡ c → TakesOut becomes.words follows.stages d x → (m.words.l c ≡ x) × (keeps_below m.words c ≡ false)
+  i_leaf d x e (inl h) = (sym (follows.words.info c i_low).l ∙ (ap becomes.words.l (sym e) ∙ h.2),
+      sym (keeps_later m.words becomes.words follows.words c i_low) ∙ (ap (keeps_below becomes.words) (sym e) ∙ h.1))
   i_leaf d x e (inr h) = absurd (one_kind (follows.stages c) i_insert (cut-delete (follows.stages c) (subst (λ n. is_cut (follows.stages n) ≡ true) e h.0)))
 
   -- a node with another word has its children

@@ -4,7 +4,7 @@ use Rattle.ell_core.specs.declared.event.Act.TheVariants as act
 use Rattle.ell_core.specs.declared.event.Stepped.{Stepped}
 use Rattle.ell_core.specs.declared.fact.Fact.TheVariants.{Marked}
 use Rattle.ell_layout.specs.declared.field.Field.{Field}
-use Rattle.ell_layout.specs.Words.{Words}
+use Rattle.ell_layout.specs.Words.{Words, is_flat}
 use Rattle.ell_layout.specs.Cards.{sibling, claimed, put_filling, value_below, delete_filling}
 use Rattle.ell_core.specs.state.Machine.{Machine, Scene, scene}
 use Rattle.ell_core.specs.acts.Searching.{claims}
@@ -57,7 +57,7 @@ module _ (m : Machine) (stage : Stages) (i : ℕ) (said : Stepped) (becomes : Sc
   pub out_by : (a : Act) → Row a (scene m i) said becomes → (x : ℕ) → Born stage x → IsOut m.words x → IsOut becomes.words x
   out_by act.Claim (inl row) x born out =
       out_claim row.parent.tag
-      (put_filling m.words.next row.what.key row.what.value row.node_key row.parent.node row.below (m.words.key row.below) (value_below m.words row.below))
+      (put_filling (is_flat m.words) m.words.next row.what.key row.what.value row.node_key row.parent.node row.below (m.words.key row.below) (value_below m.words row.below))
       row.gives x out
   out_by act.Claim (inr row) x born out =
       out_claim row.grandparent.tag (delete_filling row.grandparent.node row.parent.node row.leaf row.parent.word) row.gives x out

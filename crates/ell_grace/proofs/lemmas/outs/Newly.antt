@@ -4,7 +4,7 @@ use Rattle.ell_core.specs.declared.exchange.Exchange.{Exchange}
 use Rattle.ell_core.specs.declared.event.Act.{Act}
 use Rattle.ell_core.specs.declared.event.Stepped.{Stepped}
 use Rattle.ell_core.specs.declared.fact.Fact.TheVariants.{DOver}
-use Rattle.ell_layout.specs.Words.{Words, IsLeaf}
+use Rattle.ell_layout.specs.Words.{Words}
 use Rattle.ell_layout.specs.Cards.{sibling}
 use Rattle.ell_core.specs.state.Machine.{Machine, Scene, scene, with_scene}
 use Rattle.ell_core.specs.acts.Events.{Row}
@@ -16,6 +16,7 @@ use Rattle.ell_core.specs.history.Later.{Follows}
 use Rattle.ell_grace.specs.Gone.{TakesOut, OutsAreSound}
 use Rattle.ell_core.proofs.lemmas.tree.Reached.{Spans-reached, not_out}
 use Rattle.ell_core.proofs.lemmas.stages.Order.{changed-insert, cut-delete, one_kind}
+use Rattle.ell_core.proofs.lemmas.stages.Below.{keeps_later}
 use Rattle.ell_core.proofs.lemmas.stages.Sums.{child_changes, sum_by, cut-sum, sum-changed, sum_same}
 use Rattle.ell_core.proofs.lemmas.following.Children.{row_children}
 use Rattle.ell_grace.proofs.lemmas.outs.Taken.{over_or_open, over_shut, zero_or_more, acted, takes-acted, acted_claimed, taken_born, born_low}
@@ -64,7 +65,7 @@ module _ (m : Machine) (stage : Stages) (i : ℕ) (a : Act) (said : Stepped) (be
       let info = follows.words.info c (acted_claimed old stage invariant.words c some) in
       elim (sum-changed (stage c) some) [
         | inl changed ↦ elim takes [
-          | inl h ↦ inl (changed, subst IsLeaf info.l h.1, sym info.l ∙ h.2)
+          | inl h ↦ inl (changed, sym (keeps_later old new follows.words c (acted_claimed old stage invariant.words c some)) ∙ h.1, sym info.l ∙ h.2)
           | inr h ↦ absurd (still_insert c changed h.0)
         ]
         | inr cut ↦ elim takes [

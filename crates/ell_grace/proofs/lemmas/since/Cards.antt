@@ -2,7 +2,7 @@ use Rattle.std.proofs.Common.{◌≡◌, ℕ, ◌≤◌, ◌⊎◌, inl, inr, Bo
 use Rattle.std.proofs.lemmas.Bool.{cases_Bool, false≢true}
 use Rattle.ell_core.specs.declared.event.Event.{Event}
 use Rattle.ell_core.specs.declared.event.Stepped.{Stepped}
-use Rattle.ell_layout.specs.Words.{IsLeaf}
+use Rattle.ell_layout.specs.Cards.{keeps_below}
 use Rattle.ell_core.specs.state.Machine.{Machine}
 use Rattle.ell_core.specs.acts.Events.{Steps}
 use Rattle.ell_core.specs.acts.Wins.{wins_by}
@@ -13,6 +13,7 @@ use Rattle.ell_core.specs.statements.Since.{has_ended}
 use Rattle.ell_grace.specs.Gone.{IsGone, OutsAreSound}
 use Rattle.ell_grace.specs.Cards.{CardsSince}
 use Rattle.ell_core.proofs.lemmas.stages.Order.{insert-claimed, delete-claimed, insert_won-insert, delete_won-delete, marked-delete, waits_or_changed}
+use Rattle.ell_core.proofs.lemmas.stages.Below.{keeps_later}
 use Rattle.ell_core.proofs.lemmas.stages.Sums.{sum_by}
 use Rattle.ell_core.proofs.lemmas.runs.Chains.{words_later, stages_later}
 use Rattle.ell_grace.proofs.lemmas.outs.Events.{outs_go_on}
@@ -26,7 +27,7 @@ pub cards_begin : (m : Machine) (stage : Stages) → Invariant m stage → OutsA
 cards_begin m stage invariant outs = record {
   insert = λ c won un. insert_parent m.words stage invariant.words outs c won un;
   lower = λ c won un is. elim is [
-    | inl outer ↦ insert_leaf m.words stage invariant.words outs c won un outer
+    | inl goes ↦ insert_leaf m.words stage invariant.words outs c won un goes
     | inr waits ↦ elim (waits_or_changed (stage c) won) [
       | inl at ↦ insert_waiting m.words stage invariant.words outs c at
       | inr changed ↦ absurd (false≢true (sym waits ∙ changed))
@@ -72,15 +73,18 @@ module _ (m : Machine) (stage : Stages) (old : Machine) (before : Stages) (e : E
 
   -- the node where an insert goes
   lower_had : (c : ℕ) → insert_won (after c) ≡ true → 2 ≤ much (after c) → has_ended (stage c) ≡ false
-      → IsLeaf (new.words.l c) ⊎ (is_changed (stage c) ≡ false) → ¬ IsGone m.words stage (new.words.l c)
+      → (keeps_below new.words c ≡ false) ⊎ (is_changed (stage c) ≡ false) → ¬ IsGone m.words stage (new.words.l c)
   lower_had c won two un is =
       let was = insert_was before after c _ (follows.wins c) (few c) follows.later two won in
       let info = insert_info c was in
       subst (λ n. ¬ IsGone m.words stage n) (sym info.l)
-      (since.lower c was un (elim is [ inl outer ↦ inl (subst IsLeaf info.l outer) | inr waits ↦ inr waits ]))
+      (since.lower c was un (elim is [
+        | inl goes ↦ inl (sym (keeps_later old.words new.words follows.words c ((invariant.words.cards c).claimed.0 (insert-claimed (before c) (insert_won-insert (before c) was)))) ∙ goes)
+        | inr waits ↦ inr waits
+      ]))
 
   lower_on : (c : ℕ) → insert_won (after c) ≡ true → has_ended (stage c) ≡ false
-      → IsLeaf (new.words.l c) ⊎ (is_changed (stage c) ≡ false) → ¬ IsGone m.words stage (new.words.l c)
+      → (keeps_below new.words c ≡ false) ⊎ (is_changed (stage c) ≡ false) → ¬ IsGone m.words stage (new.words.l c)
   lower_on c won un is = elim (waits_or_changed (after c) won) [
     | inl at ↦ back (new.words.l c) (insert_waiting new.words after follows.invariant.words outs_then c at)
     | inr changed ↦ lower_had c won (changed_much (after c) changed) un is

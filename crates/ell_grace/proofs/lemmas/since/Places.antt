@@ -1,7 +1,7 @@
 use Rattle.std.proofs.Common.{◌≡◌, ℕ, ◌==◌, if◌then◌else◌, ◌⊎◌, inl, inr, Bool, true, false, refl, sym, ap, ◌∙◌, subst, arith}
 use Rattle.std.proofs.lemmas.Bool.{cases_eq, false≢true, false_from_ne_true, eq-eqb, ne_eqb}
-use Rattle.ell_layout.specs.Words.{Words, IsLeaf}
-use Rattle.ell_layout.specs.Cards.{sibling}
+use Rattle.ell_layout.specs.Words.{Words}
+use Rattle.ell_layout.specs.Cards.{keeps_below, sibling}
 use Rattle.ell_core.specs.tree.Tree.{Reached}
 use Rattle.ell_core.specs.history.Stages.{IFlagged, Stages, insert_won, delete_won, is_marked, waits}
 use Rattle.ell_core.specs.history.Invariant.{delete_side, leaf_side, insert_side, WordsAreSound}
@@ -57,11 +57,11 @@ module _ (w : Words) (stage : Stages) (sound : WordsAreSound w stage) (outs : Ou
       reached_stays (w.l c) (subst (Reached w) (its_child w stage sound c at)
       (Reached-child w (w.p c) (insert_side w c) (parent_reached c won (ap has_ended at)) card.parent.inner))
 
-  -- and if that is a leaf, then also later
-  pub insert_leaf : (c : ℕ) → insert_won (stage c) ≡ true → has_ended (stage c) ≡ false → IsLeaf (w.l c) → ¬ IsGone w stage (w.l c)
-  insert_leaf c won un lower = elim (waits_or_changed (stage c) won) [
+  -- and if that does not stay, then also later
+  pub insert_leaf : (c : ℕ) → insert_won (stage c) ≡ true → has_ended (stage c) ≡ false → keeps_below w c ≡ false → ¬ IsGone w stage (w.l c)
+  insert_leaf c won un goes = elim (waits_or_changed (stage c) won) [
     | inl at ↦ insert_waiting c at
-    | inr changed ↦ own_stays c (w.l c) (inl (changed, lower, refl)) un
+    | inr changed ↦ own_stays c (w.l c) (inl (changed, goes, refl)) un
   ]
 
   -- the grandparent of a delete that has won its flag and has not ended is in the tree

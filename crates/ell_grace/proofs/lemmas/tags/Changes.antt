@@ -9,7 +9,7 @@ use Rattle.ell_core.specs.declared.event.Event.{Event}
 use Rattle.ell_core.specs.declared.event.Stepped.{Stepped}
 use Rattle.ell_core.specs.declared.fact.Fact.TheVariants.{Marked}
 use Rattle.ell_layout.specs.declared.field.Field.{Field}
-use Rattle.ell_layout.specs.Words.{Words, with_update}
+use Rattle.ell_layout.specs.Words.{Words, with_update, is_flat}
 use Rattle.ell_layout.specs.Cards.{iflag, dflag, claimed, put_filling, value_below, delete_filling, brought, sibling}
 use Rattle.ell_core.specs.state.Machine.{Machine, Scene, scene, with_scene}
 use Rattle.ell_core.specs.acts.Exchanges.{exchanged_update}
@@ -164,7 +164,7 @@ module _ (m : Machine) (stage : Stages) (i : ℕ) (said : Stepped) (becomes : Sc
   ]
   tags_by act.Claim (inl row) follows = λ x right. inl (ap (λ (s : Scene). s.words.tag x right) row.gives
       ∙ claim_tags row.parent.tag
-      (put_filling m.words.next row.what.key row.what.value row.node_key row.parent.node row.below (m.words.key row.below) (value_below m.words row.below)) x right)
+      (put_filling (is_flat m.words) m.words.next row.what.key row.what.value row.node_key row.parent.node row.below (m.words.key row.below) (value_below m.words row.below)) x right)
   tags_by act.Claim (inr row) follows = λ x right. inl (ap (λ (s : Scene). s.words.tag x right) row.gives
       ∙ claim_tags row.grandparent.tag (delete_filling row.grandparent.node row.parent.node row.leaf row.parent.word) x right)
   tags_by (act.Begin op) row follows = quiet_steps (act.Begin op) tt row follows.stages

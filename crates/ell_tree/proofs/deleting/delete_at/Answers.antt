@@ -6,7 +6,7 @@ use Rattle.ell_cards.specs.Depths.{deepest}
 use Rattle.ell_core.specs.declared.fact.Fact.TheVariants.{DOver}
 use Rattle.ell_cards.specs.declared.view.View.{View}
 use Rattle.ell_cards.specs.LettingGo.{cut}
-use Rattle.ell_cards.specs.Models.{PassModel, flat_from, Does, Knows}
+use Rattle.ell_cards.specs.Models.{PassModel, flat_from, Does, Knows, new_node}
 use Rattle.ell_cards.proofs.lemmas.runs.Taking.{deletes_take_what_they_tell}
 use Rattle.ell_tree.specs.CardsTaken.{cards_taken, TakesNoCard}
 use Rattle.ell_tree.specs.Helps.{help_steps}
@@ -38,14 +38,14 @@ pub flag_delete-requires-clause-card : goal.flag_delete-requires-clause-card
 flag_delete-requires-clause-card g c =
     let a = c.args.pass.now in (
       c.args.key,
-      delete_card a.view c.take_card.new.pass.view c.in-Card.card 0 c.args.key c.args.place c.in-Some.above c.in-Some.is c.requires.searched.busy
+      delete_card a.view c.take_card.new.pass.view c.in-Card.card (new_node c.args.table.now.plan 0) c.args.key c.args.place c.in-Some.above c.in-Some.is c.requires.searched.busy
           c.requires.searched.ends.at c.in-Card.ensures.claims.0,
     )
 
 pub finish_own-requires-clause-grandparent : goal.finish_own-requires-clause-grandparent
 finish_own-requires-clause-grandparent g c =
     let a = c.args.pass.now in
-    let card = delete_card a.view c.take_card.new.pass.view c.in-Card.card 0 c.args.key c.args.place c.in-Some.above c.in-Some.is c.requires.searched.busy
+    let card = delete_card a.view c.take_card.new.pass.view c.in-Card.card (new_node c.args.table.now.plan 0) c.args.key c.args.place c.in-Some.above c.in-Some.is c.requires.searched.busy
     c.requires.searched.ends.at c.in-Card.ensures.claims.0 in
     told_grandparent c.take_card.new.pass.view c.flag_delete.new.pass.view c.in-Card.card c.args.place c.flag_delete.ensures.keeps.view c.args.key c.in-Some.above card
 
@@ -53,7 +53,7 @@ pub finish_own-requires-clause-parent : goal.finish_own-requires-clause-parent
 finish_own-requires-clause-parent g c =
     let a = c.args.pass.now in
     let cards = c.args.table.now.plan.last_card in
-    let card = delete_card a.view c.take_card.new.pass.view c.in-Card.card 0 c.args.key c.args.place c.in-Some.above c.in-Some.is c.requires.searched.busy
+    let card = delete_card a.view c.take_card.new.pass.view c.in-Card.card (new_node c.args.table.now.plan 0) c.args.key c.args.place c.in-Some.above c.in-Some.is c.requires.searched.busy
     c.requires.searched.ends.at c.in-Card.ensures.claims.0 in
     told_parent c.take_card.new.pass.view c.flag_delete.new.pass.view c.in-Card.card c.args.place c.flag_delete.ensures.keeps.view c.args.key c.in-Some.above card cards
     (inner_kept cards a.view c.take_card.new.pass.view c.args.place.parent.node c.take_card.ensures.keeps.view c.requires.searched.ends.passed.seen.node)
@@ -61,7 +61,7 @@ finish_own-requires-clause-parent g c =
 pub finish_own-requires-clause-read : goal.finish_own-requires-clause-read
 finish_own-requires-clause-read g c =
     let a = c.args.pass.now in
-    let card = delete_card a.view c.take_card.new.pass.view c.in-Card.card 0 c.args.key c.args.place c.in-Some.above c.in-Some.is c.requires.searched.busy
+    let card = delete_card a.view c.take_card.new.pass.view c.in-Card.card (new_node c.args.table.now.plan 0) c.args.key c.args.place c.in-Some.above c.in-Some.is c.requires.searched.busy
     c.requires.searched.ends.at c.in-Card.ensures.claims.0 in
     told_was c.take_card.new.pass.view c.flag_delete.new.pass.view c.in-Card.card c.args.place c.flag_delete.ensures.keeps.view c.args.key c.in-Some.above card
 
@@ -75,7 +75,7 @@ retire_deleted-requires-clause-parent g c =
     let a = c.args.pass.now in
     let t = c.take_card.new.pass in
     let cards = c.args.table.now.plan.last_card in
-    let card = delete_card a.view t.view c.in-Card.card 0 c.args.key c.args.place c.in-Some.above c.in-Some.is c.requires.searched.busy
+    let card = delete_card a.view t.view c.in-Card.card (new_node c.args.table.now.plan 0) c.args.key c.args.place c.in-Some.above c.in-Some.is c.requires.searched.busy
     c.requires.searched.ends.at c.in-Card.ensures.claims.0 in
     let parent = told_parent t.view c.flag_delete.new.pass.view c.in-Card.card c.args.place c.flag_delete.ensures.keeps.view c.args.key c.in-Some.above card cards
     (inner_kept cards a.view t.view c.args.place.parent.node c.take_card.ensures.keeps.view c.requires.searched.ends.passed.seen.node) in
@@ -85,7 +85,7 @@ pub retire_deleted-requires-clause-leaf : goal.retire_deleted-requires-clause-le
 retire_deleted-requires-clause-leaf g c =
     let a = c.args.pass.now in
     let t = c.take_card.new.pass in
-    let card = delete_card a.view t.view c.in-Card.card 0 c.args.key c.args.place c.in-Some.above c.in-Some.is c.requires.searched.busy
+    let card = delete_card a.view t.view c.in-Card.card (new_node c.args.table.now.plan 0) c.args.key c.args.place c.in-Some.above c.in-Some.is c.requires.searched.busy
     c.requires.searched.ends.at c.in-Card.ensures.claims.0 in
     c.finish_own.ensures.keeps_but_met.keeps.view.told _
     (told_leaf t.view c.flag_delete.new.pass.view c.in-Card.card c.args.place c.flag_delete.ensures.keeps.view c.args.key c.in-Some.above card)
@@ -332,7 +332,7 @@ returns-clause-took g c =
     let busy : Does m.view (Delete c.args.key) = search rules in
     let hand : m.view.worker.card ≡ Some card = met.card ∙ c.in_default-flag_delete.ensures.flags.card in
     let leaf = told_leaf t.view f.view card place c.flag_delete.ensures.keeps.view c.args.key c.in-Some.above
-    (delete_card a.view t.view card 0 c.args.key place c.in-Some.above c.in-Some.is c.requires.searched.busy ends.at c.in-Card.ensures.claims.0) in
+    (delete_card a.view t.view card (new_node c.args.table.now.plan 0) c.args.key place c.in-Some.above c.in-Some.is c.requires.searched.busy ends.at c.in-Card.ensures.claims.0) in
     let value = c.flag_delete.ensures.keeps.view.told _ (c.take_card.ensures.keeps.view.told _ (ends.at.leaf (ends.outer c.requires.key))) in
     let on = met.keeps.view.told in
     let same = met.keeps.view.answers ∙ (c.flag_delete.ensures.keeps.view.answers ∙ c.take_card.ensures.keeps.view.answers) in (

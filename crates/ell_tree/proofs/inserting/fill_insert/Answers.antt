@@ -1,5 +1,7 @@
-use Rattle.std.proofs.Common.{◌≡◌, ℕ, ◌<◌, ◌≤◌, if◌then◌else◌, nat_lt, sym, ap, ◌∙◌, subst, arith}
-use Rattle.std.proofs.lemmas.Bool.{lt-ltb, le-ltb}
+use Rattle.std.proofs.Common.{◌≡◌, ◌↔◌, IsTrue, Bool, true, false, refl, zero, suc, ℕ, ◌<◌, ◌≤◌, if◌then◌else◌, nat_lt, sym, ap, ◌∙◌, subst, arith}
+use Rattle.std.proofs.lemmas.Bool.{false≢true, lt-ltb, le-ltb}
+use Rattle.ell_layout.specs.Cards.{left_of_card, right_of_card}
+use Rattle.ell_cards.specs.Models.{flat_from}
 use Rattle.ell_word.specs.Link.{IsLink, linked}
 use Rattle.ell_layout.specs.declared.field.Field.TheVariants as field
 use Rattle.ell_tree.proofs.lemmas.Links.{parent_low, place_link}
@@ -15,6 +17,15 @@ word-below-requires g c =
 pub fill-requires-clause-fits : goal.fill-requires-clause-fits
 fill-requires-clause-fits g c =
     low_node c.args.place.parent.node (parent_low c.args.place c.args.pass.now.view c.requires.card.card.behind c.facts_stay_inside.ensures.short)
+
+-- whether a tree is flat, as a test tells it
+as_told : (b : Bool) (n : ℕ) → (IsTrue b ↔ (0 < n)) → b ≡ nat_lt 0 n
+as_told true n same = sym (lt-ltb 0 n (same.0 refl))
+as_told false n same = sym (le-ltb 0 n (none n (λ less. false≢true (same.1 less))))
+  where
+    none : (n : ℕ) → ((0 < n) → ⊥) → n ≤ 0
+    none zero lacks = omega arith
+    none (suc n) lacks = absurd (lacks (omega arith))
 
 pub returns : goal.returns
 returns g c =
@@ -41,15 +52,19 @@ returns g c =
     let s10 = stores_more a c.fill-9.new.pass c.fill-10.new.pass _ 9 field.RightValue values.1 s9 c.fill-10.ensures in
     record {
       fills = fills_insert a c.fill-10.new.pass place.parent.node word c.args.node_key lesser greater left right update values.0 values.1 s10
-          c.args.card c.args.what.key c.args.what.value place.node place.parent.tag place.key place.value (parent_low place a.view card.behind short)
+          (nat_lt 0 (flat_from c.args.table.now.plan)) c.args.card c.args.what.key c.args.what.value place.node place.parent.tag place.key place.value (parent_low place a.view card.behind short)
           (place_link place place.parent.tag a.view card.stands c.requires.tag short) card.says
           (c.word-below.ensures ∙ ap linked c.node_with.ensures) c.min-lesser.ensures c.max-greater.ensures
-          (c.child_word.ensures ∙ ap bare c.card_children-left.ensures.left) (c.child_word-2.ensures ∙ ap bare c.card_children-left.ensures.right)
+          (c.child_word.ensures ∙ ap bare (c.card_children-left.ensures.left ∙ ap (λ b. left_of_card b c.args.card c.args.what.key place.node place.key) flat))
+          (c.child_word-2.ensures ∙ ap bare (c.card_children-left.ensures.right ∙ ap (λ b. right_of_card b c.args.card c.args.what.key place.node place.key) flat))
           c.update_word-clean.ensures sides.0 sides.1;
       whole = λ some. whole_insert a c.fill-10.new.pass place.parent.node word c.args.node_key lesser greater left right update values.0 values.1 s10
           c.args.card (c.requires.slot some);
     }
   where
+    flat : c.is_flat.result ≡ nat_lt 0 (flat_from c.args.table.now.plan)
+    flat = as_told c.is_flat.result (flat_from c.args.table.now.plan) c.is_flat.ensures
+
     sides : (c.if-key-place.left_value.0 ≡ (if nat_lt c.args.what.key c.args.place.key then c.args.what.value else c.args.place.value))
         × (c.if-key-place.left_value.1 ≡ (if nat_lt c.args.what.key c.args.place.key then c.args.place.value else c.args.what.value))
     sides = elim c.if-key-place.branch [

@@ -8,7 +8,7 @@ use Rattle.ell_core.proofs.lemmas.keeping.Puts.{put_key}
 use Rattle.ell_core.specs.declared.fact.Fact.TheVariants.{IOver}
 use Rattle.ell_cards.specs.declared.view.View.{View}
 use Rattle.ell_cards.specs.LettingGo.{put}
-use Rattle.ell_cards.specs.Models.{PassModel, Knows}
+use Rattle.ell_cards.specs.Models.{PassModel, Knows, new_node}
 use Rattle.ell_tree.specs.CardsTaken.{cards_taken, TakesNoCard, TakesOneCard, TakesOneIf}
 use Rattle.ell_tree.specs.Ends.{Answers, changes_by, reply_by}
 use Rattle.ell_tree.specs.Hindrances.{way_of}
@@ -54,7 +54,7 @@ flag_insert-requires-clause-card g c =
     let s = c.search-place in record {
       op = c.args.op;
       puts = c.requires.puts;
-      card = put_card s.new.pass.view c.take_card.new.pass.view c.in-Card.card c.node_key-node_key.result c.args.op c.args.what s.result c.requires.puts
+      card = put_card s.new.pass.view c.take_card.new.pass.view c.in-Card.card (new_node c.args.table.now.plan c.node_key-node_key.result) c.args.op c.args.what s.result c.requires.puts
           (s.ensures.keeps_but_search.keeps.view.operation ∙ c.requires.root.busy) s.ensures.ends.at c.in-Card.ensures.claims.0;
     }
 
@@ -63,12 +63,12 @@ finish_insert-requires-clause-insert g c =
     let s = c.search-place in
     let place = s.result in
     let ends = s.ensures.ends in
-    let card = put_card s.new.pass.view c.take_card.new.pass.view c.in-Card.card c.node_key-node_key.result c.args.op c.args.what place c.requires.puts
+    let card = put_card s.new.pass.view c.take_card.new.pass.view c.in-Card.card (new_node c.args.table.now.plan c.node_key-node_key.result) c.args.op c.args.what place c.requires.puts
     (s.ensures.keeps_but_search.keeps.view.operation ∙ c.requires.root.busy) ends.at c.in-Card.ensures.claims.0 in
     rw c.max-right_key.ensures
     rw c.min-left_key.ensures
     rw c.node_with-below.ensures
-    (is_insert c.take_card.new.pass.view c.flag_insert.new.pass.view c.in-Card.card place c.flag_insert.ensures.keeps.view c.node_key-node_key.result c.args.op c.args.what card
+    (is_insert c.take_card.new.pass.view c.flag_insert.new.pass.view c.in-Card.card place c.flag_insert.ensures.keeps.view (new_node c.args.table.now.plan c.node_key-node_key.result) c.args.op c.args.what card
     c.in-Ok.ensures.flags.knows (c.take_card.ensures.keeps.view.told (Met place.parent.node) ends.passed.seen.node.met))
 
 -- what its card told is known once it is over
@@ -83,9 +83,9 @@ retire_put-requires-clause-put g c =
     let kept = c.finish_insert.ensures.keeps_all in
     let busy = s.ensures.keeps_but_search.keeps.view.operation ∙ c.requires.root.busy in
     let key = put_key c.args.op c.args.what c.requires.puts in
-    let card = put_card s.new.pass.view t.view c.in-Card.card c.node_key-node_key.result c.args.op c.args.what place c.requires.puts busy ends.at
+    let card = put_card s.new.pass.view t.view c.in-Card.card (new_node c.args.table.now.plan c.node_key-node_key.result) c.args.op c.args.what place c.requires.puts busy ends.at
     c.in-Card.ensures.claims.0 in
-    let insert = is_insert t.view f.view c.in-Card.card place c.flag_insert.ensures.keeps.view c.node_key-node_key.result c.args.op c.args.what card
+    let insert = is_insert t.view f.view c.in-Card.card place c.flag_insert.ensures.keeps.view (new_node c.args.table.now.plan c.node_key-node_key.result) c.args.op c.args.what card
     c.in-Ok.ensures.flags.knows (c.take_card.ensures.keeps.view.told (Met place.parent.node) ends.passed.seen.node.met) in
     has_put f.view m.view c.in-Card.card c.args.op c.args.what place c.requires.puts kept.keeps.view
     (c.flag_insert.ensures.keeps.view.operation ∙ (c.take_card.ensures.keeps.view.operation ∙ busy)) (kept.card ∙ c.in-Ok.ensures.flags.card)

@@ -1,56 +1,56 @@
-use Rattle.std.proofs.Common.{rules, ◌≢◌, None, ap, ◌∙◌, arith}
+use Rattle.std.proofs.Common.{rules, refl, ◌≢◌, None, ap, ◌∙◌, arith}
 use Rattle.std.proofs.lemmas.Option.{same_Some}
-use Rattle.ell_cards.specs.Models.{PassModel}
+use Rattle.ell_cards.specs.Models.{PassModel, new_node}
 use Rattle.ell_tree.proofs.lemmas.Claiming.{none_found, numbers_at_end, may_claim_there, may_lay_aside, may_fill, row_goes, keeps_slot, taken_claims, in_vain, lost_claims}
 use Rattle.ell_tree.proofs.lemmas.LettingGo.{lets_aside_go}
 use Rattle.ell_tree.proofs.trying.claim_next.Goals as goal
 
 pub claim_up_to-requires-clause-may : goal.claim_up_to-requires-clause-may
 claim_up_to-requires-clause-may g c =
-    may_claim_there c.args.pass.now c.next-first.new.pass c.next_takeable.new.pass c.next-first.result c.args.node_key c.next-first.ensures.step c.next_takeable.ensures.same c.next-first.ensures.least
-    c.args.table.now.plan c.args.op c.args.place c.requires.busy c.requires.hand c.requires.at c.requires.calm c.requires.wants
+    may_claim_there c.args.pass.now c.next-first.new.pass c.next_takeable.new.pass c.next-first.result (new_node c.args.table.now.plan c.args.node_key) c.next-first.ensures.step c.next_takeable.ensures.same c.next-first.ensures.least
+    c.args.table.now.plan c.args.op c.args.place c.requires.busy c.requires.hand c.requires.at c.requires.calm c.requires.wants refl
 
 -- a card that is in hand may be laid aside
 pub claim_up_to-requires-clause-kept : goal.claim_up_to-requires-clause-kept
 claim_up_to-requires-clause-kept g c =
-    may_lay_aside c.args.pass.now c.next-first.new.pass c.next_takeable.new.pass c.next-first.result c.args.node_key c.next-first.ensures.step c.next_takeable.ensures.same c.next-first.ensures.least
+    may_lay_aside c.args.pass.now c.next-first.new.pass c.next_takeable.new.pass c.next-first.result (new_node c.args.table.now.plan c.args.node_key) c.next-first.ensures.step c.next_takeable.ensures.same c.next-first.ensures.least
     c.args.table.now.plan c.requires.hand
 
 pub returns-then-not-claim_up_to-clause-claims : goal.returns-then-not-claim_up_to-clause-claims
 returns-then-not-claim_up_to-clause-claims g c =
-    lost_claims c.args.pass.now c.next-first.new.pass c.next_takeable.new.pass c.next-first.result c.args.node_key c.next-first.ensures.step c.next_takeable.ensures.same c.next-first.ensures.least
+    lost_claims c.args.pass.now c.next-first.new.pass c.next_takeable.new.pass c.next-first.result (new_node c.args.table.now.plan c.args.node_key) c.next-first.ensures.step c.next_takeable.ensures.same c.next-first.ensures.least
     c.claim_up_to.new.pass c.in-Some.card c.in-Some.ensures.found.0 c.args.table.now.plan c.args.op c.args.place c.if-not-claim_up_to.ensures.step c.requires.hand c.next-first.ensures.some
     c.in-Some.ensures.found.1
 
 pub take_slot-requires-clause-may : goal.take_slot-requires-clause-may
 take_slot-requires-clause-may g c =
-    may_fill c.args.pass.now c.next-first.new.pass c.next_takeable.new.pass c.next-first.result c.args.node_key c.next-first.ensures.step c.next_takeable.ensures.same c.next-first.ensures.least
+    may_fill c.args.pass.now c.next-first.new.pass c.next_takeable.new.pass c.next-first.result (new_node c.args.table.now.plan c.args.node_key) c.next-first.ensures.step c.next_takeable.ensures.same c.next-first.ensures.least
     c.claim_up_to.new.pass c.in-Some.card c.in-Some.ensures.found.0 c.if-not-claim_up_to.ensures.step
 
 pub returns-then-take_slot-clause-keeps : goal.returns-then-take_slot-clause-keeps
 returns-then-take_slot-clause-keeps g c =
     keeps_slot c.args.table.now.plan c.args.pass.now c.claim_up_to.new.pass c.take_slot.new.pass 2
-    (row_goes c.args.pass.now c.next-first.new.pass c.next_takeable.new.pass c.next-first.result c.args.node_key c.next-first.ensures.step c.next_takeable.ensures.same c.next-first.ensures.least
+    (row_goes c.args.pass.now c.next-first.new.pass c.next_takeable.new.pass c.next-first.result (new_node c.args.table.now.plan c.args.node_key) c.next-first.ensures.step c.next_takeable.ensures.same c.next-first.ensures.least
     c.claim_up_to.new.pass c.in-Some.card c.in-Some.ensures.found.0 c.args.table.now.plan (λ none. same_Some _ _ (c.in-Some.ensures.plain none).0) c.if-not-claim_up_to.ensures.step) c.take_slot.ensures.same
 
 -- the card is in hand, with its slot
 pub returns-then-take_slot-clause-claims : goal.returns-then-take_slot-clause-claims
 returns-then-take_slot-clause-claims g c =
-    taken_claims c.args.pass.now c.next-first.new.pass c.next_takeable.new.pass c.next-first.result c.args.node_key c.next-first.ensures.step c.next_takeable.ensures.same c.next-first.ensures.least
+    taken_claims c.args.pass.now c.next-first.new.pass c.next_takeable.new.pass c.next-first.result (new_node c.args.table.now.plan c.args.node_key) c.next-first.ensures.step c.next_takeable.ensures.same c.next-first.ensures.least
     c.claim_up_to.new.pass c.in-Some.card c.in-Some.ensures.found.0 c.args.table.now.plan c.args.op c.args.place c.take_slot.new.pass c.if-not-claim_up_to.ensures.step c.requires.busy c.requires.at
-    c.next-first.ensures.some c.in-Some.ensures.found.1 c.take_slot.ensures.same (c.take_slot.ensures.took c.if-take_slot.true)
+    c.next-first.ensures.some c.in-Some.ensures.found.1 c.take_slot.ensures.same (c.take_slot.ensures.took c.if-take_slot.true) refl
 
 pub returns-else-take_slot-clause-keeps : goal.returns-else-take_slot-clause-keeps
 returns-else-take_slot-clause-keeps g c =
     keeps_slot c.args.table.now.plan c.args.pass.now c.claim_up_to.new.pass c.take_slot.new.pass 2
-    (row_goes c.args.pass.now c.next-first.new.pass c.next_takeable.new.pass c.next-first.result c.args.node_key c.next-first.ensures.step c.next_takeable.ensures.same c.next-first.ensures.least
+    (row_goes c.args.pass.now c.next-first.new.pass c.next_takeable.new.pass c.next-first.result (new_node c.args.table.now.plan c.args.node_key) c.next-first.ensures.step c.next_takeable.ensures.same c.next-first.ensures.least
     c.claim_up_to.new.pass c.in-Some.card c.in-Some.ensures.found.0 c.args.table.now.plan (λ none. same_Some _ _ (c.in-Some.ensures.plain none).0) c.if-not-claim_up_to.ensures.step) c.take_slot.ensures.same
 
 -- a table without places has no slot that is in use
 pub returns-else-take_slot-clause-claims : goal.returns-else-take_slot-clause-claims
 returns-else-take_slot-clause-claims g c =
     let places : c.args.table.now.plan.slots ≢ None = λ none. search rules in
-    in_vain c.args.pass.now c.next-first.new.pass c.next_takeable.new.pass c.next-first.result c.args.node_key c.next-first.ensures.step c.next_takeable.ensures.same c.next-first.ensures.least
+    in_vain c.args.pass.now c.next-first.new.pass c.next_takeable.new.pass c.next-first.result (new_node c.args.table.now.plan c.args.node_key) c.next-first.ensures.step c.next_takeable.ensures.same c.next-first.ensures.least
     c.claim_up_to.new.pass c.in-Some.card c.in-Some.ensures.found.0 c.args.table.now.plan c.take_slot.new.pass places (c.places_are_in_flat_trees.ensures places) c.if-not-claim_up_to.ensures.step
     c.if-not-claim_up_to.ensures.fresh (c.take_slot.ensures.kept c.if-take_slot.false) c.next_takeable.ensures.missed (c.in-Some.ensures.sought places)
     (c.take_slot.ensures.missed c.if-take_slot.false c.in-Some.ensures.found.2) (c.take_slot.ensures.few c.if-take_slot.false c.in-Some.ensures.found.2)

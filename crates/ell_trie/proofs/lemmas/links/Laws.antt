@@ -1,8 +1,9 @@
-use Rattle.std.proofs.Common.{◌≡◌, ℕ, Bool, false, sym, subst}
+use Rattle.std.proofs.Common.{◌≡◌, ℕ, ◌%◌, Bool, false, inl, inr, sym, subst}
+use Rattle.std.proofs.lemmas.Bool.{cases_eq}
 use Rattle.ell_word.specs.Node.{IsInternal}
 use Rattle.ell_trie.specs.Ranges.{IsOrdered}
 use Rattle.ell_trie.proofs.lemmas.order.Bounds.{side_within}
-use Rattle.ell_trie.specs.Halves.{InsideOf}
+use Rattle.ell_trie.specs.Halves.{InHalfOf, InsideOf}
 use Rattle.ell_trie.specs.Ranks.{rank_of}
 use Rattle.ell_trie.specs.Tries.{Opening, IsTrie}
 use Rattle.ell_trie.specs.Links.{Links, EdgeInsert, BornWith, InsertKeeps, LinksKeep, EdgeInsertsKeep}
@@ -50,9 +51,13 @@ module _ {Born : ℕ → Type 0} {o : Opening} {key : ℕ → ℕ} {child after 
   born_x : Born x
   born_x = subst Born at.shape.was (trie.closed p s at.shape.from born_p)
 
-  x_inside : o.holds p ≡ false → InsideOf (key x) (key p) s
-  x_inside plain = subst (λ v. InsideOf (key v) (key p) s) at.shape.was
-      (trie.inner p s at.shape.from born_p plain (subst IsInternal (sym at.shape.was) at.inner))
+  x_half : o.holds p ≡ false → InHalfOf (key p) s (key x)
+  x_half plain = elim (cases_eq (x % 4) 0) [
+    | inl i ↦ inside_middle (subst (λ v. InsideOf (key v) (key p) s) at.shape.was
+        (trie.inner p s at.shape.from born_p plain (subst IsInternal (sym at.shape.was) i)))
+    | inr outer ↦ subst (λ v. InHalfOf (key p) s (key v)) at.shape.was
+        (trie.leaf p s at.shape.from born_p plain (λ i. outer (subst IsInternal at.shape.was i)))
+  ]
 
   pub its_link : Links Born o key child after top p s x q t n k
   its_link =
@@ -67,9 +72,9 @@ module _ {Born : ℕ → Type 0} {o : Opening} {key : ℕ → ℕ} {child after 
         first = sided.0;
         last = sided.1;
         key_there = halves.0;
-        old_there = λ i. apart_inside (is_branch trie x i born_x at.shape.old_plain) at.lacks halves.0 halves.1;
-        old_leaf_there = λ outer. absurd (outer at.inner);
-        fits = λ plain. branch_inside t at.parts (inside_middle (x_inside plain)) (side_half (at.inside plain) at.toward);
+        old_there = λ i. apart_inside (is_branch trie x i born_x at.shape.old_plain) (at.lacks i) halves.0 halves.1;
+        old_leaf_there = λ outer. halves.1;
+        fits = λ plain. branch_inside t at.parts (x_half plain) (side_half (at.inside plain) at.toward);
       }
 
 pub edge_inserts_keep : EdgeInsertsKeep

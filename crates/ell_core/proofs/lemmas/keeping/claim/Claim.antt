@@ -7,7 +7,7 @@ use Rattle.ell_core.specs.declared.event.Act.TheVariants as act
 use Rattle.ell_core.specs.declared.event.Stepped.{Stepped}
 use Rattle.ell_core.specs.declared.event.Stepped.TheVariants.{Moved}
 use Rattle.ell_layout.specs.declared.field.Field.{Field}
-use Rattle.ell_layout.specs.Words.{Words, put}
+use Rattle.ell_layout.specs.Words.{Words, put, is_flat}
 use Rattle.ell_core.specs.state.Machine.{Worker, Machine, Scene, scene, with_scene}
 use Rattle.ell_layout.specs.Cards.{claimed, put_filling, value_below, delete_filling}
 use Rattle.ell_core.specs.acts.Searching.{claims, ClaimPut, ClaimDelete, MayTake}
@@ -183,7 +183,7 @@ claim_insert m stage i said becomes there sound room e =
       fits = e.fits;
       named = e.named;
     } in
-    let filling = put_filling m.words.next e.what.key e.what.value e.node_key e.parent.node e.below (m.words.key e.below)
+    let filling = put_filling (is_flat m.words) m.words.next e.what.key e.what.value e.node_key e.parent.node e.below (m.words.key e.below)
     (value_below m.words e.below) in
     let claimer = (claims (scene m i) e.parent.tag filling).worker in
     let claims_card : ClaimsCard m stage i e.parent.tag filling IClaimed e.op = record {

@@ -180,7 +180,7 @@ claimed_claims w tag filling = let h = filled_others w w.next filling in record 
 }
 
 -- what a card's words are after it was filled to put key k with its value above a node, where it expects a tag
-pub record IsFilledPut (w : Words) (c tag k value node_key parent below below_key below_value : ℕ) : Type 0 where
+pub record IsFilledPut (w : Words) (flat : Bool) (c tag k value node_key parent below below_key below_value : ℕ) : Type 0 where
   pub expects : w.expects c ≡ tag
   pub p : w.p c ≡ parent
   pub l : w.l c ≡ below
@@ -189,8 +189,8 @@ pub record IsFilledPut (w : Words) (c tag k value node_key parent below below_ke
   pub right_key : w.key (right_leaf c) ≡ max k below_key
   pub left_value : w.value (left_leaf c) ≡ (if nat_lt k below_key then value else below_value)
   pub right_value : w.value (right_leaf c) ≡ (if nat_lt k below_key then below_value else value)
-  pub left : w.child (internal c) false ≡ left_of_card c k below below_key
-  pub right : w.child (internal c) true ≡ right_of_card c k below below_key
+  pub left : w.child (internal c) false ≡ left_of_card flat c k below below_key
+  pub right : w.child (internal c) true ≡ right_of_card flat c k below below_key
   pub update : w.update (internal c) ≡ clean 0
 
 -- keys put at the three nodes of a card
@@ -226,15 +226,15 @@ two_children child x a b new e =
     (ap (λ f. f false) last ∙ ap (λ f. f false) (put_same child x (put_side (child x) false a)), ap (λ f. f true) last)
 
 -- a claim to put a key fills the next card for it
-pub claimed_put : (w : Words) (tag k value node_key parent below below_key below_value : ℕ)
-    → IsFilledPut (claimed w tag (put_filling w.next k value node_key parent below below_key below_value)) w.next
+pub claimed_put : (w : Words) (flat : Bool) (tag k value node_key parent below below_key below_value : ℕ)
+    → IsFilledPut (claimed w tag (put_filling flat w.next k value node_key parent below below_key below_value)) flat w.next
     tag k value node_key parent below below_key below_value
-claimed_put w tag k value node_key parent below below_key below_value =
-    let filling = put_filling w.next k value node_key parent below below_key below_value in
+claimed_put w flat tag k value node_key parent below below_key below_value =
+    let filling = put_filling flat w.next k value node_key parent below below_key below_value in
     let keys = three_keys w.key w.next node_key (min k below_key) (max k below_key) (claimed w tag filling).key refl in
     let values = two_values w.value w.next (if nat_lt k below_key then value else below_value) (if nat_lt k below_key then below_value else value)
     (claimed w tag filling).value refl in
-    let children = two_children w.child (internal w.next) (left_of_card w.next k below below_key) (right_of_card w.next k below below_key)
+    let children = two_children w.child (internal w.next) (left_of_card flat w.next k below below_key) (right_of_card flat w.next k below below_key)
     (claimed w tag filling).child refl in
     record {
       expects = put_same w.expects w.next tag;

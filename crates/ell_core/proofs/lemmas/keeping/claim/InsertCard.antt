@@ -7,9 +7,9 @@ use Rattle.ell_block.specs.Blocks.{IsBranchOf, InBlockOf}
 use Rattle.ell_layout.specs.declared.field.Field.TheVariants.{Gp, Was}
 use Rattle.ell_core.specs.declared.put.Put.{Put}
 use Rattle.ell_core.specs.declared.view.Seen.{Seen}
-use Rattle.ell_layout.specs.Words.{Words, put, IsLeaf}
+use Rattle.ell_layout.specs.Words.{Words, put, IsLeaf, is_flat}
 use Rattle.ell_core.specs.state.Machine.{Worker}
-use Rattle.ell_layout.specs.Cards.{is_right, tag_for, claimed, is_replace_card, left_of_card, right_of_card, put_filling, value_below}
+use Rattle.ell_layout.specs.Cards.{is_right, tag_for, claimed, is_replace_card, stays_below, left_of_card, right_of_card, put_filling, value_below}
 use Rattle.ell_core.specs.tree.Flat.{IsInBlock, IsNodeKey}
 use Rattle.ell_core.specs.acts.Searching.{IsClean, HasPlace, GivesPlace}
 use Rattle.ell_core.specs.history.Stages.{Stages, IClaimed, is_claimed, is_insert, is_delete, insert_won, Born}
@@ -70,8 +70,8 @@ node_key_in_order from a b r is = record {
 }
 
 -- the left child of the node of a card is node 0 only if that is below it
-left_none : (c k below below_key : ℕ) → left_of_card c k below below_key ≡ 0 → below ≡ 0
-left_none c k below below_key none = elim (cases_Bool (below % 4 == 0 && nat_le below_key k)) [
+left_none : (flat : Bool) (c k below below_key : ℕ) → left_of_card flat c k below below_key ≡ 0 → below ≡ 0
+left_none flat c k below below_key none = elim (cases_Bool (stays_below flat below && nat_le below_key k)) [
   | inl e ↦ sym (ap (λ b. if b then below else left_leaf c) e) ∙ none
   | inr e ↦ (let own = ap (λ b. if b then below else left_leaf c) e in absurd (omega arith))
 ]
@@ -93,7 +93,7 @@ module _ (w : Words) (stage : Stages) (v : Worker) (what : Put) (below node_key 
 
   -- the words and the stages after the claim
   abbrev after : Words
-  after = claimed w parent.tag (put_filling w.next k what.value node_key parent.node below (w.key below) (value_below w below))
+  after = claimed w parent.tag (put_filling (is_flat w) w.next k what.value node_key parent.node below (w.key below) (value_below w below))
 
   abbrev stages : Stages
   stages = put stage w.next IClaimed
@@ -101,7 +101,7 @@ module _ (w : Words) (stage : Stages) (v : Worker) (what : Put) (below node_key 
   claiming : Claiming w after stage IClaimed
   claiming = record {
     words = h.words;
-    claims = claimed_claims w parent.tag (put_filling w.next k what.value node_key parent.node below (w.key below) (value_below w below));
+    claims = claimed_claims w parent.tag (put_filling (is_flat w) w.next k what.value node_key parent.node below (w.key below) (value_below w below));
     fresh = inl refl;
   }
 
@@ -112,8 +112,8 @@ module _ (w : Words) (stage : Stages) (v : Worker) (what : Put) (below node_key 
   at_stage : stages w.next ≡ IClaimed
   at_stage = put_same stage w.next IClaimed
 
-  filled : IsFilledPut after w.next parent.tag k what.value node_key parent.node below (w.key below) (value_below w below)
-  filled = claimed_put w parent.tag k what.value node_key parent.node below (w.key below) (value_below w below)
+  filled : IsFilledPut after (is_flat w) w.next parent.tag k what.value node_key parent.node below (w.key below) (value_below w below)
+  filled = claimed_put w (is_flat w) parent.tag k what.value node_key parent.node below (w.key below) (value_below w below)
 
   below_key : after.key (after.l w.next) ≡ w.key below
   below_key = ap after.key filled.l ∙ key_kept w after stage IClaimed claiming below h.stand.born
@@ -183,7 +183,7 @@ module _ (w : Words) (stage : Stages) (v : Worker) (what : Put) (below node_key 
   not_root e = let lacks = (h.takes.edge (ap (λ n. n % 4) e)).1 in
       let has = lacks_by w below k lacks in
       let some = flat_by w.flat_from below has in
-      let past = block_past w.flat_from below has in
+      let past = block_past w.flat_from below (ap (λ n. n % 4) e) has in
       omega arith
 
   insert_card : InsertCard after stages w.next
@@ -211,7 +211,7 @@ module _ (w : Words) (stage : Stages) (v : Worker) (what : Put) (below node_key 
     ];
     real = subst (λ n. n ≤ greatest_key) (sym own_key) h.real;
     side = (λ t. nat_le (parent_key t) (own_key t)) ∙ (sym h.seen.side ∙ (λ t. nat_le (sym parent_key t) (sym below_key t)));
-    left_child = λ e. not_root (left_none w.next k below (w.key below) (sym filled.left ∙ e));
+    left_child = λ e. not_root (left_none (is_flat w) w.next k below (w.key below) (sym filled.left ∙ e));
     expected = let a = h.seen.at_least in let e = filled.expects in
         let less = h.words.tags parent.node (is_right w parent.node k) in omega arith;
     at_least = let a = h.seen.at_least in let e = filled.expects in let t = tag_is in omega arith;
@@ -219,8 +219,8 @@ module _ (w : Words) (stage : Stages) (v : Worker) (what : Put) (below node_key 
 
   -- the children of its node are those to be
   children_filled : (right : Bool) → after.child (internal w.next) right ≡ filled_child after w.next right
-  children_filled false = filled.left ∙ sym (λ t. left_of_card w.next (own_key t) (filled.l t) (below_key t))
-  children_filled true = filled.right ∙ sym (λ t. right_of_card w.next (own_key t) (filled.l t) (below_key t))
+  children_filled false = filled.left ∙ sym (λ t. left_of_card (nat_lt 0 (later.flat t)) w.next (own_key t) (filled.l t) (below_key t))
+  children_filled true = filled.right ∙ sym (λ t. right_of_card (nat_lt 0 (later.flat t)) w.next (own_key t) (filled.l t) (below_key t))
 
   -- the claimed card of an insert is sound
   pub insert_claimed : CardIsSound after stages w.next

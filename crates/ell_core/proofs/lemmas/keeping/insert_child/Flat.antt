@@ -1,15 +1,14 @@
-use Rattle.std.proofs.Common.{◌≡◌, ℕ, ◌%◌, ◌<◌, ◌^◌, ◌↔◌, min, Bool, true, false, not, inl, inr, refl, sym, ap, ◌∙◌, subst, arith}
+use Rattle.std.proofs.Common.{◌≡◌, ℕ, ◌%◌, ◌==◌, ◌||◌, ◌<◌, ◌^◌, min, Bool, true, false, not, inl, inr, refl, sym, ap, ◌∙◌, subst, arith}
+use Rattle.std.proofs.lemmas.Bool.{lt-ltb}
 use Rattle.ell_word.specs.Node.{IsInternal, IsNode, card, internal, left_leaf, right_leaf}
 use Rattle.ell_block.specs.Blocks.{IsBranchOf, InBlockOf}
-use Rattle.ell_layout.specs.Words.{Words, IsLeaf}
+use Rattle.ell_layout.specs.Words.{Words, has_block, is_flat}
 use Rattle.ell_layout.specs.Cards.{is_replace_card}
 use Rattle.ell_trie.specs.Ranges.{root, goes, IsOrdered}
 use Rattle.ell_trie.specs.Halves.{IsBranchBeside}
 use Rattle.ell_trie.specs.Tries.{Opening, IsTrie}
 use Rattle.ell_trie.specs.Links.{EdgeInsert, BornWith, InsertKeeps}
-use Rattle.ell_trie.specs.Leaves.{LeafInsert, BornLeaves}
 use Rattle.ell_trie.proofs.lemmas.Paths.{rank_rises, same_born}
-use Rattle.ell_trie.proofs.lemmas.LeafInserts.{insert_keeps, inner_stays}
 use Rattle.ell_trie.proofs.lemmas.links.Laws.{its_link, link_keeps}
 use Rattle.ell_trie.proofs.lemmas.links.Ranges.{reached_after}
 use Rattle.ell_core.specs.tree.Flat.{opening_from, IsInBlock}
@@ -17,13 +16,13 @@ use Rattle.ell_core.specs.tree.Rank.{rank}
 use Rattle.ell_core.specs.history.Stages.{Stages, IFlagged, IChanged, insert_waits, Born}
 use Rattle.ell_core.specs.history.Invariant.{top, IsIn, insert_key, insert_value, insert_side, InsertCard, WordsAreSound}
 use Rattle.ell_core.proofs.lemmas.stages.Order.{all-born}
-use Rattle.ell_core.proofs.lemmas.tree.Blocks.{plain_by, block_by, lacks_by, lacks_inner}
+use Rattle.ell_core.proofs.lemmas.tree.Blocks.{plain_by, block_by, leaf_block, lacks_by, lacks_inner}
 use Rattle.ell_core.proofs.lemmas.tree.Paths.{internal_or_leaf}
 use Rattle.ell_core.proofs.lemmas.tree.Ranks.{rank_flat, ordered_flat}
 use Rattle.ell_core.proofs.lemmas.tree.Reached.{leads_some, Spans-reached, key_below}
 use Rattle.ell_core.proofs.lemmas.words.Sides.{node_key-between, min_is, max_is}
 use Rattle.ell_core.proofs.lemmas.keeping.insert_child.Card.{ichild_words, its_card, its_child, its_relinks, parent_in, key_side, key_in_block, new_block, not_born}
-use Rattle.ell_core.proofs.lemmas.keeping.insert_child.Nodes.{Adds, its_order, its_keys, below_child, child_key, own_child, own_leaf, own_value, copied_value, born_back, born_here, born_still, new_kept, its_inner, leaf_on, node_stages}
+use Rattle.ell_core.proofs.lemmas.keeping.insert_child.Nodes.{Adds, its_order, its_keys, below_child, child_key, own_leaf, own_value, born_back, born_here, born_still, new_kept, its_inner, leaf_on, node_stages}
 
 -- a flat tree, and a card whose leaf keys are two: it adds a key
 module _ (w : Words) (stage : Stages) (sound : WordsAreSound w stage) (c : ℕ) (flagged : stage c ≡ IFlagged) (two : is_replace_card w c ≡ false)
@@ -178,114 +177,60 @@ module _ (w : Words) (stage : Stages) (sound : WordsAreSound w stage) (c : ℕ) 
         absent = λ leads. (let there = leads_some w (insert_key w c) leads in (keeps there.0).absent there.1);
       }
 
-    -- at a leaf
-    module _ (outer : IsLeaf (w.l c)) where
-      child_outer : (right : Bool) → ¬ IsInternal (w.child (internal c) right)
-      child_outer right i = leaf_outer right (subst IsInternal (own_child w stage sound c flagged two outer right) i)
+    -- the node where the card goes stays, and is the other child
+    below_is : w.child (internal c) (not half) ≡ w.l c
+    below_is = below_child w stage sound c flagged two (λ t. lt-ltb 0 w.flat_from some t || w.l c % 4 == 0) half h.own h.old
 
-      child_card : (right : Bool) → card (w.child (internal c) right) ≡ c
-      child_card right = ap card (own_child w stage sound c flagged two outer right) ∙ leaf_card right
+    -- it is not of the opening tree
+    old_block : has_block w.flat_from (w.l c) ≡ true
+    old_block = elim (internal_or_leaf (w.l c)) [
+      | inl inner ↦ lacks_by w (w.l c) (insert_key w c) (card_said.edge inner)
+      | inr outer ↦ leaf_block w.flat_from (w.l c) some outer
+    ]
 
-      at_leaf : LeafInsert (Born stage) o w.key w.child node_words.child top (w.p c) (insert_side w c) (w.l c) (internal c) half (insert_key w c)
-      at_leaf = record {
-        shape = record {
-          relinks = its_relinks w stage sound c flagged (internal c);
-          node = omega arith;
-          outer = child_outer;
-          small = new_small;
-          plain = new_plain (internal c) (omega arith);
-          plain_leaves = λ right. new_plain (w.child (internal c) right) (child_card right);
-        };
-        from = card_said.parent.inner;
-        there = parent_in w stage sound c flagged;
-        course = (sound.inserts c).course (ap insert_waits flagged);
-        inside = parent_block;
-        toward = key_side w stage sound c flagged;
+    at_edge : EdgeInsert (Born stage) o w.key w.child node_words.child top (w.p c) (insert_side w c) (w.l c) (internal c) half new_leaf (insert_key w c)
+    at_edge = record {
+      shape = record {
+        relinks = its_relinks w stage sound c flagged (internal c);
         was = its_child w stage sound c flagged;
-        leaf = outer;
-        parts = h.parts;
-        beside = new_key;
-        copied = old_key;
+        from = card_said.parent.inner;
+        node = omega arith;
+        outer = λ i. leaf_outer half (subst IsInternal leaf_is i);
+        beside = refl;
+        below = below_is;
+        has = new_key;
+        small = new_small;
+        old_plain = plain_by w.flat_from (w.l c) old_block;
+        new_plain = new_plain (internal c) (omega arith);
+        leaf_plain = new_plain new_leaf (ap card leaf_is ∙ leaf_card half);
         fresh = not_born w stage sound c flagged (internal c) (omega arith);
-        fresh_leaves = λ right. not_born w stage sound c flagged (w.child (internal c) right) (child_card right);
-      }
+        fresh_leaf = not_born w stage sound c flagged new_leaf (ap card leaf_is ∙ leaf_card half);
+      };
+      there = parent_in w stage sound c flagged;
+      course = (sound.inserts c).course (ap insert_waits flagged);
+      inside = parent_block;
+      toward = key_side w stage sound c flagged;
+      lacks = λ inner. lacks_inner w (w.l c) (insert_key w c) inner (card_said.edge inner);
+      parts = h.parts;
+    }
 
-      same_value : (value : ℕ) → (w.value (w.child (internal c) (not half)) ≡ value) ↔ (w.value (w.l c) ≡ value)
-      same_value value =
-          let copy = copied_value w stage sound c flagged two outer (not half) old_key in (λ e. sym copy ∙ e, λ e. copy ∙ e)
+    before_edge : (x : ℕ) → IsInternal x → Born (node_stages w stage sound c flagged two) x → BornWith (Born stage) (internal c) new_leaf x
+    before_edge x inside born = elim (born_back w stage sound c flagged two x born) [
+      | inl e ↦ inr (inl (omega arith))
+      | inr old ↦ inl old
+    ]
 
-      before_leaf : (x : ℕ) → IsInternal x → Born (node_stages w stage sound c flagged two) x → BornLeaves (Born stage) w.child (internal c) x
-      before_leaf x inner born = elim (born_back w stage sound c flagged two x born) [
-        | inl e ↦ inr (inl (omega arith))
-        | inr old ↦ inl old
-      ]
+    later_edge : (x : ℕ) → BornWith (Born stage) (internal c) new_leaf x → Born (node_stages w stage sound c flagged two) x
+    later_edge x (inl born) = born_still w stage sound c flagged two x born
+    later_edge x (inr (inl e)) = born_here w stage sound c flagged two x (omega arith) (omega arith)
+    later_edge x (inr (inr e)) = subst (Born (node_stages w stage sound c flagged two)) (sym (e ∙ leaf_is))
+        (born_here w stage sound c flagged two (leaf_on w stage sound c flagged two half) (leaf_node half) (leaf_card half))
 
-      later_leaf : (x : ℕ) → BornLeaves (Born stage) w.child (internal c) x → Born (node_stages w stage sound c flagged two) x
-      later_leaf x (inl born) = born_still w stage sound c flagged two x born
-      later_leaf x (inr (inl e)) = born_here w stage sound c flagged two x (omega arith) (omega arith)
-      later_leaf x (inr (inr new)) = subst (Born (node_stages w stage sound c flagged two)) (sym (new.1 ∙ own_child w stage sound c flagged two outer new.0))
-          (born_here w stage sound c flagged two (leaf_on w stage sound c flagged two new.0) (leaf_node new.0) (leaf_card new.0))
-
-      adds_leaf : Adds w stage c
-      adds_leaf = adds_by (λ value. insert_keeps trie sound.tree.ordered at_leaf (same_value value)) before_leaf later_leaf
-          (λ x inner there. inner_stays trie sound.tree.ordered at_leaf x inner there)
-
-    -- at an edge
-    module _ (inner : IsInternal (w.l c)) where
-      lacks : ¬ IsInBlock w (w.l c) (insert_key w c)
-      lacks = card_said.edge inner
-
-      -- the other child is the node where the card goes
-      below_is : w.child (internal c) (not half) ≡ w.l c
-      below_is = below_child w stage sound c flagged two inner half h.own h.old
-
-      at_edge : EdgeInsert (Born stage) o w.key w.child node_words.child top (w.p c) (insert_side w c) (w.l c) (internal c) half new_leaf (insert_key w c)
-      at_edge = record {
-        shape = record {
-          relinks = its_relinks w stage sound c flagged (internal c);
-          was = its_child w stage sound c flagged;
-          from = card_said.parent.inner;
-          node = omega arith;
-          outer = λ i. leaf_outer half (subst IsInternal leaf_is i);
-          beside = refl;
-          below = below_is;
-          has = new_key;
-          small = new_small;
-          old_plain = plain_by w.flat_from (w.l c) (lacks_by w (w.l c) (insert_key w c) lacks);
-          new_plain = new_plain (internal c) (omega arith);
-          leaf_plain = new_plain new_leaf (ap card leaf_is ∙ leaf_card half);
-          fresh = not_born w stage sound c flagged (internal c) (omega arith);
-          fresh_leaf = not_born w stage sound c flagged new_leaf (ap card leaf_is ∙ leaf_card half);
-        };
-        inner = inner;
-        there = parent_in w stage sound c flagged;
-        course = (sound.inserts c).course (ap insert_waits flagged);
-        inside = parent_block;
-        toward = key_side w stage sound c flagged;
-        lacks = lacks_inner w (w.l c) (insert_key w c) inner lacks;
-        parts = h.parts;
-      }
-
-      before_edge : (x : ℕ) → IsInternal x → Born (node_stages w stage sound c flagged two) x → BornWith (Born stage) (internal c) new_leaf x
-      before_edge x inside born = elim (born_back w stage sound c flagged two x born) [
-        | inl e ↦ inr (inl (omega arith))
-        | inr old ↦ inl old
-      ]
-
-      later_edge : (x : ℕ) → BornWith (Born stage) (internal c) new_leaf x → Born (node_stages w stage sound c flagged two) x
-      later_edge x (inl born) = born_still w stage sound c flagged two x born
-      later_edge x (inr (inl e)) = born_here w stage sound c flagged two x (omega arith) (omega arith)
-      later_edge x (inr (inr e)) = subst (Born (node_stages w stage sound c flagged two)) (sym (e ∙ leaf_is))
-          (born_here w stage sound c flagged two (leaf_on w stage sound c flagged two half) (leaf_node half) (leaf_card half))
-
-      adds_edge : Adds w stage c
-      adds_edge =
-          let link = its_link trie sound.tree.ordered at_edge in
-          adds_by (λ value. link_keeps trie sound.tree.ordered link) before_edge later_edge (λ x i there. reached_after trie link x there)
+    adds_edge : Adds w stage c
+    adds_edge =
+        let link = its_link trie sound.tree.ordered at_edge in
+        adds_by (λ value. link_keeps trie sound.tree.ordered link) before_edge later_edge (λ x i there. reached_after trie link x there)
 
   -- the card adds its key, and brings its internal node
   pub adds_flat : Adds w stage c
-  adds_flat = elim (internal_or_leaf (w.l c)) [
-    | inl inner ↦ adds_edge its_half.0 its_half.1 inner
-    | inr outer ↦ adds_leaf its_half.0 its_half.1 outer
-  ]
+  adds_flat = adds_edge its_half.0 its_half.1

@@ -1,9 +1,9 @@
 use Rattle.std.proofs.Common.{◌≡◌, ◌≢◌, ℕ, ◌%◌, ◌<◌, ◌≤◌, ◌==◌, ◌&&◌, ◌⊎◌, ◌↔◌, if◌then◌else◌, Bool, true, false, not, nat_le, nat_lt, inl, inr, refl, sym, ap, ◌∙◌, subst, arith}
-use Rattle.std.proofs.lemmas.Bool.{cases_eq, eq-eqb, ne_eqb, leb-true, ltb-true, le-leb, lt-ltb}
+use Rattle.std.proofs.lemmas.Bool.{cases_eq, cases_Bool, false≢true, eq-eqb, ne_eqb, leb-true, ltb-true, le-leb, lt-ltb}
 use Rattle.std.proofs.lemmas.Bool.Decides.{nat_tests}
 use Rattle.ell_word.specs.Node.{IsInternal, IsNode, card, internal, left_leaf, right_leaf}
-use Rattle.ell_layout.specs.Words.{Words, IsLeaf}
-use Rattle.ell_layout.specs.Cards.{is_replace_card}
+use Rattle.ell_layout.specs.Words.{Words, IsLeaf, is_flat}
+use Rattle.ell_layout.specs.Cards.{is_replace_card, stays_below}
 use Rattle.ell_trie.specs.Ranges.{goes, IsOrdered, low_of, high_of}
 use Rattle.ell_core.specs.tree.Rank.{rank}
 use Rattle.ell_core.specs.history.Stages.{Stages, IFlagged, IChanged, is_node_born, Born}
@@ -57,16 +57,20 @@ module _ (w : Words) (stage : Stages) (sound : WordsAreSound w stage) (c : ℕ) 
   pub key_differs : w.key (w.l c) ≢ insert_key w c
   key_differs e = let less = its_order in elim its_keys [ inl h ↦ omega arith | inr h ↦ omega arith ]
 
-  -- what stands in place of a leaf of the card: the leaf, or above an internal node that node, if it has the leaf's key
-  pub stands_for : (own : ℕ) (there : Bool) → ((if w.l c % 4 == 0 && there then w.l c else own) ≡ own)
-      ⊎ (((if w.l c % 4 == 0 && there then w.l c else own) ≡ w.l c) × IsInternal (w.l c) × (there ≡ true))
-  stands_for own true = elim (cases_eq (w.l c % 4) 0) [
-    | inl e ↦ inr (ap (λ b. if b && true then w.l c else own) (eq-eqb (w.l c % 4) 0 e), e, refl)
-    | inr n ↦ inl (ap (λ b. if b && true then w.l c else own) (ne_eqb (w.l c % 4) 0 n))
+  -- whether the node where the card goes is a child of the card's node
+  abbrev pub stays : Bool
+  stays = stays_below (is_flat w) (w.l c)
+
+  -- what stands in place of a leaf of the card: the leaf, or the node where the card goes, if that stays and has the leaf's key
+  pub stands_for : (own : ℕ) (there : Bool) → ((if stays && there then w.l c else own) ≡ own)
+      ⊎ (((if stays && there then w.l c else own) ≡ w.l c) × (stays ≡ true) × (there ≡ true))
+  stands_for own true = elim (cases_Bool stays) [
+    | inl e ↦ inr (ap (λ b. if b && true then w.l c else own) e, e, refl)
+    | inr n ↦ inl (ap (λ b. if b && true then w.l c else own) n)
   ]
-  stands_for own false = elim (cases_eq (w.l c % 4) 0) [
-    | inl e ↦ inl (ap (λ b. if b && false then w.l c else own) (eq-eqb (w.l c % 4) 0 e))
-    | inr n ↦ inl (ap (λ b. if b && false then w.l c else own) (ne_eqb (w.l c % 4) 0 n))
+  stands_for own false = elim (cases_Bool stays) [
+    | inl e ↦ inl (ap (λ b. if b && false then w.l c else own) e)
+    | inr n ↦ inl (ap (λ b. if b && false then w.l c else own) n)
   ]
 
   left_same : nat_le (w.key (w.l c)) (insert_key w c) ≡ true → w.key (w.l c) ≡ w.key (left_leaf c)
@@ -83,9 +87,9 @@ module _ (w : Words) (stage : Stages) (sound : WordsAreSound w stage) (c : ℕ) 
   abbrev pub leaf_on : Bool → ℕ
   leaf_on right = if right then right_leaf c else left_leaf c
 
-  -- the child on a side: the card's leaf, or the internal node where it goes, which has its key
+  -- the child on a side: the card's leaf, or the node where the card goes, if that stays, which has its key
   pub child_is : (right : Bool) → (w.child (internal c) right ≡ leaf_on right)
-      ⊎ ((w.child (internal c) right ≡ w.l c) × IsInternal (w.l c) × (w.key (w.l c) ≡ w.key (leaf_on right)))
+      ⊎ ((w.child (internal c) right ≡ w.l c) × (stays ≡ true) × (w.key (w.l c) ≡ w.key (leaf_on right)))
   child_is false = elim (stands_for (left_leaf c) (nat_le (w.key (w.l c)) (insert_key w c))) [
     | inl e ↦ inl (nodes_said.children false ∙ e)
     | inr h ↦ inr (nodes_said.children false ∙ h.0, h.1, left_same h.2)
@@ -95,15 +99,15 @@ module _ (w : Words) (stage : Stages) (sound : WordsAreSound w stage) (c : ℕ) 
     | inr h ↦ inr (nodes_said.children true ∙ h.0, h.1, right_same h.2)
   ]
 
-  -- above an internal node the child that has its key is that node
-  below_there : (own : ℕ) (there : Bool) → IsInternal (w.l c) → there ≡ true → (if w.l c % 4 == 0 && there then w.l c else own) ≡ w.l c
-  below_there own there inner e = λ t. if eq-eqb (w.l c % 4) 0 inner t && e t then w.l c else own
+  -- above a node that stays the child that has its key is that node
+  below_there : (own : ℕ) (there : Bool) → stays ≡ true → there ≡ true → (if stays && there then w.l c else own) ≡ w.l c
+  below_there own there kept e = λ t. if kept t && e t then w.l c else own
 
-  pub below_child : IsInternal (w.l c) → (half : Bool) → w.key (leaf_on half) ≡ insert_key w c → w.key (leaf_on (not half)) ≡ w.key (w.l c)
+  pub below_child : stays ≡ true → (half : Bool) → w.key (leaf_on half) ≡ insert_key w c → w.key (leaf_on (not half)) ≡ w.key (w.l c)
       → w.child (internal c) (not half) ≡ w.l c
-  below_child inner true own old = nodes_said.children false ∙ below_there (left_leaf c) (nat_le (w.key (w.l c)) (insert_key w c)) inner
+  below_child kept true own old = nodes_said.children false ∙ below_there (left_leaf c) (nat_le (w.key (w.l c)) (insert_key w c)) kept
       (le-leb (w.key (w.l c)) (insert_key w c) (let less = its_order in omega arith))
-  below_child inner false own old = nodes_said.children true ∙ below_there (right_leaf c) (nat_lt (insert_key w c) (w.key (w.l c))) inner
+  below_child kept false own old = nodes_said.children true ∙ below_there (right_leaf c) (nat_lt (insert_key w c) (w.key (w.l c))) kept
       (lt-ltb (insert_key w c) (w.key (w.l c)) (let less = its_order in omega arith))
 
   -- it has the leaf's key
@@ -115,18 +119,18 @@ module _ (w : Words) (stage : Stages) (sound : WordsAreSound w stage) (c : ℕ) 
   new_keys false = elim its_keys [ inl h ↦ inl (child_key false ∙ h.0) | inr h ↦ inr (child_key false ∙ h.0) ]
   new_keys true = elim its_keys [ inl h ↦ inr (child_key true ∙ h.1) | inr h ↦ inl (child_key true ∙ h.1) ]
 
-  -- above a leaf the children are leaves of the card
-  pub own_child : IsLeaf (w.l c) → (right : Bool) → w.child (internal c) right ≡ leaf_on right
-  own_child outer right = elim (child_is right) [ inl e ↦ e | inr h ↦ absurd (outer h.1) ]
+  -- above a node that does not stay the children are leaves of the card
+  pub own_child : stays ≡ false → (right : Bool) → w.child (internal c) right ≡ leaf_on right
+  own_child none right = elim (child_is right) [ inl e ↦ e | inr h ↦ absurd (false≢true (sym none ∙ h.1)) ]
 
   -- a leaf that has the old leaf's key has its value
-  pub copied_value : IsLeaf (w.l c) → (right : Bool) → w.key (w.child (internal c) right) ≡ w.key (w.l c)
+  pub copied_value : stays ≡ false → IsLeaf (w.l c) → (right : Bool) → w.key (w.child (internal c) right) ≡ w.key (w.l c)
       → w.value (w.child (internal c) right) ≡ w.value (w.l c)
-  copied_value outer false same = ap w.value (own_child outer false) ∙ elim card_said.copy [
+  copied_value none outer false same = ap w.value (own_child none false) ∙ elim card_said.copy [
     | inl copy ↦ copy.value outer
     | inr copy ↦ (let less = its_order in let at = child_key false in let has = copy.key in absurd (omega arith))
   ]
-  copied_value outer true same = ap w.value (own_child outer true) ∙ elim card_said.copy [
+  copied_value none outer true same = ap w.value (own_child none true) ∙ elim card_said.copy [
     | inl copy ↦ (let less = its_order in let at = child_key true in let has = copy.key in absurd (omega arith))
     | inr copy ↦ copy.value outer
   ]

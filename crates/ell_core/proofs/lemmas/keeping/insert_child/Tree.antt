@@ -1,8 +1,9 @@
-use Rattle.std.proofs.Common.{◌≡◌, ◌≢◌, ℕ, ◌%◌, ◌<◌, ◌≤◌, ◌↔◌, Bool, true, false, not, nat_le, inl, inr, ◌⊎◌, refl, sym, ap, ◌∙◌, subst, arith}
+use Rattle.std.proofs.Common.{◌≡◌, ◌≢◌, ℕ, ◌%◌, ◌<◌, ◌≤◌, ◌↔◌, ◌||◌, Bool, true, false, not, nat_le, nat_lt, inl, inr, ◌⊎◌, refl, sym, ap, ◌∙◌, subst, arith}
+use Rattle.std.proofs.lemmas.Bool.{ne_eqb}
 use Rattle.std.proofs.lemmas.Bool.Decides.{nat_tests}
 use Rattle.ell_word.specs.Node.{IsInternal, internal, left_leaf, right_leaf}
-use Rattle.ell_layout.specs.Words.{Words, IsLeaf}
-use Rattle.ell_layout.specs.Cards.{is_replace_card}
+use Rattle.ell_layout.specs.Words.{Words, IsLeaf, is_flat}
+use Rattle.ell_layout.specs.Cards.{is_replace_card, stays_below}
 use Rattle.ell_trie.specs.Ranges.{Spans, IsOrdered}
 use Rattle.ell_core.specs.history.Stages.{Stages, IFlagged, IChanged, Born}
 use Rattle.ell_core.specs.history.Invariant.{top, IsIn, IsOut, LeadsTo, LeadsToValue, IsOnCourse, insert_key, insert_value, insert_side, InsertCard, Unborn, WordsAreSound}
@@ -47,12 +48,16 @@ module _ (w : Words) (stage : Stages) (sound : WordsAreSound w stage) (c : ℕ) 
   number_rises : (x y : ℕ) → x < y → rank w x < rank w y
   number_rises x y less = let a = rank_plain w plain x in let b = rank_plain w plain y in omega arith
 
+  -- which does not stay
+  none_stays : stays_below (is_flat w) (w.l c) ≡ false
+  none_stays = λ t. nat_lt 0 (plain t) || ne_eqb (w.l c % 4) 0 outer t
+
   -- the children of the new node are the card's leaves
   left_is : w.child (internal c) false ≡ left_leaf c
-  left_is = own_child w stage sound c flagged two outer false
+  left_is = own_child w stage sound c flagged two none_stays false
 
   right_is : w.child (internal c) true ≡ right_leaf c
-  right_is = own_child w stage sound c flagged two outer true
+  right_is = own_child w stage sound c flagged two none_stays true
 
   new_child : (right : Bool) → (w.child (internal c) right ≡ left_leaf c) ⊎ (w.child (internal c) right ≡ right_leaf c)
   new_child false = inl left_is
@@ -151,7 +156,7 @@ module _ (w : Words) (stage : Stages) (sound : WordsAreSound w stage) (c : ℕ) 
   copies : (value : ℕ) (right : Bool) → w.key (w.child (internal c) right) ≡ w.key (w.l c)
       → (w.value (w.child (internal c) right) ≡ value) ↔ (w.value (w.l c) ≡ value)
   copies value right same =
-      let copy = copied_value w stage sound c flagged two outer right same in (λ e. sym copy ∙ e, λ e. copy ∙ e)
+      let copy = copied_value w stage sound c flagged two none_stays outer right same in (λ e. sym copy ∙ e, λ e. copy ∙ e)
 
   -- every other key is met as before, with its value
   leads_still : (k value x : ℕ) → k ≢ insert_key w c → LeadsToValue w k value x → LeadsToValue node_words k value x
