@@ -175,8 +175,8 @@ ELLTREE_MUST_USE static inline int32_t elltree_open(struct elltree_handle *handl
    way, and is made by the next call. A thread that stands still in a call holds cards back until it goes on, and a handle in no call holds
    none. The tree has this number of handles at a time, its first one among them, at least one and at most 1,000,000, and one that is freed
    makes room for another. That cards and room come back is tested; that no card comes back too early is proved. A card and a pair to start
-   with take 104 bytes each, and a handle 64. Of 2^61 card numbers each change uses about 2^21 divided by the number of free cards, so a tree
-   of 16 cards has enough for a month of 5 million changes a second. Then changes are refused with ELLTREE_SPENT for good.
+   with take 104 bytes each, and a handle 64. Of 2^62 card numbers each change uses about 2^26 divided by the number of free cards, so a tree
+   of 16 cards has enough for two days of 5 million changes a second. Then changes are refused with ELLTREE_SPENT for good.
    Refusals: those of elltree_open. */
 ELLTREE_MUST_USE static inline int32_t elltree_open_reusing(struct elltree_handle *handle, const struct elltree_pair *start, size_t start_count,
                                                             uint64_t cards, uint32_t handles) {

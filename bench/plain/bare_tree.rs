@@ -23,7 +23,7 @@ const GROUP: u64 = 64;
 const PART: u64 = 4;
 
 /// Node numbers are below this one, so that a mask gives the node of a child word.
-const TAG_UNIT: u64 = 1 << 43;
+const TAG_UNIT: u64 = 1 << 38;
 
 /// The twelve words of a card, in the order of their places: those of its internal node, of its two leaves, and of its record. `Left` and
 /// `Right` are child words. `L` has the leaf where the search ended, with the tag of the child word that the card is to exchange.

@@ -1,5 +1,5 @@
 /* Trees whose cards come back. One handle changes keys long after each card was taken, and is answered as a map, and never refused, also where a tree
-   of few slots has given out numbers of cards above 2^41, of which words of children have not all bits. Deletes can empty a tree that inserts have
+   of few slots has given out numbers of cards above 2^36, of which words of children have not all bits. Deletes can empty a tree that inserts have
    filled, and where no other call is under way each of them is refused once at most. Four threads change keys of their own, and add to one that all
    share, which loses nothing; a call is made again where each card was in use. A thread is stopped in the middle of changes, by a signal whose
    handler waits: meanwhile calls that read are answered, and changes until the cards run out, and once it goes on so are all. A handle that has
@@ -16,7 +16,7 @@
 enum {
     KEYS = 8,
     CHANGES = 200000,
-    CHANGES_BEYOND = 30000000,
+    CHANGES_BEYOND = 2000000,
     THREADS = 4,
     ADDITIONS = 20000,
     EACH = 16,
@@ -31,7 +31,7 @@ enum {
     TRIES = 1000
 };
 #define COUNTER UINT64_C(1000000)
-#define NUMBERS (UINT64_C(1) << 61)
+#define NUMBERS (UINT64_C(1) << 62)
 
 static uint64_t next(uint64_t *seed) { return *seed ^= *seed << 13, *seed ^= *seed >> 7, *seed ^= *seed << 17; }
 
@@ -65,7 +65,7 @@ static long alone(uint64_t cards, uint64_t keys, uint64_t changes) {
     }
     for (uint64_t key = 0; key < KEYS; key++)
         wrong += elltree_find(&one, key, &told) != (there[key] ? ELLTREE_YES : ELLTREE_NO);
-    wrong += elltree_cards_left(&one, &told) != ELLTREE_YES || (changes == CHANGES_BEYOND && told > NUMBERS - (UINT64_C(1) << 41));
+    wrong += elltree_cards_left(&one, &told) != ELLTREE_YES || (changes == CHANGES_BEYOND && told > NUMBERS - (UINT64_C(1) << 36));
     return wrong + (elltree_free(&one) != ELLTREE_YES);
 }
 

@@ -123,7 +123,7 @@ class Handle(Ordered):
 
     def cards_left(self) -> int:
         """Returns how many cards of the tree are left, as it was at one moment of the call. Other handles may take some meanwhile, and the number
-        never rises. In a tree whose cards come back it is no number of cards, but tells how many card numbers are left, of 2305843009213693951. Each
+        never rises. In a tree whose cards come back it is no number of cards, but tells how many card numbers are left, of 4611686018427387903. Each
         change uses some."""
         return self._core.cards_left()
 

@@ -12,18 +12,18 @@ use Rattle.ell_cards.specs.declared.view.Told.TheVariants.{Met, Depth, Key, Valu
 use Rattle.ell_cards.specs.declared.view.View.{View}
 use Rattle.ell_cards.specs.Models.{TablePlan, Has, IsTold, Knows, StandsAt, flat_from}
 
--- what a child word holds of a node's number: its low 43 bits
+-- what a child word holds of a node's number: its low 38 bits
 abbrev pub cut_node : ℕ → ℕ
-cut_node x = x % 274877906944
+cut_node x = x % tag_unit
 
--- a word of a card that is a node is a number of 43 bits
+-- a word of a card that is a node is a number of 38 bits
 abbrev pub InfoIsLow : Field → ℕ → Type 0
 InfoIsLow Gp x = x < tag_unit
 InfoIsLow P x = x < tag_unit
 InfoIsLow L x = x < tag_unit
 InfoIsLow _ x = Unit {0}
 
--- the nodes that a pass names, by what words hold of them, are numbers of 43 bits
+-- the nodes that a pass names, by what words hold of them, are numbers of 38 bits
 pub record NamesLowBits (v : View) : Type 0 where
   pub met : (x : ℕ) → IsTold v (Met x) → x < tag_unit
   pub node : (x : ℕ) → StandsAt v x → x < tag_unit

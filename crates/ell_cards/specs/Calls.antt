@@ -67,7 +67,7 @@ where_of (call.Info c f) = OnCard c f
 where_of (call.FrozenChild c p right) = OnNode p (child_field right)
 where_of call.Look = OnRoot (child_field false)
 where_of (call.LookDown from to right) = OnNode from.node (child_field right)
-where_of (call.Claim c node_key) = OnClaim
+where_of (call.Claim c node) = OnClaim
 where_of (call.Fill c f value) = OnCard c f
 where_of (call.IFlag c p from) = OnNode p field.Update
 where_of (call.IChild c p l replaces right) = OnNode p (child_field right)
@@ -118,7 +118,7 @@ next_link old node = record { node = node; tag = old.tag + 1 }
 
 -- what a call does to its word
 abbrev pub atomic_of : Call → Atomic
-atomic_of (call.Claim c node_key) = Exchange c (c + 1)
+atomic_of (call.Claim c node) = Exchange c (c + 1)
 atomic_of (call.Fill c f value) = Store value
 atomic_of (call.IFlag c p from) = Exchange (packed from) (iflag c)
 atomic_of (call.IChild c p l replaces right) = Exchange (linked l) (linked (next_link l (brought_by c replaces)))
@@ -179,7 +179,7 @@ after (call.LookDown from to right) n v = counted (record v {
   glances = record { node = (link_in n).node; low = to.low; high = to.high; whole = to.whole } ∷ v.glances;
 })
 after call.Rest n v = after_rest v
-after (call.Claim c node_key) n v = after_claim (n == c) c node_key v
+after (call.Claim c node) n v = after_claim (n == c) c node v
 after (call.Fill c f value) n v = after_fill f value v
 after (call.IFlag c p from) n v =
     exchanged (if_won (n == packed from) exchange.IFlag c) n
@@ -213,7 +213,7 @@ May plan (call.FrozenChild c p right) v = KnowsPlace v (fact.Marked c) c field.P
 May plan call.Look v = IsFree v
 May plan (call.LookDown from to right) v = MayLookDown (flat_from plan) v from to right
 May plan call.Rest v = IsFree v
-May plan (call.Claim c node_key) v = MayClaim (flat_from plan) v c node_key × (c ≤ plan.last_card)
+May plan (call.Claim c node) v = MayClaim (flat_from plan) v c node × (c ≤ plan.last_card)
 May plan (call.Fill c f value) v = MayFill v c
 May plan (call.IFlag c p from) v = MayIFlag v c p from
 May plan (call.IChild c p l replaces right) v = MayIChild v c p l replaces right
@@ -232,7 +232,7 @@ act_of call.Leave n = Some act.Leave
 act_of (call.Answer said) n = Some act.Answer
 act_of (call.Upd x) n = Some act.Upd
 act_of (call.Down x right) n = Some act.Down
-act_of (call.Claim c node_key) n = if n == c then Some act.Claim else None
+act_of (call.Claim c node) n = if n == c then Some act.Claim else None
 act_of (call.IFlag c p from) n = Some act.IFlag
 act_of (call.IChild c p l replaces right) n = Some (act.IChild c)
 act_of (call.IUnflag c p) n = Some (act.IUnflag c)
@@ -251,7 +251,7 @@ said_by _ n = Moved
 -- what the machine answers to the act of a call
 abbrev pub said_of : Call → ℕ → Stepped
 said_of (call.Answer said) n = Answered said
-said_of (call.Claim c node_key) n = Moved
+said_of (call.Claim c node) n = Moved
 said_of c n = said_by (atomic_of c) n
 
 -- an act of a worker leads from a machine to another with this answer; no act leaves the machine

@@ -35,8 +35,7 @@ use Rattle.ell_ops.specs.declared.reply.Reply.{Reply}
 use Rattle.ell_ops.specs.declared.reply.Reply.TheVariants.{Yes, Found}
 use Rattle.ell_cards.specs.declared.view.Answered.{Answered}
 use Rattle.ell_cards.specs.declared.view.Deed.{Deed}
-use Rattle.ell_word.specs.declared.link.Link.{Link}
-use Rattle.ell_word.specs.Link.{linked, link_in}
+use Rattle.ell_word.specs.Link.{link_in}
 use Rattle.ell_cards.specs.declared.call.NewNode.{NewNode}
 
 -- the facts with the one that an update tells: a flag or a mark that of its card, a clean update none
@@ -287,18 +286,18 @@ value_told told x = if x % 4 == 0 then 0 else told_value told x
 -- what fills a card whose node gets this key, by the operation, the search, the key of the node where it stands and the
 -- values of leaves
 abbrev pub filling_for : ℕ → NewNode → Option Op → Option ℕ → Option Seen → Option Seen → ℕ → (ℕ → ℕ) → List (Field × ℕ)
-filling_for c node_key (Some (Insert k value)) (Some below) (Some parent) above key value_of =
-    put_filling node_key.flat c k value node_key.key parent.node below key (value_of below)
-filling_for c node_key (Some (Swap k was value)) (Some below) (Some parent) above key value_of =
-    put_filling node_key.flat c k value node_key.key parent.node below key (value_of below)
-filling_for c node_key (Some (Delete k)) (Some leaf) (Some parent) (Some above) key value_of =
+filling_for c node (Some (Insert k value)) (Some below) (Some parent) above key value_of =
+    put_filling node.flat c k value node.key parent.node below key (value_of below)
+filling_for c node (Some (Swap k was value)) (Some below) (Some parent) above key value_of =
+    put_filling node.flat c k value node.key parent.node below key (value_of below)
+filling_for c node (Some (Delete k)) (Some leaf) (Some parent) (Some above) key value_of =
     delete_filling above.node parent.node leaf parent.word
-filling_for c node_key _ _ _ _ key value_of = []
+filling_for c node _ _ _ _ key value_of = []
 
 -- what fills card c, by what the pass knows
 abbrev pub filling_of : ℕ → NewNode → View → List (Field × ℕ)
-filling_of c node_key v =
-    filling_for c node_key v.worker.operation v.worker.search.node v.worker.search.parent v.worker.search.grandparent
+filling_of c node v =
+    filling_for c node v.worker.operation v.worker.search.node v.worker.search.parent v.worker.search.grandparent
     (unwrap_or v.here 0) (value_told v.told)
 
 -- the tag that a card is to expect: that of the child word which is to be exchanged, as the search read it
@@ -323,15 +322,15 @@ told_filling c (e ∷ es) told =
 
 -- claim: the card is in hand, in place of one that is laid aside, and its words are told; or it was lost, a hindrance
 abbrev pub after_claim : Bool → ℕ → NewNode → View → View
-after_claim true c node_key v = counted (record v {
+after_claim true c node v = counted (record v {
   worker = with_card c v.worker;
-  told = Expects c (expected_tag v) ∷ told_filling c (filling_of c node_key v) v.told;
-  planned = tagged (expected_tag v) (filling_of c node_key v);
+  told = Expects c (expected_tag v) ∷ told_filling c (filling_of c node v) v.told;
+  planned = tagged (expected_tag v) (filling_of c node v);
   stores = [];
   won = (exchange.Claim, c) ∷ v.won;
   next_at_least = c + 1;
 })
-after_claim false c node_key v = counted (hindered_by (Claim c) (record v { next_at_least = c + 1 }))
+after_claim false c node v = counted (hindered_by (Claim c) (record v { next_at_least = c + 1 }))
 
 -- fill: a word of the card in hand was stored
 abbrev pub after_fill : Field → ℕ → View → View

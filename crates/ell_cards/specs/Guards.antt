@@ -177,7 +177,7 @@ Wants from v (Delete k) parent x key node_key = WantsDelete v k x key
 -- claim, in a tree that is flat from a card on, for a card whose node gets this key: next read this card, which is not
 -- in hand; the pass has no card in hand, or, in a flat tree, one that has not won its flag, which it lays aside; and it
 -- stands at a node whose key it was told, behind a clean parent
-pub record MayClaim (from : ℕ) (v : View) (c : ℕ) (node_key : NewNode) : Type 0 where
+pub record MayClaim (from : ℕ) (v : View) (c : ℕ) (node : NewNode) : Type 0 where
   pub op : Op
   pub below : ℕ
   pub key : ℕ
@@ -190,8 +190,8 @@ pub record MayClaim (from : ℕ) (v : View) (c : ℕ) (node_key : NewNode) : Typ
   pub told : v.here ≡ Some key
   pub behind : v.worker.search.parent ≡ Some parent
   pub calm : IsClean parent.word
-  pub wants : Wants from v op parent.node below key node_key.key
-  pub shape : node_key.flat ≡ nat_lt 0 from
+  pub wants : Wants from v op parent.node below key node.key
+  pub shape : node.flat ≡ nat_lt 0 from
 
 -- fill: the card is in hand, not flagged
 pub record MayFill (v : View) (c : ℕ) : Type 0 where

@@ -7,12 +7,12 @@ use Rattle.ell_cards.specs.declared.view.SlotRead.{SlotRead}
 use Rattle.ell_cards.specs.declared.view.Slots.{Slots}
 use Rattle.ell_cards.specs.declared.view.Survey.{Survey}
 use Rattle.ell_cards.specs.CardNodes.{all_noted, no_nodes, nodes_of_both}
-use Rattle.ell_cards.specs.SlotWords.{has_slot_in, is_noted, slot_of, turn_in, turn_of, stamp_in}
+use Rattle.ell_cards.specs.SlotWords.{has_slot_in, is_noted, slot_of, turn_in, turn_of, stamp_in, turns_told_apart}
 
 -- how many of the numbers that have slots come before this one, which has one: each turn has as many as there are slots,
 -- but for those that child words do not tell from the first, which have none
 abbrev pub slots_before : Slots → ℕ → ℕ
-slots_before s c = (s.last + 1) * (turn_of c - turn_of c / 1024) + slot_of c
+slots_before s c = (s.last + 1) * (turn_of c - turn_of c / turns_told_apart) + slot_of c
 
 -- whether a pass with a safe number could take a slot, by the slot's word: that was set free with a stamp below the
 -- safe number

@@ -209,7 +209,7 @@ pub record IsLifted (plan : TablePlan) (c : Call) (v : View) : Type 0 where
 
 -- a call that claims no card
 abbrev pub IsNoClaim : Call → Type 0
-IsNoClaim (call.Claim c node_key) = ⊥
+IsNoClaim (call.Claim c node) = ⊥
 IsNoClaim c = Unit {0}
 
 -- what is shown of what a pass knows that tells nodes apart, after a call that it may make, is what it knows after the
@@ -224,8 +224,8 @@ cut_planned v = record v { planned = shown_words v.planned }
 
 -- so it is after a claim that is won, with what is planned cut: for that has the whole numbers of the card's own nodes
 abbrev pub ClaimsAreShown : Type 0
-ClaimsAreShown = (plan : TablePlan) (c : ℕ) (node_key : NewNode) (v : View) → IsApart plan v
-    → shown (after_claim true c node_key v) ≡ cut_planned (after_claim true c node_key (shown v))
+ClaimsAreShown = (plan : TablePlan) (c : ℕ) (node : NewNode) (v : View) → IsApart plan v
+    → shown (after_claim true c node v) ≡ cut_planned (after_claim true c node (shown v))
 
 -- each call that is shown, and may be made by what is shown, is lifted
 abbrev pub GuardsAreLifted : Type 0

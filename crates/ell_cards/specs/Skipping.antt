@@ -19,35 +19,35 @@ use Rattle.ell_cards.specs.Whole.{IsWhole}
 
 -- what a pass knows once it has claimed a card, and then read the claim word
 abbrev pub after_one : ℕ → NewNode → View → View
-after_one c node_key v = after call.Next (c + 1) (after_claim true c node_key v)
+after_one c node v = after call.Next (c + 1) (after_claim true c node v)
 
 -- and once it has claimed this card and so many after it, one after the other, and read the claim word between two
 -- claims: it has laid aside all of them but the last one, which is in hand
 abbrev pub after_row : ℕ → ℕ → NewNode → View → View
-after_row zero c node_key v = after_claim true c node_key v
-after_row (suc n) c node_key v = after_row n (c + 1) node_key (after_one c node_key v)
+after_row zero c node v = after_claim true c node v
+after_row (suc n) c node v = after_row n (c + 1) node (after_one c node v)
 
 -- once it has claimed all cards from a first one to a last one, by words of 64 bits, or else lost the claim
 abbrev pub after_claimed_row : Bool → ℕ → ℕ → NewNode → View → View
-after_claimed_row won first last node_key v =
-    if won then cut_planned (after_row (last - first) first node_key v) else after_claim false first node_key v
+after_claimed_row won first last node v =
+    if won then cut_planned (after_row (last - first) first node v) else after_claim false first node v
 
 -- what is told of a card that is claimed
 abbrev pub told_of_claim : ℕ → NewNode → View → List Told
-told_of_claim c node_key v = Expects c (expected_tag v) ∷ told_filling c (filling_of c node_key v) []
+told_of_claim c node v = Expects c (expected_tag v) ∷ told_filling c (filling_of c node v) []
 
 -- something was told of a card of a row when that was claimed
-pub record IsToldInRow (first last : ℕ) (node_key : NewNode) (v : View) (e : Told) : Type 0 where
+pub record IsToldInRow (first last : ℕ) (node : NewNode) (v : View) (e : Told) : Type 0 where
   pub card : ℕ
   pub from : first ≤ card
   pub upto : card ≤ last
-  pub among : Has (told_of_claim card node_key v) e
+  pub among : Has (told_of_claim card node v) e
 
 -- What a pass knows after a row of claims, from a first card to a last one: that is in hand, not flagged, and nothing
 -- of it is stored; it is to say what it would have been to say had it been the first, cut to 64 bits; and beside what
 -- was told before, what was told is of the cards of the row, and no leaf's value. It has won a claim for each of
 -- these, and has made a call between two of them. All else is as it was.
-pub record IsAfterRow (first last : ℕ) (node_key : NewNode) (old new : View) : Type 0 where
+pub record IsAfterRow (first last : ℕ) (node : NewNode) (old new : View) : Type 0 where
   pub operation : new.worker.operation ≡ old.worker.operation
   pub search : new.worker.search ≡ old.worker.search
   pub knows : new.worker.knows ≡ old.worker.knows
@@ -55,7 +55,7 @@ pub record IsAfterRow (first last : ℕ) (node_key : NewNode) (old new : View) :
   pub shared : new.worker.shared ≡ old.worker.shared
   pub card : new.worker.card ≡ Some last
   pub unflagged : new.worker.flagged ≡ false
-  pub planned : new.planned ≡ shown_words (tagged (expected_tag old) (filling_of last node_key old))
+  pub planned : new.planned ≡ shown_words (tagged (expected_tag old) (filling_of last node old))
   pub stores : new.stores ≡ []
   pub here : new.here ≡ old.here
   pub next : old.next ≡ Some first → new.next ≡ Some last
@@ -76,8 +76,8 @@ pub record IsAfterRow (first last : ℕ) (node_key : NewNode) (old new : View) :
   pub made : new.made ≡ old.made + 2 * (last - first) + 1
   pub told : (e : Told) → IsTold old e → IsTold new e
   pub values : value_told new.told ≡ value_told old.told
-  pub says : (e : Told) → Has (told_of_claim last node_key old) e → IsTold new e
-  pub only : (e : Told) → IsTold new e → IsTold old e ⊎ IsToldInRow first last node_key old e
+  pub says : (e : Told) → Has (told_of_claim last node old) e → IsTold new e
+  pub only : (e : Told) → IsTold new e → IsTold old e ⊎ IsToldInRow first last node old e
 
 -- Whatever the table is when a word becomes another one, and whatever a pass knows of which this is shown, where it
 -- took a slot last for the card that contracts see: this holds of the word found and of what is shown of what the
@@ -95,6 +95,6 @@ IsFresh plan slot won c = plan.slots ≢ None → won ≡ true → slot ≢ Some
 -- an exchange of the claim word that found this, and takes all numbers from a first card to a last one if it is won,
 -- leaves of a pass what it is to know, and that names what is in its table; and the last card is a fresh one
 abbrev pub RowTells : TablePlan → ℕ → ℕ → NewNode → PassModel → ℕ → View → Type 0
-RowTells plan first last node_key p n w =
-    (w ≡ after_claimed_row (n == first) first last node_key p.view) × IsInside plan w
+RowTells plan first last node p n w =
+    (w ≡ after_claimed_row (n == first) first last node p.view) × IsInside plan w
     × IsFresh plan p.slot (n == first) last

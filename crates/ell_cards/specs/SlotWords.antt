@@ -1,15 +1,21 @@
 use Rattle.std.specs.Prelude.{ℕ, zero, suc, ◌+◌, ◌*◌, ◌/◌, ◌%◌, ◌==◌, ◌&&◌, ◌||◌, nat_le, not, if◌then◌else◌, Bool, false, Option, Some, None}
+use Rattle.ell_word.specs.Node.{turn_size}
 
--- The slot in which a card lies, and its turn there: 2^21 card numbers are a turn, of which each slot has one.
+-- The slot in which a card lies, and its turn there: of the card numbers of a turn each slot has one.
 abbrev pub slot_of : ℕ → ℕ
-slot_of c = c % 67108864
+slot_of c = c % turn_size
 
 abbrev pub turn_of : ℕ → ℕ
-turn_of c = c / 67108864
+turn_of c = c / turn_size
 
--- whether a turn is the first one, or one that child words tell from the first, as they hold its low 20 bits
+-- How many turns child words tell apart, which hold the low 10 bits of a turn: of two turns that are a multiple of this
+-- apart they hold the same.
+abbrev pub turns_told_apart : ℕ
+turns_told_apart = 1024
+
+-- whether a turn is the first one, or one that child words tell from the first
 abbrev pub has_slots : ℕ → Bool
-has_slots turn = turn == 0 || not (turn % 1024 == 0)
+has_slots turn = turn == 0 || not (turn % turns_told_apart == 0)
 
 -- whether a number has a slot in a table with these slots: its slot is one of the table, up to the last one, and its turn
 -- is the first one, or one that child words tell from the first
@@ -42,7 +48,7 @@ is_noted n (suc (suc (suc k))) = false
 
 -- the card that lies in a slot in use, by the slot's word
 abbrev pub card_by : ℕ → ℕ → ℕ
-card_by slot n = 67108864 * turn_in n + slot
+card_by slot n = turn_size * turn_in n + slot
 
 -- the stamp with which a word sets its slot free, if it does
 abbrev pub freed_by : ℕ → Option ℕ

@@ -45,8 +45,8 @@ NoOtherOutcome = (plan : TablePlan) (s : TableState) → IsReached plan s → (i
 -- nor can the claim of the next card be lost that was not tried, whatever key its node would get
 abbrev pub NoUntriedClaimLost : Type 0
 NoUntriedClaimLost = (plan : TablePlan) (s : TableState) → IsReached plan s → (id : ℕ) (v : View)
-    → get_elem? s.views id ≡ some v → (node_key : NewNode) → ¬ IsReached plan (record {
+    → get_elem? s.views id ≡ some v → (node : NewNode) → ¬ IsReached plan (record {
       words = s.words;
       homes = s.homes;
-      views = slice_set s.views id (after_claim false (slice_index s.words 0) node_key v);
+      views = slice_set s.views id (after_claim false (slice_index s.words 0) node v);
     })

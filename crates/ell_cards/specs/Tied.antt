@@ -78,7 +78,7 @@ abbrev pub MayInMemory : Slots → Option ℕ → Retired → View → Call → 
 MayInMemory s slot r v (call.Fill c f value) = slot ≡ Some c
 MayInMemory s slot r v (call.IFlag c p from) = (slot ≡ Some c) × HasStoredAll v put_says
 MayInMemory s slot r v (call.DFlag c gp from) = (slot ≡ Some c) × HasStoredAll v delete_says
-MayInMemory s slot r v (call.Claim c node_key) = (d : ℕ) → HoldsWaiting v d → slot ≢ Some d
+MayInMemory s slot r v (call.Claim c node) = (d : ℕ) → HoldsWaiting v d → slot ≢ Some d
 MayInMemory s slot r v call.Again = MayLetGo s slot r v
 MayInMemory s slot r v call.Leave = MayLetGo s slot r v
 MayInMemory s slot r v (call.Answer said) = MayLetGo s slot r v

@@ -1,4 +1,4 @@
-use Rattle.std.specs.Prelude.{◌≡◌, ◌≢◌, ℕ, ◌*◌, ◌<◌, ◌≤◌, ◌⊎◌, Bool, true, false, Some, List, [], ◌∷◌, ◌++◌, length, slice_index, slice_set, ◌+◌, ◌==◌}
+use Rattle.std.specs.Prelude.{◌≡◌, ◌≢◌, ℕ, ◌<◌, ◌≤◌, ◌⊎◌, Bool, true, false, Some, List, [], ◌∷◌, ◌++◌, length, slice_index, slice_set, ◌+◌, ◌==◌}
 use Rattle.std.specs.List.{IsDistinct, AllByRecursion}
 use mathlib.Core.Option.{some}
 use mathlib.Core.Option.{Option as Maybe}
@@ -8,7 +8,7 @@ use Rattle.ell_layout.specs.Start.{words_at_start}
 use Rattle.ell_layout.specs.Words.{put, words_of}
 use Rattle.ell_layout.specs.Layout.{table_size}
 use Rattle.ell_word.specs.Link.{link_in}
-use Rattle.ell_word.specs.Node.{IsInternal, card}
+use Rattle.ell_word.specs.Node.{IsInternal, card, greatest_card, turn_size}
 use Rattle.ell_core.specs.history.Stages.{Stages}
 use Rattle.ell_cards.specs.declared.call.Call.{Call}
 use Rattle.ell_cards.specs.declared.call.Call.TheVariants as call
@@ -69,7 +69,7 @@ pub record IsTiedByAges (plan : TablePlan) (s : Slots) (tree : TableState) (t : 
 -- tied, and memory is tied after it, whatever is noted of the homes.
 abbrev pub CallsKeepTies : Type 0
 CallsKeepTies = (plan : TablePlan) (s : Slots) (tree : TableState) (t : WholeState) (lie : ℕ → ℕ)
-    (dead : ℕ → Bool) (was_dead : ℕ → ℕ → Bool) → IsReached plan tree → s.last < 67108864 → table_size s.last ≤ length t.words
+    (dead : ℕ → Bool) (was_dead : ℕ → ℕ → Bool) → IsReached plan tree → s.last < turn_size → table_size s.last ≤ length t.words
     → IsTiedByAges plan s tree t lie dead was_dead
     → (id : ℕ) (k : Known) → get_elem? t.views id ≡ some k → get_elem? tree.views id ≡ some k.tree
     → IsAtRest k.tree ⊎ IsInPeriod t id k → (c : Call) → May plan c k.tree
@@ -88,7 +88,7 @@ right_known keys k = record { tree = right_view keys k.tree; period = given_peri
 -- A split of a pass with nothing in hand keeps memory tied, and so does a join of two.
 abbrev pub SplitsKeepTies : Type 0
 SplitsKeepTies = (plan : TablePlan) (s : Slots) (tree : TableState) (t : WholeState) (lie : ℕ → ℕ)
-    (dead : ℕ → Bool) (was_dead : ℕ → ℕ → Bool) → s.last < 67108864 → IsTiedByAges plan s tree t lie dead was_dead
+    (dead : ℕ → Bool) (was_dead : ℕ → ℕ → Bool) → s.last < turn_size → IsTiedByAges plan s tree t lie dead was_dead
     → (id : ℕ) (k : Known) → get_elem? t.views id ≡ some k → get_elem? tree.views id ≡ some k.tree
     → (keys : List ℕ) → IsFree k.tree → MayPart k.tree
     → IsTiedByAges plan s (state_split tree id k.tree keys)
@@ -101,7 +101,7 @@ SplitsKeepTies = (plan : TablePlan) (s : Slots) (tree : TableState) (t : WholeSt
 
 abbrev pub JoinsKeepTies : Type 0
 JoinsKeepTies = (plan : TablePlan) (s : Slots) (tree : TableState) (t : WholeState) (lie : ℕ → ℕ)
-    (dead : ℕ → Bool) (was_dead : ℕ → ℕ → Bool) → s.last < 67108864 → IsTiedByAges plan s tree t lie dead was_dead
+    (dead : ℕ → Bool) (was_dead : ℕ → ℕ → Bool) → s.last < turn_size → IsTiedByAges plan s tree t lie dead was_dead
     → (id other : ℕ) (k l : Known) → get_elem? t.views id ≡ some k → get_elem? t.views other ≡ some l
     → get_elem? tree.views id ≡ some k.tree → get_elem? tree.views other ≡ some l.tree
     → id ≢ other → IsFree k.tree → IsFree l.tree
@@ -166,7 +166,7 @@ memory_taken s t id k c = record {
 -- each pass that is in a period: that keeps memory tied too.
 abbrev pub TakesKeepTies : Type 0
 TakesKeepTies = (plan : TablePlan) (s : Slots) (tree : TableState) (t : WholeState) (lie : ℕ → ℕ)
-    (dead : ℕ → Bool) (was_dead : ℕ → ℕ → Bool) → s.last < 67108864 → length t.words ≡ slots_size s
+    (dead : ℕ → Bool) (was_dead : ℕ → ℕ → Bool) → s.last < turn_size → length t.words ≡ slots_size s
     → IsTiedByAges plan s tree t lie dead was_dead → trees_of t.views ≡ tree.views
     → (id : ℕ) (k : Known) → get_elem? t.views id ≡ some k → (c : ℕ) → HoldsWaiting k.tree c → has_slot_in s.last c ≡ true
     → dead (lie (slot_of c)) ≡ true
@@ -206,6 +206,6 @@ ExpectsNear _ n = Unit {0}
 -- pass forgot what it was told lie in their slots, and so they are few.
 abbrev pub ExchangesAreNear : Type 0
 ExchangesAreNear = (plan : TablePlan) (s : Slots) (tree : TableState) (t : WholeState) (lie : ℕ → ℕ)
-    (dead : ℕ → Bool) (was_dead : ℕ → ℕ → Bool) → IsTiedByAges plan s tree t lie dead was_dead → IsReached plan tree → s.last ≤ 67108861
+    (dead : ℕ → Bool) (was_dead : ℕ → ℕ → Bool) → IsTiedByAges plan s tree t lie dead was_dead → IsReached plan tree → s.last ≤ greatest_card
     → (id : ℕ) (k : Known) → get_elem? t.views id ≡ some k → get_elem? tree.views id ≡ some k.tree → IsInPeriod t id k
     → (c : Call) → May plan c k.tree → ExpectsNear c (found_by tree c)

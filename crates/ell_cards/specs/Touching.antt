@@ -5,7 +5,7 @@ use Rattle.ell_word.specs.Node.{card}
 use Rattle.ell_layout.specs.declared.field.Field.{Field}
 use Rattle.ell_layout.specs.declared.field.Field.TheVariants as field
 use Rattle.ell_layout.specs.Layout.{address}
-use Rattle.ell_layout.specs.Words.{Words, IsLeaf}
+use Rattle.ell_layout.specs.Words.{Words}
 use Rattle.ell_core.specs.declared.fact.Fact.TheVariants as fact
 use Rattle.ell_core.specs.history.Stages.{Stages}
 use Rattle.ell_core.specs.statements.Since.{has_ended}

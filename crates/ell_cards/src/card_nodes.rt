@@ -85,7 +85,11 @@ fn noting_first(too: bool, word: u64) -> u64
 fn noting_second(too: bool, word: u64) -> u64
     ensures { result ≡ noting_second too word }
 {
-    if too && word / 2 % 2 == 1 { word - 2 } else { word }
+    if too && word / 2 % 2 == 1 {
+        word - 2
+    } else {
+        word
+    }
 }
 
 // Returns a word that notes the right leaf too, or the word itself.
@@ -93,5 +97,9 @@ fn noting_second(too: bool, word: u64) -> u64
 fn noting_third(too: bool, word: u64) -> u64
     ensures { result ≡ noting_third too word }
 {
-    if too && word / 4 % 2 == 1 { word - 4 } else { word }
+    if too && word / 4 % 2 == 1 {
+        word - 4
+    } else {
+        word
+    }
 }

@@ -18,6 +18,7 @@ mod period;
 mod places;
 mod rule;
 mod share;
+mod slot_words;
 mod slots;
 mod story;
 mod table;

@@ -29,7 +29,7 @@ use crate::pass::{Pass, Standing};
 use crate::period::last_slot;
 use crate::rule::{Joined, PartedBy, SplitBy};
 use crate::share::{Share, WHOLE_SHARE};
-use crate::slots::{FREE_FROM_START, USED_FROM_START};
+use crate::slot_words::{FREE_FROM_START, USED_FROM_START};
 use crate::table::CardTable;
 use crate::view::{Plan, Slots, TableKind};
 use atomic_table::Table;

@@ -64,7 +64,7 @@ impl<M: Memory> CardTable<M> {
         self.exchange_claim::<Brand>(pass, first, node_key, last + 1) == first
     }
 
-    /// Stores a word of the card in hand, which is not flagged: for the grandparent or the parent the low 43 bits of a
+    /// Stores a word of the card in hand, which is not flagged: for the grandparent or the parent the low 38 bits of a
     /// node, as the pass knows them. If the table has places, the pass has taken the card's slot.
     #[inline(always)]
     pub fn fill(&self, pass: &mut Pass<M>, card: u64, field: Field, value: u64)

@@ -6,7 +6,7 @@ ghost use Rattle.ell_layout.specs.declared.field.Field.TheVariants as field;
 ghost use Rattle.ell_cards.specs.Calls.{slot_address};
 ghost use Rattle.ell_cards.specs.SlotWords.{slot_of};
 
-use crate::slots::slot_of;
+use crate::slot_words::slot_of;
 use ell_layout::{Field, child_field, key_field, value_field};
 use ell_word::card_of;
 

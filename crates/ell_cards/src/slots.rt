@@ -3,16 +3,16 @@
 //! the clock as its stamp, and a pass takes the slot for another card once that stamp is safe. The numbers of a later
 //! turn that child words do not tell from the first have no slots. The steps are not counted.
 ghost use prog.Atomic.{either};
-ghost use Rattle.std.specs.Prelude.{◌==◌, ◌≡◌, ◌≢◌, ◌+◌, ◌*◌, ◌<◌, ◌≤◌, ◌%◌, ◌⊎◌, ◌||◌, nat_le, ℕ, IfSome, None, Some, [], true, false};
-ghost use Rattle.ell_word.specs.Node.{card, greatest_card, greatest_number};
+ghost use Rattle.std.specs.Prelude.{◌==◌, ◌≡◌, ◌≢◌, ◌+◌, ◌*◌, ◌<◌, ◌≤◌, ◌%◌, ◌⊎◌, ◌||◌, ℕ, IfSome, None, Some, [], true, false};
+ghost use Rattle.ell_word.specs.Node.{card, turn_size};
 ghost use Rattle.ell_cards.specs.Ages.{MayStamp};
 ghost use Rattle.ell_cards.specs.CardNodes.{NotesToo, has_node, node_alone};
 ghost use Rattle.ell_cards.specs.Dead.{HasTakenOut};
 ghost use Rattle.ell_cards.specs.Guards.{MayFill};
-ghost use Rattle.ell_cards.specs.Periods.{clock_word, LooksAnew, StandsAs, LostIs, after_freeing, after_missing, after_noting, after_noting_read, after_own, after_read, after_seek, after_stamp, after_taking, has_slot, last_reading, slot_word, spread};
+ghost use Rattle.ell_cards.specs.Periods.{clock_word, LooksAnew, StandsAs, LostIs, after_freeing, after_missing, after_noting, after_noting_read, after_own, after_read, after_seek, after_stamp, after_taking, has_slot, last_reading, slot_word};
 ghost use Rattle.ell_cards.specs.Seeking.{could_take, is_found, FindsNone, FindsNoneIn, FindsOneFor, may_have, is_done, missed_none, missed_one, retires, retires_if, sought_on};
 ghost use Rattle.ell_cards.specs.Noting.{AreTakenOut, HasNoted, MayNote, MayNoteNext, MayRetire, NeverCome, retires_in};
-ghost use Rattle.ell_cards.specs.SlotWords.{card_by, has_slot_in, has_slots, is_noted, slot_of, stamp_in, turn_in, turn_of};
+ghost use Rattle.ell_cards.specs.SlotWords.{card_by, has_slot_in, is_noted, slot_of, stamp_in, turn_of};
 ghost use Rattle.ell_cards.specs.Stepping.{MayGoOn};
 ghost use Rattle.ell_cards.specs.Holding.{HoldsWaiting};
 ghost use Rattle.ell_cards.specs.Shown.{shown};
@@ -21,150 +21,11 @@ use crate::card_nodes::CardNodes;
 use crate::memory::{Memory, Seat};
 use crate::pass::Pass;
 use crate::rule::PeriodTelling;
+use crate::slot_words::{is_done, is_free_before, slot_of, turn_of};
 use crate::table::CardTable;
 use crate::view::{SlotRead, Slots};
 use ell_word::card_of;
 use std::marker::Brand;
-
-/// How many numbers of cards a turn has. Each slot has one of them.
-const NUMBERS_PER_TURN: u64 = 67_108_864;
-
-/// How many turns child words tell apart: of two turns that are a multiple of this apart, they hold the same.
-const TURNS_TOLD_APART: u64 = 1_024;
-
-/// How many slots are left to deletes: the last ones of the table, which a pass takes for no other change.
-const LEFT_TO_DELETES: u64 = 2;
-
-/// The word of a slot that is free from the start, with the stamp 0.
-pub(crate) const FREE_FROM_START: u64 = 0;
-
-/// The word of a slot that is in use from the start.
-pub(crate) const USED_FROM_START: u64 = 7;
-
-/// Returns the slot in which a card lies.
-#[inline(always)]
-pub(crate) fn slot_of(card: u64) -> u64
-    ensures { result ≡ slot_of card }
-{
-    card % NUMBERS_PER_TURN
-}
-
-/// Returns the turn at which a card lies in its slot.
-#[inline(always)]
-pub(crate) fn turn_of(card: u64) -> u64
-    ensures { result ≡ turn_of card }
-{
-    card / NUMBERS_PER_TURN
-}
-
-// Returns whether a turn is the first one, or one that child words tell from the first: only such a turn has slots.
-#[inline(always)]
-fn has_slots(turn: u64) -> bool
-    ensures { result ≡ has_slots turn }
-{
-    turn == 0 || turn % TURNS_TOLD_APART != 0
-}
-
-// Returns the turn of the card in a slot in use, by the slot's word.
-#[inline(always)]
-fn turn_in(word: u64) -> u64
-    ensures { result ≡ turn_in word }
-{
-    word / 8
-}
-
-// Returns the stamp with which a slot was set free, by the word of a free slot.
-#[inline(always)]
-fn stamp_in(word: u64) -> u64
-    ensures { result ≡ stamp_in word }
-{
-    word / 8
-}
-
-// Returns whether by the word of a card's slot none of these nodes of the card is left to be noted.
-#[inline(always)]
-fn is_done(taken_out: bool, card: u64, nodes: CardNodes, word: u64) -> bool
-    ensures { result ≡ is_done taken_out card nodes word }
-{
-    nodes.are_noted(word) || (!taken_out && turn_in(word) != turn_of(card))
-}
-
-// Returns whether a slot was set free with a stamp below a safe number, by the slot's word.
-#[inline(always)]
-fn is_free_before(word: u64, safe: u64) -> bool
-    ensures { result ≡ could_take word safe }
-{
-    word % 8 == 0 && stamp_in(word) < safe
-}
-
-// Returns where a slot has its word among those of the slots. Passes that claim cards one after the other take slots
-// that come one after the other, whose words stand eight words apart, so that they are not in one line of the cache.
-#[inline(always)]
-fn spread(slot: u64) -> u64
-    ensures { result ≡ spread slot }
-{
-    64 * (slot / 64) + 8 * (slot % 8) + slot / 8 % 8
-}
-
-impl Slots {
-    /// Returns how many numbers that have slots a pass goes by until it looks at all places again: few enough that the
-    /// clock goes on several times while each slot is passed once, and at most 128, so that a look at a place is
-    /// seldom.
-    #[inline(always)]
-    fn numbers_per_look(self) -> u64 {
-        (self.last / 8).clamp(1, 128)
-    }
-
-    /// Returns whether a slot is for each change, as all are but the last ones, which are left to deletes.
-    #[inline(always)]
-    fn is_for_all(self, slot: u64) -> bool
-        requires slot { slot < 67108864 }
-        ensures { result ≡ nat_le (slot + 2) self.last }
-    {
-        slot + LEFT_TO_DELETES <= self.last
-    }
-
-    /// Returns whether a card has a slot: it is one of the table, and the card's turn is the first one, or one that
-    /// child words tell from the first.
-    #[inline(always)]
-    fn has_slot(self, card: u64) -> bool
-        ensures has { result ≡ has_slot_in self.last card }
-        ensures inside { result ≡ true → slot_of card ≤ self.last }
-    {
-        slot_of(card) <= self.last && has_slots(turn_of(card))
-    }
-
-    /// Returns the least number of a card that has a slot, from this card on: the first one of the next turn that has
-    /// slots, if the card has none.
-    #[inline(always)]
-    fn next_with_slot(self, card: u64) -> u64
-        requires { card ≤ greatest_number + 1 }
-        ensures from { card ≤ result }
-        ensures slot { has_slot_in self.last result ≡ true }
-        ensures first { (c : ℕ) → card ≤ c → has_slot_in self.last c ≡ true → result ≤ c }
-    {
-        if self.has_slot(card) {
-            return card;
-        }
-        let next = turn_of(card) + 1;
-        if has_slots(next) {
-            NUMBERS_PER_TURN * next
-        } else {
-            NUMBERS_PER_TURN * (next + 1)
-        }
-    }
-
-    /// Returns the address of the word of a slot: behind the places.
-    #[inline(always)]
-    pub(crate) fn slot_word(self, slot: u64) -> usize
-        requires last { self.last ≤ greatest_card }
-        requires few { self.places ≤ greatest_card }
-        requires slot { slot ≤ self.last }
-        ensures { result ≡ slot_word self slot }
-    {
-        self.clock_word() + 9 + 8 * self.places as usize + spread(slot) as usize
-    }
-}
 
 impl<M: Memory> CardTable<M> {
     // Returns the address of the word of a slot, which is one of the table.
@@ -504,7 +365,7 @@ impl<M: Memory> CardTable<M> {
     }
 
     /// Notes nodes of one card that the card in hand, which is over, has taken out of the tree: all by one exchange,
-    /// or by up to three if other passes change the word meanwhile. Of them the pass knows the low 43 bits, and so of
+    /// or by up to three if other passes change the word meanwhile. Of them the pass knows the low 38 bits, and so of
     /// their card the low 41. Once all three nodes of a card are noted, its slot is free. Returns whether the code saw
     /// it become free, of which a clause speaks only without places. It does nothing if the table has no places. Its
     /// steps are not counted.
@@ -577,7 +438,7 @@ impl<M: Memory> CardTable<M> {
         requires empty { seat.old.me.1 ≡ [] }
         requires slots { self.now.plan.slots ≡ Some slots }
         requires slot { has_slot_in slots.last card ≡ true }
-        requires low { slots.last < 67108864 }
+        requires low { slots.last < turn_size }
         requires hand { HoldsWaiting seat.old.me.0.tree card }
         requires free { word % 8 ≡ 0 }
         requires safe { stamp_in word < seat.old.me.0.period.safe }

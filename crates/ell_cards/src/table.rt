@@ -29,7 +29,7 @@ use crate::pass::{Pass, one_more};
 use crate::rule::{By, Noted, Noting, Telling};
 use crate::view::Slots;
 use ell_layout::Field;
-use ell_word::{Link, child_word};
+use ell_word::{Link, TURN_SIZE, child_word};
 use std::marker::{Brand, Model};
 
 /// A table of cards, whose words many passes share.
@@ -79,7 +79,7 @@ impl<M: Memory> CardTable<M> {
         // All that the pass knows is of cards of the table.
         ensures cards { (fact : Fact) → Knows pass.now.view fact → card_of_fact fact ≤ self.now.plan.last_card }
         ensures room { self.now.plan.last_card ≤ greatest_number }
-        // Of each node it knows what words hold of the node's number: the low 43 bits.
+        // Of each node it knows what words hold of the node's number: the low 38 bits.
         ensures short { NamesLowBits pass.now.view }
         // No internal node of the table is deeper than this.
         ensures deep { deepest self.now.plan ≤ greatest_number + 64 }
@@ -407,9 +407,6 @@ impl<M: Memory> CardTable<M> {
     }
 }
 
-/// How many tags a child word tells apart.
-const TAGS: u64 = 67_108_864;
-
 // The word of the child word that follows one: the low bits of another node, and the next tag, after the last one the
 // first.
 #[inline(always)]
@@ -419,7 +416,7 @@ fn next_word(old: Link, node: u64) -> u64
 {
     let next = Link {
         node: child_word(node),
-        tag: (old.tag + 1) % TAGS,
+        tag: (old.tag + 1) % TURN_SIZE,
     };
     next.word()
 }

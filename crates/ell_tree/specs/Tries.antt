@@ -162,11 +162,11 @@ put_reply None = Yes
 put_reply (Some was) = replaced.Found was
 
 -- one was taken for an insert or a swap, that puts this; its node is to be this
-pub record HasCardToPut (what : Put) (place : Place) (node_key : NewNode) (v : View) (c : ℕ) : Type 0 where
+pub record HasCardToPut (what : Put) (place : Place) (node : NewNode) (v : View) (c : ℕ) : Type 0 where
   pub op : Op
   pub puts : put_of op ≡ Some what
   pub card : HasCard op place place.parent.tag
-      (put_filling node_key.flat c what.key what.value node_key.key place.parent.node place.node place.key place.value) v c
+      (put_filling node.flat c what.key what.value node.key place.parent.node place.node place.key place.value) v c
 
 -- no card was taken, but some that were laid aside, of which the last may be in hand; and the search stands where it
 -- stood

@@ -186,7 +186,7 @@ impl<A: Allocator + Copy> Tree<FixedMemory<A>> {
     ///
     /// A change returns `Spent` if it can take no slot, and may be made again. If more than `2 * n + 3 * p + 4 + y`
     /// cards were asked for, where the tree has `n` keys, there may be `p` passes, and `y` slots were set free too
-    /// lately for the pass, then it returns `Spent` only if numbers are at an end: a slot serves 2^40 cards at most,
+    /// lately for the pass, then it returns `Spent` only if numbers are at an end: a slot serves 2^36 cards at most,
     /// one after the other, or is passed over instead. Only deletes take the last two slots, so in a tree that keys
     /// fill they can be taken away. That, and that slots and places come back, is tested, and no clause says it.
     ///

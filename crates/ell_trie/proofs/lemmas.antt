@@ -12,14 +12,10 @@ pub mod Frames
 pub mod Cuts
 -- Swaps of leaves.
 pub mod Swaps
--- Links in the place of leaves.
-pub mod Leaves
 -- Links above an old node.
 pub mod links
 -- What walks find stays true.
 pub mod Truths
--- Leaf inserts.
-pub mod LeafInserts
 -- Readers.
 pub mod Readers
 -- A small trie.

@@ -9,10 +9,8 @@ pub mod Tries
 pub mod Ranks
 -- Nodes on course for a key in a trie.
 pub mod Courses
--- Links above an old node, as edge inserts are, with what they keep.
+-- Links above an old node, as inserts are, with what they keep.
 pub mod Links
--- Links in the place of leaves, as leaf inserts are.
-pub mod Leaves
 -- Swaps of leaves, with what they keep.
 pub mod Swaps
 -- Cuts, with what they keep.

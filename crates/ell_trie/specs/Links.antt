@@ -46,7 +46,7 @@ pub record Links (Born : ℕ → Type 0) (opening : Opening) (key : ℕ → ℕ)
 -- An insert above a node, with what is known when it is made: the parent is reached, on course for the added key and, unless
 -- it is of the opening tree, with the key in its block. The old node, its child on the key's side, is a leaf, or has a block
 -- that lacks the key, and the key of the new node is the branch of the old node's key and the added one.
-pub record EdgeInsert (Born : ℕ → Type 0) (opening : Opening) (key : ℕ → ℕ) (child after : ℕ → Bool → ℕ)
+pub record InsertAbove (Born : ℕ → Type 0) (opening : Opening) (key : ℕ → ℕ) (child after : ℕ → Bool → ℕ)
     (top parent : ℕ) (side : Bool) (old new : ℕ) (half : Bool) (leaf added : ℕ) : Type 0 where
   pub shape : LinkShape Born opening key child after parent side old new half leaf added
   pub there : IsSpanned key child top parent
@@ -86,10 +86,10 @@ LinksKeep = (born holds : ℕ → Bool) (opening : Opening) (key : ℕ → ℕ) 
     Links (In born) opening key child after top parent side old new half leaf added →
     LinkKeeps (In born) (In holds) opening key child after top new leaf added
 
--- and edge inserts keep it
-abbrev pub EdgeInsertsKeep : Type 0
-EdgeInsertsKeep = (born holds : ℕ → Bool) (opening : Opening) (key : ℕ → ℕ) (child after : ℕ → Bool → ℕ)
+-- and inserts keep it
+abbrev pub InsertsKeep : Type 0
+InsertsKeep = (born holds : ℕ → Bool) (opening : Opening) (key : ℕ → ℕ) (child after : ℕ → Bool → ℕ)
     (top parent : ℕ) (side : Bool) (old new : ℕ) (half : Bool) (leaf added : ℕ) →
     IsTrie (In born) opening key child → IsInOrder key child top →
-    EdgeInsert (In born) opening key child after top parent side old new half leaf added →
+    InsertAbove (In born) opening key child after top parent side old new half leaf added →
     LinkKeeps (In born) (In holds) opening key child after top new leaf added

@@ -1,10 +1,9 @@
-use Rattle.std.specs.Prelude.{◌≡◌, ℕ, ◌<◌, ◌↔◌, Bool, true, not}
+use Rattle.std.specs.Prelude.{◌≡◌, ℕ, ◌<◌, ◌↔◌, Bool, true}
 use Rattle.ell_word.specs.Node.{IsInternal}
 use Rattle.ell_trie.specs.Ranges.{next_node, IsSpanned, FindsLeaf}
 use Rattle.ell_trie.specs.Tries.{In, Opening, IsTrie}
 use Rattle.ell_trie.specs.Courses.{IsInOrder}
-use Rattle.ell_trie.specs.Links.{EdgeInsert}
-use Rattle.ell_trie.specs.Leaves.{LeafInsert}
+use Rattle.ell_trie.specs.Links.{InsertAbove}
 use Rattle.ell_trie.specs.Swaps.{LeafSwap}
 use Rattle.ell_trie.specs.Cuts.{CutsOut}
 
@@ -25,14 +24,10 @@ pub record IsGood (fixed : Fixed) (state : TreeState) : Type 0 where
   pub trie : IsTrie (In state.born) fixed.opening fixed.key state.child
   pub ordered : IsInOrder fixed.key state.child fixed.top
 
--- the children change by a leaf insert, in which the old leaf's copy has its value, by an edge insert, by a swap, by a cut,
--- or not at all
+-- the children change by an insert, by a swap, by a cut, or not at all
 pub data TreeStep (fixed : Fixed) (old new : TreeState) : Type 0 where
-  leaf_insert : (parent : ℕ) (side : Bool) (lower node : ℕ) (half : Bool) (added : ℕ) →
-      LeafInsert (In old.born) fixed.opening fixed.key old.child new.child fixed.top parent side lower node half added →
-      fixed.value (old.child node (not half)) ≡ fixed.value lower → TreeStep fixed old new
-  edge_insert : (parent : ℕ) (side : Bool) (lower node : ℕ) (half : Bool) (fresh added : ℕ) →
-      EdgeInsert (In old.born) fixed.opening fixed.key old.child new.child fixed.top parent side lower node half fresh added
+  insert_above : (parent : ℕ) (side : Bool) (lower node : ℕ) (half : Bool) (fresh added : ℕ) →
+      InsertAbove (In old.born) fixed.opening fixed.key old.child new.child fixed.top parent side lower node half fresh added
       → TreeStep fixed old new
   leaf_swap : (parent : ℕ) (side : Bool) (lower fresh : ℕ) →
       LeafSwap (In old.born) fixed.opening fixed.key old.child new.child fixed.top parent side lower fresh →

@@ -1,9 +1,8 @@
-use Rattle.std.specs.Prelude.{◌≡◌, ℕ, ◌⊎◌, ◌↔◌, Bool, true, not}
+use Rattle.std.specs.Prelude.{◌≡◌, ℕ, ◌⊎◌, ◌↔◌, Bool, true}
 use Rattle.ell_trie.specs.Ranges.{IsSpanned, FindsLeaf}
 use Rattle.ell_trie.specs.Tries.{In, Opening, IsTrie}
 use Rattle.ell_trie.specs.Courses.{IsInOrder, OnTrieCourse}
 use Rattle.ell_trie.specs.Links.{Links}
-use Rattle.ell_trie.specs.Leaves.{LeafInsert}
 use Rattle.ell_trie.specs.Swaps.{LeafSwap}
 use Rattle.ell_trie.specs.Cuts.{CutsOut}
 
@@ -20,15 +19,6 @@ LinksStayTrue = (born holds : ℕ → Bool) (opening : Opening) (key : ℕ → �
     (top parent : ℕ) (side : Bool) (old new : ℕ) (half : Bool) (leaf added : ℕ) →
     IsTrie (In born) opening key child → IsInOrder key child top →
     Links (In born) opening key child after top parent side old new half leaf added →
-    (k x : ℕ) → born x ≡ true → OnTrieCourse opening key child top k x → StaysTrue key child after (In holds) k x
-
--- and at leaf inserts, where what is asked holds of the old leaf's copy exactly if it holds of the old leaf
-abbrev pub LeafInsertsStayTrue : Type 0
-LeafInsertsStayTrue = (born holds : ℕ → Bool) (opening : Opening) (key : ℕ → ℕ) (child after : ℕ → Bool → ℕ)
-    (top parent : ℕ) (side : Bool) (old new : ℕ) (half : Bool) (added : ℕ) →
-    IsTrie (In born) opening key child → IsInOrder key child top →
-    LeafInsert (In born) opening key child after top parent side old new half added →
-    (In holds (child new (not half)) ↔ In holds old) →
     (k x : ℕ) → born x ≡ true → OnTrieCourse opening key child top k x → StaysTrue key child after (In holds) k x
 
 -- and at swaps

@@ -1,12 +1,11 @@
 //! Laws of tries. Each is the contract of a function that does nothing.
 ghost use Rattle.ell_trie.specs.Courses.{CoursesTell, CoursesGoOn, MissesAreTrue};
 ghost use Rattle.ell_trie.specs.Cuts.{CutsKeep};
-ghost use Rattle.ell_trie.specs.Leaves.{LeafLinksStay, LeafInsertsKeep};
-ghost use Rattle.ell_trie.specs.Links.{LinksKeep, EdgeInsertsKeep};
+ghost use Rattle.ell_trie.specs.Links.{LinksKeep, InsertsKeep};
 ghost use Rattle.ell_trie.specs.Readers.{LooksFindWhatWas};
 ghost use Rattle.ell_trie.specs.Swaps.{SwapsKeep};
 ghost use Rattle.ell_trie.specs.Tries.{PathsAreShort, TriesAreShallow};
-ghost use Rattle.ell_trie.specs.Truths.{LinksStayTrue, LeafInsertsStayTrue, SwapsStayTrue, CutsStayTrue};
+ghost use Rattle.ell_trie.specs.Truths.{LinksStayTrue, SwapsStayTrue, CutsStayTrue};
 
 /// Paths in a trie are short.
 pub fn tries_are_shallow()
@@ -22,14 +21,9 @@ pub fn links_keep()
     // A link above an internal node or a leaf keeps the trie, its order, each other key, nodes on course, nodes that are
     // reached and nodes that were cut out, and it adds its key, which the tree lacked.
     ensures links { LinksKeep }
-    // An edge insert is such a link, if it is made with the branch of the old node's key and the added one, under a parent
-    // that is reached and on course for the added key.
-    ensures edges { EdgeInsertsKeep }
-    // A link in the place of a leaf, of a node with two leaves, leaves a trie.
-    ensures leaves { LeafLinksStay }
-    // A leaf insert keeps what links keep, but for the old leaf, if it is made with the branch of the old leaf's key and the
-    // added one, under a parent that is reached and on course for the added key.
-    ensures leaf_inserts { LeafInsertsKeep }
+    // An insert is such a link, if it is made with the branch of the old node's key and the added one, under a parent that
+    // is reached and on course for the added key.
+    ensures inserts { InsertsKeep }
 {}
 
 /// Cuts keep a trie.
@@ -59,15 +53,14 @@ pub fn looks_stay_true()
     // From a node on course, the walk for a key finds after a link what it found before, or what the tree has of the key
     // after the link.
     ensures links { LinksStayTrue }
-    // So it is at leaf inserts, at swaps and at cuts.
-    ensures leaf_inserts { LeafInsertsStayTrue }
+    // So it is at swaps and at cuts.
     ensures swaps { SwapsStayTrue }
     ensures cuts { CutsStayTrue }
 {}
 
 /// What a reader finds is true of one state.
 pub fn looks_find_what_was()
-    // While leaf inserts, edge inserts, swaps and cuts change the tree, what a reader finds at his leaf, however slowly he
+    // While inserts, swaps and cuts change the tree, what a reader finds at his leaf, however slowly he
     // comes to it, is what the tree had of his key in one of the states since he began.
     ensures { LooksFindWhatWas }
 {}

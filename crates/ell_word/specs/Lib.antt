@@ -3,5 +3,5 @@
 pub mod Node
 -- Update words: four times the card, and the state.
 pub mod Word
--- Child words: the number of a link, whose low 64 bits are 2^43 times the tag, and the node.
+-- Child words: the number of a link, whose low 64 bits are 2^38 times the tag, and the node.
 pub mod Link

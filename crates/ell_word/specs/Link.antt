@@ -1,33 +1,34 @@
-use Rattle.std.specs.Prelude.{ℕ, ◌+◌, ◌*◌, ◌/◌, ◌%◌, ◌^◌, ◌-◌, ◌<◌, ◌≤◌}
+use Rattle.std.specs.Prelude.{ℕ, ◌+◌, ◌*◌, ◌/◌, ◌%◌, ◌-◌, ◌<◌, ◌≤◌}
+use Rattle.ell_word.specs.Node.{turn_size}
 use Rattle.ell_word.specs.declared.link.Link.{Link}
 
--- a child word has the node in its low 43 bits, and the tag above
+-- a child word has the node in its low 38 bits, and the tag above
 abbrev pub tag_unit : ℕ
 tag_unit = 274877906944
 
--- the greatest tag: it has 21 bits
+-- the greatest tag: it has 26 bits
 abbrev pub greatest_tag : ℕ
-greatest_tag = 2 ^ 26 - 1
+greatest_tag = turn_size - 1
 
 -- a link that has a word of 64 bits
 pub record IsLink (link : Link) : Type 0 where
   pub node : link.node < tag_unit
   pub tag : link.tag ≤ greatest_tag
 
--- the numbers of nodes are below this one
+-- the numbers of nodes, and words, are below 2^64
 abbrev pub node_bound : ℕ
-node_bound = 2 ^ 64
+node_bound = 18446744073709551616
 
--- The number of a link, for any tag and any node below the bound. Its low 64 bits are a child word, with the low 43 bits
--- of the node and the low 21 bits of the tag. The other 20 bits of the node stand above these, and the other bits of the
+-- The number of a link, for any tag and any node below the bound. Its low 64 bits are a child word, with the low 38 bits
+-- of the node and the low 26 bits of the tag. The other 26 bits of the node stand above these, and the other bits of the
 -- tag at the top.
 abbrev pub linked : Link → ℕ
-linked link = link.node % 274877906944 + 274877906944 * (link.tag % 67108864)
-    + 18446744073709551616 * (link.node / 274877906944 + 67108864 * (link.tag / 67108864))
+linked link = link.node % tag_unit + tag_unit * (link.tag % turn_size)
+    + node_bound * (link.node / tag_unit + turn_size * (link.tag / turn_size))
 
 -- the link that a number says
 abbrev pub link_in : ℕ → Link
 link_in word = record {
-  node = word % 274877906944 + 274877906944 * (word / 18446744073709551616 % 67108864);
-  tag = word / 274877906944 % 67108864 + 67108864 * (word / 1237940039285380274899124224);
+  node = word % tag_unit + tag_unit * (word / node_bound % turn_size);
+  tag = word / tag_unit % turn_size + turn_size * (word / (node_bound * turn_size));
 }

@@ -15,7 +15,7 @@ pub struct Link {
 }
 
 impl Link {
-    /// Returns the word: 2^43 times the tag plus the node. Conditions: the node is below 2^43, and the tag below 2^21.
+    /// Returns the word: 2^38 times the tag plus the node. Conditions: the node is below 2^38, and the tag below 2^26.
     #[inline(always)]
     pub fn word(self) -> u64
         requires { IsLink self }
@@ -30,7 +30,7 @@ impl Link {
     pub fn of(word: u64) -> Link
         // Returns the node and the tag that the word says.
         ensures link { result ≡ link_in word }
-        // The node is below 2^43 and the tag below 2^21, and their word is this one.
+        // The node is below 2^38 and the tag below 2^26, and their word is this one.
         ensures small { IsLink result }
         ensures again { linked result ≡ word }
     {
@@ -41,7 +41,7 @@ impl Link {
     }
 }
 
-/// Returns the child word of a node with tag 0: the low 43 bits of the node, whichever node it is.
+/// Returns the child word of a node with tag 0: the low 38 bits of the node, whichever node it is.
 #[inline(always)]
 pub fn child_word(node: u64) -> u64
     // Returns the low 64 bits of the number of the node's link with tag 0.
@@ -50,7 +50,7 @@ pub fn child_word(node: u64) -> u64
     node % TAG_UNIT
 }
 
-/// Reading undoes linking for nodes below 2^63: each such node has with each tag a number of its own, of which a child
+/// Reading undoes linking for nodes below 2^64: each such node has with each tag a number of its own, of which a child
 /// word has the low 64 bits.
 pub fn links()
     ensures back { (link : Link) → link.node < node_bound → link_in (linked link) ≡ link }

@@ -11,7 +11,7 @@ use std::alloc::Global;
 
 /// Writes how many cards of the slot's tree are not given out yet, 0 if all are: the number at one step of the call. No
 /// more than that are ever left in this tree afterwards. A tree whose cards come back has a card for each of
-/// 2^61 numbers, however few slots it has, and these are counted.
+/// 2^62 numbers, however few slots it has, and these are counted.
 #[unsafe(no_mangle)]
 pub extern "C" fn elltree_slot_cards_left(alloc: Global, slot: &mut Slot, left: &mut u64) -> i32
     // `CLOSED` is returned exactly if the slot has no handle, and then nothing is written.

@@ -8,7 +8,7 @@ use Rattle.ell_layout.specs.Words.{Words, put, written, table_written, with_chil
 use Rattle.ell_layout.specs.Cards.{filled, table_filled, insert_filling}
 use Rattle.ell_layout.specs.Laws.{TablesClaim}
 
--- A field whose word in a table is what the field says: a child in 43 bits, without a tag, or any other field but the leaf.
+-- A field whose word in a table is what the field says: a child in 38 bits, without a tag, or any other field but the leaf.
 abbrev pub IsPlain : Field × ℕ → Type 0
 IsPlain (L, v) = ⊥
 IsPlain (Left, v) = v < tag_unit
@@ -64,8 +64,8 @@ table_filled_leaf w c leaf tag es small plain =
 pub tables_claim : TablesClaim
 tables_claim w parent leaf tag small = record {
   insert = λ key value leaf_key leaf_value low.
-      let left : left_leaf w.next < 274877906944 = omega (arith, low) in
-      let right : right_leaf w.next < 274877906944 = omega (arith, low) in
+      let left : left_leaf w.next < tag_unit = omega (arith, low) in
+      let right : right_leaf w.next < tag_unit = omega (arith, low) in
       let tail = drop 2 (insert_filling w.next key value parent leaf leaf_key leaf_value) in
       ap {B = Words} (λ k. record k { next = w.next + 1 })
       (table_filled_leaf (written w w.next P parent) w.next leaf tag tail small (tt, (left, (right, (tt, (tt, (tt, (tt, (tt, tt)))))))));

@@ -70,10 +70,10 @@ choice_below false a b most low less = less
 
 -- the children of a branch are nodes that fit beside a tag
 left_child_small : (b : Branch) → b.card < greatest_card → left_child b < tag_unit
-left_child_small b low = choice_below _ (left_leaf b.card) (internal (b.card + 1)) 274877906944 (omega (arith, low)) (omega (arith, low))
+left_child_small b low = choice_below _ (left_leaf b.card) (internal (b.card + 1)) tag_unit (omega (arith, low)) (omega (arith, low))
 
 right_child_small : (b : Branch) → b.card + b.left ≤ greatest_card → right_child b < tag_unit
-right_child_small b low = choice_below _ (right_leaf b.card) (internal (b.card + b.left)) 274877906944 (omega (arith, low)) (omega (arith, low))
+right_child_small b low = choice_below _ (right_leaf b.card) (internal (b.card + b.left)) tag_unit (omega (arith, low)) (omega (arith, low))
 
 -- so the fields of the root are plain
 root_plain : (many : ℕ) → ArePlain (root_filling many)

@@ -1,10 +1,9 @@
-//! A small trie, into which keys are inserted at a leaf and at an edge.
+//! A small trie, into which keys are inserted above a leaf and above an internal node.
 ghost use Rattle.std.specs.Prelude.{true, false};
 ghost use Rattle.ell_trie.specs.Courses.{IsInOrder};
 ghost use Rattle.ell_trie.specs.Examples.{small_key, small_child, small_born, small_opening};
 ghost use Rattle.ell_trie.specs.Examples.{with_seven, with_twelve, greater_key};
-ghost use Rattle.ell_trie.specs.Leaves.{LeafInsert};
-ghost use Rattle.ell_trie.specs.Links.{EdgeInsert};
+ghost use Rattle.ell_trie.specs.Links.{InsertAbove};
 ghost use Rattle.ell_trie.specs.Tries.{In, IsTrie};
 
 use ell_block::{branch, is_in_block};
@@ -23,7 +22,7 @@ fn a_small_trie_takes_keys(rt: HostRuntime) {
 fn definitions_agree_on_tries()
     ensures trie { IsTrie (In small_born) small_opening small_key small_child }
     ensures order { IsInOrder small_key small_child 64 }
-    ensures leaf { LeafInsert (In small_born) small_opening small_key small_child with_seven 64 4 true 6 12 true 7 }
-    ensures edge { EdgeInsert (In small_born) small_opening small_key small_child with_twelve 64 0 false 4 8 true 10 12 }
+    ensures leaf { InsertAbove (In small_born) small_opening small_key small_child with_seven 64 4 true 6 12 true 14 7 }
+    ensures inner { InsertAbove (In small_born) small_opening small_key small_child with_twelve 64 0 false 4 8 true 10 12 }
     ensures greater { ¬ IsTrie (In small_born) small_opening greater_key small_child }
 {}

@@ -10,11 +10,11 @@ const WORDS: [(u64, State, u64); 6] = [
     (4, State::IFlag, 1),
     (10, State::Mark, 2),
     (13, State::DFlag, 3),
-    (8_796_093_022_207, State::Clean, 2_199_023_255_551),
+    (274_877_906_943, State::Clean, 68_719_476_735),
     (
-        9_223_372_036_854_775_807,
+        18_446_744_073_709_551_615,
         State::Clean,
-        2_305_843_009_213_693_951,
+        4_611_686_018_427_387_903,
     ),
 ];
 
@@ -34,10 +34,10 @@ fn words_are_packed(rt: HostRuntime) {
 fn child_words_are_linked(rt: HostRuntime) {
     let least = Link { node: 0, tag: 1 };
     let greatest = Link {
-        node: 8_796_093_022_207,
-        tag: 2_097_151,
+        node: 274_877_906_943,
+        tag: 67_108_863,
     };
-    assert!(rt; least.word() == 8_796_093_022_208 && Link::of(8_796_093_022_208) == least);
+    assert!(rt; least.word() == 274_877_906_944 && Link::of(274_877_906_944) == least);
     assert!(rt; greatest.word() == u64::MAX && Link::of(u64::MAX) == greatest);
 }
 
@@ -45,8 +45,8 @@ fn child_words_are_linked(rt: HostRuntime) {
 fn a_child_word_has_the_low_bits_of_its_node(rt: HostRuntime) {
     let greatest = right_leaf_of(NUMBER_MAX);
     assert!(rt; child_word(0) == 0 && child_word(18) == 18);
-    assert!(rt; child_word(8_796_093_022_208) == 0 && child_word(8_796_093_022_226) == 18);
-    assert!(rt; greatest == 9_223_372_036_854_775_806 && child_word(greatest) == 8_796_093_022_206);
+    assert!(rt; child_word(274_877_906_944) == 0 && child_word(274_877_906_962) == 18);
+    assert!(rt; greatest == 18_446_744_073_709_551_614 && child_word(greatest) == 274_877_906_942);
 }
 
 #[test]

@@ -45,8 +45,8 @@ use Rattle.ell_tree.proofs.lemmas.LettingGo.{aside_unflagged, lets_aside_go}
 use Rattle.ell_tree.proofs.lemmas.Keeping.{keeps_in, keeps_in_trans, keeps_step, keeps_all_none, loses_trans, next_keeps}
 
 -- a row of claims loses nothing
-row_keeps : (first last : ℕ) (node_key : NewNode) (v w : View) → IsAfterRow first last node_key v w → v.next_at_least ≤ first → first ≤ last → LosesNothing v w
-row_keeps first last node_key v w r low up = record {
+row_keeps : (first last : ℕ) (node : NewNode) (v w : View) → IsAfterRow first last node v w → v.next_at_least ≤ first → first ≤ last → LosesNothing v w
+row_keeps first last node v w r low up = record {
   ledger = r.ledger;
   operation = r.operation;
   answers = r.answers;
@@ -60,16 +60,16 @@ row_keeps first last node_key v w r low up = record {
 }
 
 -- what a pass knows once it has claimed a row of cards
-claimed_row : (first last : ℕ) (node_key : NewNode) (v : View) → first ≤ last → IsAfterRow first last node_key v (after_claimed_row true first last node_key v)
-claimed_row first last node_key v order =
-    subst (λ m. IsAfterRow first m node_key v (cut_planned (after_row (last - first) first node_key v))) (omega arith) (rows_keep (last - first) first node_key v)
+claimed_row : (first last : ℕ) (node : NewNode) (v : View) → first ≤ last → IsAfterRow first last node v (after_claimed_row true first last node v)
+claimed_row first last node v order =
+    subst (λ m. IsAfterRow first m node v (cut_planned (after_row (last - first) first node v))) (omega arith) (rows_keep (last - first) first node v)
 
 -- where a search stands at a node, and the claim word was read, a claim may be made
-pub may_claim_at : (plan : TablePlan) (old new : PassModel) (c : ℕ) (node_key : NewNode) (op : Op) (place : Place) → Steps old new (after_next c old.view) → Does old.view op
+pub may_claim_at : (plan : TablePlan) (old new : PassModel) (c : ℕ) (node : NewNode) (op : Op) (place : Place) → Steps old new (after_next c old.view) → Does old.view op
     → HoldsAside plan old → old.view.next_at_least ≤ c → IsAt old.view place → place.parent.update.state ≡ state.Clean
-    → Wants (flat_from plan) old.view op place.parent.node place.node place.key node_key.key → node_key.flat ≡ nat_lt 0 (flat_from plan) → MayClaim (flat_from plan) new.view c node_key
-may_claim_at plan old new c node_key op place s busy hand low at calm wants shape =
-    may_claim (flat_from plan) old new op c place.node place.key node_key (seen place.parent) s busy (λ holds. omega (arith, hand.below c holds)) hand.ready
+    → Wants (flat_from plan) old.view op place.parent.node place.node place.key node.key → node.flat ≡ nat_lt 0 (flat_from plan) → MayClaim (flat_from plan) new.view c node
+may_claim_at plan old new c node op place s busy hand low at calm wants shape =
+    may_claim (flat_from plan) old new op c place.node place.key node (seen place.parent) s busy (λ holds. omega (arith, hand.below c holds)) hand.ready
     (ap (λ (r : Search). r.node) at.search) at.told (ap (λ (r : Search). r.parent) at.search) (clean_word place.parent.update.state place.parent.update.card calm) wants shape
 
 -- a pass that takes a slot after its steps, or finds it in use, keeps what it kept
@@ -84,11 +84,11 @@ keeps_slot plan a d e n k same = record {
 }
 
 -- A pass read the claim word, and then perhaps found another safe number. It may claim the next card then.
-module _ (a b e : PassModel) (first : ℕ) (node_key : NewNode) (read : Steps a b (after_next first a.view)) (same : e ≡ record b { safe = e.safe; surveyed = e.surveyed; sought = e.sought }) (low : a.view.next_at_least ≤ first) where
+module _ (a b e : PassModel) (first : ℕ) (node : NewNode) (read : Steps a b (after_next first a.view)) (same : e ≡ record b { safe = e.safe; surveyed = e.surveyed; sought = e.sought }) (low : a.view.next_at_least ≤ first) where
   pub may_claim_there : (plan : TablePlan) (op : Op) (place : Place) → Does a.view op → HoldsAside plan a → IsAt a.view place → place.parent.update.state ≡ state.Clean
-      → Wants (flat_from plan) a.view op place.parent.node place.node place.key node_key.key → node_key.flat ≡ nat_lt 0 (flat_from plan) → MayClaim (flat_from plan) e.view first node_key
+      → Wants (flat_from plan) a.view op place.parent.node place.node place.key node.key → node.flat ≡ nat_lt 0 (flat_from plan) → MayClaim (flat_from plan) e.view first node
   may_claim_there plan op place busy hand at calm wants shape =
-      subst (λ (w : View). MayClaim (flat_from plan) w first node_key) (sym (ap (λ (p : PassModel). p.view) same)) (may_claim_at plan a b first node_key op place read busy hand low at calm wants shape)
+      subst (λ (w : View). MayClaim (flat_from plan) w first node) (sym (ap (λ (p : PassModel). p.view) same)) (may_claim_at plan a b first node op place read busy hand low at calm wants shape)
 
   -- the card that it has in hand is the one that it had, and so is the slot that it took last
   same_card : e.view.worker.card ≡ a.view.worker.card
@@ -101,7 +101,7 @@ module _ (a b e : PassModel) (first : ℕ) (node_key : NewNode) (read : Steps a 
   same_slot = ap (λ (p : PassModel). p.slot) same ∙ ap (λ (p : PassModel). p.slot) read
 
   -- so it may lay that card aside, or let it go
-  pub may_lay_aside : (plan : TablePlan) → HoldsAside plan a → MayInTable plan e (call.Claim first node_key)
+  pub may_lay_aside : (plan : TablePlan) → HoldsAside plan a → MayInTable plan e (call.Claim first node)
   may_lay_aside plan hand s is c h took = hand.aside (λ none. some_not_none is none) c (sym same_card ∙ h.0) (sym same_slot ∙ took)
 
   pub lets_go_there : (plan : TablePlan) → HoldsAside plan a → LetsGo plan e
@@ -110,15 +110,15 @@ module _ (a b e : PassModel) (first : ℕ) (node_key : NewNode) (read : Steps a 
   -- it tried to claim all cards from that to a last one
   module _ (d : PassModel) (last : ℕ) (order : first ≤ last) where
     abbrev ClaimsAll : Bool → Type 0
-    ClaimsAll won = Steps e d (after_claimed_row won first last node_key e.view)
+    ClaimsAll won = Steps e d (after_claimed_row won first last node e.view)
 
-    view_there : (won : Bool) → ClaimsAll won → d.view ≡ after_claimed_row won first last node_key (after_next first a.view)
+    view_there : (won : Bool) → ClaimsAll won → d.view ≡ after_claimed_row won first last node (after_next first a.view)
     view_there won s =
-        view_after e d (after_claimed_row won first last node_key e.view) s
-        ∙ ap (after_claimed_row won first last node_key) (ap (λ (p : PassModel). p.view) same ∙ view_after a b (after_next first a.view) read)
+        view_after e d (after_claimed_row won first last node e.view) s
+        ∙ ap (after_claimed_row won first last node) (ap (λ (p : PassModel). p.view) same ∙ view_after a b (after_next first a.view) read)
 
-    row : ClaimsAll true → IsAfterRow first last node_key (after_next first a.view) d.view
-    row s = subst (IsAfterRow first last node_key (after_next first a.view)) (sym (view_there true s)) (claimed_row first last node_key (after_next first a.view) order)
+    row : ClaimsAll true → IsAfterRow first last node (after_next first a.view) d.view
+    row s = subst (IsAfterRow first last node (after_next first a.view)) (sym (view_there true s)) (claimed_row first last node (after_next first a.view) order)
 
     -- the first card is given out then, whoever took it
     given_out : (won : Bool) (cards : ℕ) → ClaimsAll won → 1 ≤ first → first ≤ cards → GivesOut cards a.view d.view
@@ -132,7 +132,7 @@ module _ (a b e : PassModel) (first : ℕ) (node_key : NewNode) (read : Steps a 
     pub row_goes : (plan : TablePlan) → (plan.slots ≡ None → last ≡ first) → ClaimsAll true → KeepsIn plan a d 2
     row_goes plan one s =
         let before = keeps_step a b (after_next first a.view) read (next_keeps first a.view) refl in
-        let keeps = row_keeps first last node_key (after_next first a.view) d.view (row s) low order in
+        let keeps = row_keeps first last node (after_next first a.view) d.view (row s) low order in
         let steps = ap (λ (p : PassModel). p.steps) s in
         let there = ap (λ (p : PassModel). p.steps) same in
         let made = (row s).made in
@@ -148,7 +148,7 @@ module _ (a b e : PassModel) (first : ℕ) (node_key : NewNode) (read : Steps a 
     may_fill s = record { holds = (row s).card; unflagged = (row s).unflagged }
 
     has_card : (op : Op) (place : Place) → ClaimsAll true → Does a.view op → IsAt a.view place
-        → HasCard op place (expected_tag a.view) (filling_of last node_key a.view) d.view last
+        → HasCard op place (expected_tag a.view) (filling_of last node a.view) d.view last
     has_card op place s busy at =
         let r = row s in
         let search = r.search ∙ at.search in
@@ -166,11 +166,11 @@ module _ (a b e : PassModel) (first : ℕ) (node_key : NewNode) (read : Steps a 
 
     -- also once its slot is taken, and nothing was in the way
     pub taken_claims : (plan : TablePlan) (op : Op) (place : Place) (f : PassModel) → ClaimsAll true → Does a.view op → IsAt a.view place
-        → 1 ≤ first → last ≤ plan.last_card → f ≡ record d { slot = f.slot; safe = f.safe; surveyed = f.surveyed; sought = f.sought } → HasSlotOf plan last f → node_key ≡ new_node plan node_key.key → Claims plan op place node_key.key a f (claimed.Card last)
+        → 1 ≤ first → last ≤ plan.last_card → f ≡ record d { slot = f.slot; safe = f.safe; surveyed = f.surveyed; sought = f.sought } → HasSlotOf plan last f → node ≡ new_node plan node.key → Claims plan op place node.key a f (claimed.Card last)
     taken_claims plan op place f s busy at some room took slot same_node =
         let view = ap (λ (p : PassModel). p.view) took in (
           subst (λ (k : NewNode). HasCard op place (expected_tag a.view) (filling_of last k a.view) f.view last) same_node
-              (subst (λ (w : View). HasCard op place (expected_tag a.view) (filling_of last node_key a.view) w last) (sym view) (has_card op place s busy at)),
+              (subst (λ (w : View). HasCard op place (expected_tag a.view) (filling_of last node a.view) w last) (sym view) (has_card op place s busy at)),
           room,
           ap (λ (w : View). w.hindrances) view ∙ (row s).hindrances,
           subst (GivesOut plan.last_card a.view) (sym view) (given_out true plan.last_card s some (omega arith)),
@@ -184,7 +184,7 @@ module _ (a b e : PassModel) (first : ℕ) (node_key : NewNode) (read : Steps a 
     in_vain plan f places flat s fresh kept none found missed few =
         let view = ap (λ (p : PassModel). p.view) kept in
         let slot = ap (λ (p : PassModel). p.slot) kept ∙ ap (λ (p : PassModel). p.slot) s in
-        let r = subst (IsAfterRow first last node_key (after_next first a.view)) (sym view) (row s) in
+        let r = subst (IsAfterRow first last node (after_next first a.view)) (sym view) (row s) in
         record {
           slots = places;
           hand = record {
@@ -207,7 +207,7 @@ module _ (a b e : PassModel) (first : ℕ) (node_key : NewNode) (read : Steps a 
 
     -- if it lost them, no card was taken, and that was in the way
     pub lost_claims : (plan : TablePlan) (op : Op) (place : Place) → ClaimsAll false → HoldsAside plan a → 1 ≤ first → last ≤ plan.last_card
-        → Claims plan op place node_key.key a d claimed.Lost
+        → Claims plan op place node.key a d claimed.Lost
     lost_claims plan op place s hand some room =
         let view = view_there false s in
         let meets = subst (λ (w : View). Meets a.view w × (length a.view.hindrances + 1 ≤ length w.hindrances)) (sym view)
@@ -300,9 +300,9 @@ module _ (plan : TablePlan) (n : ℕ) (old mid new : PassModel) (h : HasAsked pl
   same_tag : expected_tag mid.view ≡ expected_tag old.view
   same_tag = λ t. tag_of_claim (h.keeps.view.operation t) (h.search t).parent (h.search t).grandparent
 
-  same_filling : (c : ℕ) (node_key : NewNode) → filling_of c node_key mid.view ≡ filling_of c node_key old.view
-  same_filling c node_key = λ t.
-      filling_for c node_key (h.keeps.view.operation t) (h.search t).node (h.search t).parent (h.search t).grandparent (unwrap_or (h.here t) 0) (h.values t)
+  same_filling : (c : ℕ) (node : NewNode) → filling_of c node mid.view ≡ filling_of c node old.view
+  same_filling c node = λ t.
+      filling_for c node (h.keeps.view.operation t) (h.search t).node (h.search t).parent (h.search t).grandparent (unwrap_or (h.here t) 0) (h.values t)
 
   given_before : GivesOut plan.last_card mid.view new.view → GivesOut plan.last_card old.view new.view
   given_before gives = record {

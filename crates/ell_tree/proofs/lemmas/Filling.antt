@@ -31,18 +31,18 @@ use Rattle.ell_tree.proofs.lemmas.Keeping.{inner_kept}
 use Rattle.ell_cards.specs.declared.call.NewNode.{NewNode}
 
 -- what fills a card, by a search that stands at a place
-filling_there : (c : ℕ) (node_key : NewNode) (op : Op) (v : View) (place : Place) → Does v op → IsAt v place
-    → filling_of c node_key v ≡ filling_for c node_key (Some op) (Some place.node) (Some (seen place.parent)) (seen_any place.grandparent) place.key (value_told v.told)
-filling_there c node_key op v place busy at = filling_at v op c node_key place.node place.key (seen place.parent) (seen_any place.grandparent) busy
+filling_there : (c : ℕ) (node : NewNode) (op : Op) (v : View) (place : Place) → Does v op → IsAt v place
+    → filling_of c node v ≡ filling_for c node (Some op) (Some place.node) (Some (seen place.parent)) (seen_any place.grandparent) place.key (value_told v.told)
+filling_there c node op v place busy at = filling_at v op c node place.node place.key (seen place.parent) (seen_any place.grandparent) busy
     (ap (λ (s : Search). s.node) at.search) at.told (ap (λ (s : Search). s.parent) at.search) (ap (λ (s : Search). s.grandparent) at.search)
 
 -- for an insert or a swap
-put_fills : (c : ℕ) (node_key : NewNode) (op : Op) (what : Put) (v : View) (place : Place) → put_of op ≡ Some what → Does v op → IsAt v place
-    → filling_of c node_key v ≡ layout.put_filling node_key.flat c what.key what.value node_key.key place.parent.node place.node place.key place.value
-put_fills c node_key op what v place is busy at =
-    filling_there c node_key op v place busy at
-    ∙ (sym (put_filling op what is c node_key place.node (seen place.parent) (seen_any place.grandparent) place.key (value_told v.told))
-    ∙ ap (layout.put_filling node_key.flat c what.key what.value node_key.key place.parent.node place.node place.key) at.value)
+put_fills : (c : ℕ) (node : NewNode) (op : Op) (what : Put) (v : View) (place : Place) → put_of op ≡ Some what → Does v op → IsAt v place
+    → filling_of c node v ≡ layout.put_filling node.flat c what.key what.value node.key place.parent.node place.node place.key place.value
+put_fills c node op what v place is busy at =
+    filling_there c node op v place busy at
+    ∙ (sym (put_filling op what is c node place.node (seen place.parent) (seen_any place.grandparent) place.key (value_told v.told))
+    ∙ ap (layout.put_filling node.flat c what.key what.value node.key place.parent.node place.node place.key) at.value)
 
 -- the tag that a card expects, by a search that stands at a place
 tag_there : (op : Op) (v : View) (place : Place) → Does v op → IsAt v place
@@ -58,24 +58,24 @@ put_tag (Delete k) what is parent above = absurd cc
 put_tag (Swap k was value) what is parent above = refl
 
 -- so that is the card
-pub put_card : (v t : View) (c : ℕ) (node_key : NewNode) (op : Op) (what : Put) (place : Place) → put_of op ≡ Some what → Does v op → IsAt v place
-    → HasCard op place (expected_tag v) (filling_of c node_key v) t c
-    → HasCard op place place.parent.tag (layout.put_filling node_key.flat c what.key what.value node_key.key place.parent.node place.node place.key place.value) t c
-put_card v t c node_key op what place is busy at h =
-    subst (λ tag. HasCard op place tag (layout.put_filling node_key.flat c what.key what.value node_key.key place.parent.node place.node place.key place.value) t c)
+pub put_card : (v t : View) (c : ℕ) (node : NewNode) (op : Op) (what : Put) (place : Place) → put_of op ≡ Some what → Does v op → IsAt v place
+    → HasCard op place (expected_tag v) (filling_of c node v) t c
+    → HasCard op place place.parent.tag (layout.put_filling node.flat c what.key what.value node.key place.parent.node place.node place.key place.value) t c
+put_card v t c node op what place is busy at h =
+    subst (λ tag. HasCard op place tag (layout.put_filling node.flat c what.key what.value node.key place.parent.node place.node place.key place.value) t c)
     (tag_there op v place busy at ∙ put_tag op what is (seen place.parent) (seen_any place.grandparent))
-    (subst (λ (es : List (Field × ℕ)). HasCard op place (expected_tag v) es t c) (put_fills c node_key op what v place is busy at) h)
+    (subst (λ (es : List (Field × ℕ)). HasCard op place (expected_tag v) es t c) (put_fills c node op what v place is busy at) h)
 
 -- for a delete it is the grandparent's
-pub delete_card : (v t : View) (c : ℕ) (node_key : NewNode) (k : ℕ) (place : Place) (above : Passed) → place.grandparent ≡ Some above → Does v (Delete k) → IsAt v place
-    → HasCard (Delete k) place (expected_tag v) (filling_of c node_key v) t c
+pub delete_card : (v t : View) (c : ℕ) (node : NewNode) (k : ℕ) (place : Place) (above : Passed) → place.grandparent ≡ Some above → Does v (Delete k) → IsAt v place
+    → HasCard (Delete k) place (expected_tag v) (filling_of c node v) t c
     → HasCard (Delete k) place above.tag (delete_filling above.node place.parent.node place.node (packed place.parent.update)) t c
-delete_card v t c node_key k place above is busy at h =
+delete_card v t c node k place above is busy at h =
     subst (λ tag. HasCard (Delete k) place tag (delete_filling above.node place.parent.node place.node (packed place.parent.update)) t c)
     (tag_there (Delete k) v place busy at ∙ ap (λ (o : Option Passed). tag_of_claim (Some (Delete k)) (Some (seen place.parent)) (seen_any o)) is)
     (subst (λ (es : List (Field × ℕ)). HasCard (Delete k) place (expected_tag v) es t c)
-    (filling_there c node_key (Delete k) v place busy at
-    ∙ ap (λ (o : Option Passed). filling_for c node_key (Some (Delete k)) (Some place.node) (Some (seen place.parent)) (seen_any o) place.key (value_told v.told)) is) h)
+    (filling_there c node (Delete k) v place busy at
+    ∙ ap (λ (o : Option Passed). filling_for c node (Some (Delete k)) (Some place.node) (Some (seen place.parent)) (seen_any o) place.key (value_told v.told)) is) h)
 
 -- a delete wants a card at a leaf of its key whose grandparent was read clean
 pub delete_wants : (from node_key : ℕ) (v : View) (k : ℕ) (place : Place) (above : Passed) → IsAt v place → IsLeaf place.node → place.key ≡ k → place.grandparent ≡ Some above
@@ -90,11 +90,11 @@ delete_wants from node_key v k place above at outer same is calm = record {
 
 module _ (t f : View) (c : ℕ) (place : Place) (loses : LosesNothing t f) where
   -- what the card of an insert or a swap tells is told still after its flag
-  pub is_insert : (node_key : NewNode) (op : Op) (what : Put)
-      → HasCard op place place.parent.tag (layout.put_filling node_key.flat c what.key what.value node_key.key place.parent.node place.node place.key place.value) t c
+  pub is_insert : (node : NewNode) (op : Op) (what : Put)
+      → HasCard op place place.parent.tag (layout.put_filling node.flat c what.key what.value node.key place.parent.node place.node place.key place.value) t c
       → Knows f (fact.IFlagged c) → IsTold t (Met place.parent.node)
       → IsInsert f c place.parent.node (node_with place place.parent.tag) (max what.key place.key) (min what.key place.key)
-  is_insert node_key op what h knows met = record {
+  is_insert node op what h knows met = record {
     knows = knows;
     met = loses.told (Met place.parent.node) met;
     parent = loses.told _ (h.told (Info c field.P place.parent.node) (latest _ _));

@@ -37,9 +37,9 @@ may_fill_still a b n c fills may = record {
 }
 
 -- an insert's card that is filled may flag the parent
-pub may_iflag : (a b : PassModel) (n c : ℕ) (node_key : NewNode) (what : Put) (place : Place) → HasCardToPut what place node_key a.view c → Fills a b n
+pub may_iflag : (a b : PassModel) (n c : ℕ) (node : NewNode) (what : Put) (place : Place) → HasCardToPut what place node a.view c → Fills a b n
     → MayIFlag b.view c place.parent.node place.parent.update
-may_iflag a b n c node_key what place h fills = record {
+may_iflag a b n c node what place h fills = record {
   op = h.op;
   what = what;
   puts = h.puts;

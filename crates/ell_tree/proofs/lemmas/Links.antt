@@ -24,6 +24,6 @@ node_same l small = node_back l.node l.tag (word_node l small)
 pub place_link : (place : Place) (tag : ℕ) (v : View) → StandsAt v place.node → tag ≤ greatest_tag → NamesLowBits v → IsLink (node_with place tag)
 place_link place tag v stands low short = record { node = short.node place.node stands; tag = low }
 
--- the node above it is in 43 bits
+-- the node above it is in 38 bits
 pub parent_low : (place : Place) (v : View) → v.worker.search.parent ≡ Some (seen place.parent) → NamesLowBits v → place.parent.node < tag_unit
 parent_low place v behind short = short.parent (seen place.parent) behind

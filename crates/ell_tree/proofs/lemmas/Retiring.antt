@@ -7,7 +7,7 @@ use Rattle.ell_cards.specs.declared.view.Slots.{Slots}
 use Rattle.std.proofs.lemmas.Bool.Decides.{nat_tests}
 use Rattle.std.proofs.lemmas.Bool.{false≢true}
 use Rattle.ell_ops.specs.declared.op.Op.{Op}
-use Rattle.ell_word.specs.Node.{IsInternal, card, left_leaf, right_leaf, IsNode}
+use Rattle.ell_word.specs.Node.{card, left_leaf, right_leaf, IsNode}
 use Rattle.ell_core.specs.declared.fact.Fact.TheVariants as fact
 use Rattle.ell_core.specs.declared.put.Put.{Put}
 use Rattle.ell_core.specs.acts.Searching.{put_of}
@@ -192,4 +192,3 @@ swap_retired s what place c a b d h one first second took own =
       unused_left = λ apart. absurd (apart (lesser ∙ sym greater));
       unused_right = λ apart. absurd (apart (lesser ∙ sym greater));
     })
-

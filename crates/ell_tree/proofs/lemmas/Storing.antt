@@ -56,8 +56,8 @@ insert_words parent below node_key lesser greater left right update left_value r
     (field.RightValue, right_value) ∷ (field.LeftValue, left_value) ∷ (field.RightLeafKey, greater) ∷ (field.LeftLeafKey, lesser)
     ∷ (field.Update, update) ∷ (field.Right, right) ∷ (field.Left, left) ∷ (field.Key, node_key) ∷ (field.L, below) ∷ (field.P, parent) ∷ []
 
--- a node in 43 bits is its own low bits
-pub low_node : (x : ℕ) → x < tag_unit → x % 274877906944 ≡ x
+-- a node in 38 bits is its own low bits
+pub low_node : (x : ℕ) → x < tag_unit → x % tag_unit ≡ x
 low_node x small = omega (arith, small)
 
 -- the number of a link that has a word is that word

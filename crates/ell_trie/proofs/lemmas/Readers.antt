@@ -1,16 +1,15 @@
-use Rattle.std.proofs.Common.{◌≡◌, ℕ, ◌↔◌, Bool, true, not, inl, inr, refl, sym, ap, ◌∙◌, subst, nat_le, arith}
+use Rattle.std.proofs.Common.{◌≡◌, ℕ, ◌↔◌, Bool, true, inl, inr, refl, sym, subst, nat_le, arith}
 use Rattle.ell_word.specs.Node.{IsInternal}
 use Rattle.ell_trie.specs.Ranges.{root, FindsLeaf, at_leaf, below, here}
 use Rattle.ell_trie.proofs.lemmas.order.Bounds.{below_of}
 use Rattle.ell_trie.specs.Courses.{OnTrieCourse, ordinary}
 use Rattle.ell_trie.specs.Truths.{StaysTrue}
-use Rattle.ell_trie.specs.Readers.{TreeState, Fixed, IsGood, TreeStep, leaf_insert, edge_insert, leaf_swap, cut, none, Has, ComesTo, begins, changes, goes_on, LooksFindWhatWas}
+use Rattle.ell_trie.specs.Readers.{TreeState, Fixed, IsGood, TreeStep, insert_above, leaf_swap, cut, none, Has, ComesTo, begins, changes, goes_on, LooksFindWhatWas}
 use Rattle.ell_trie.proofs.lemmas.Courses.{course_down}
 use Rattle.ell_trie.proofs.lemmas.Cuts.{cuts_keep}
 use Rattle.ell_trie.proofs.lemmas.links.Courses.{course_after}
 use Rattle.ell_trie.proofs.lemmas.links.Laws.{its_link}
 use Rattle.ell_trie.proofs.lemmas.Swaps.{course_swap}
-use Rattle.ell_trie.proofs.lemmas.LeafInserts.{leaf_inserts_keep, leaf_inserts_stay_true}
 use Rattle.ell_trie.proofs.lemmas.Truths.{link_true, swaps_stay_true, cuts_stay_true}
 
 module _ (f : Fixed) (seen : TreeState → Bool) (asked : ℕ → Bool) (k : ℕ) where
@@ -38,18 +37,11 @@ module _ (f : Fixed) (seen : TreeState → Bool) (asked : ℕ → Bool) (k : ℕ
   later s s' x h now (inr there) = (s', now, there)
 
   changed : (s s' : TreeState) (x : ℕ) → Stands s x → TreeStep f s s' → Course s' x × Same s s' x
-  changed s s' x h (leaf_insert p side l q t j at same) =
-      let copied : asked (f.value (s.child q (not t))) ≡ asked (f.value l) = ap asked same in
-      let both : Has f asked (s.child q (not t)) ↔ Has f asked l = (λ g. sym copied ∙ g, λ g. copied ∙ g) in
-      let keeps = leaf_inserts_keep s.born (λ z. asked (f.value z)) f.opening f.key s.child s'.child f.top p side l q t j h.good.trie h.good.ordered at both in (
-        keeps.course k x h.born h.course,
-        leaf_inserts_stay_true s.born (λ z. asked (f.value z)) f.opening f.key s.child s'.child f.top p side l q t j h.good.trie h.good.ordered at both k x h.born h.course,
-      )
   changed s s' x h (leaf_swap p side l c at) = (
     course_swap h.good.trie at h.good.ordered.1 k h.born h.course,
     swaps_stay_true s.born (λ z. asked (f.value z)) f.opening f.key s.child s'.child f.top p side l c h.good.trie h.good.ordered at k x h.born h.course,
   )
-  changed s s' x h (edge_insert p side y q t n j at) =
+  changed s s' x h (insert_above p side y q t n j at) =
       let link = its_link h.good.trie h.good.ordered.1 at in
       (course_after h.good.trie link k h.born h.course, link_true h.good.trie h.good.ordered.1 link k h.born h.course)
   changed s s' x h (cut g side p t l w at in_tree) =

@@ -7,8 +7,7 @@ use Rattle.ell_block.proofs.lemmas.Middles.{not_in_block}
 use Rattle.ell_trie.specs.Halves.{InHalfOf, InsideOf}
 use Rattle.ell_trie.specs.Tries.{In, IsTrie}
 use Rattle.ell_trie.specs.Courses.{IsInOrder, ordinary}
-use Rattle.ell_trie.specs.Leaves.{LeafInsert}
-use Rattle.ell_trie.specs.Links.{EdgeInsert}
+use Rattle.ell_trie.specs.Links.{InsertAbove}
 use Rattle.ell_trie.specs.Examples.{with_seven, small_key, small_child, small_born, small_opening, with_twelve, greater_key}
 use Rattle.ell_trie.proofs.lemmas.Middles.{half_there}
 
@@ -122,7 +121,7 @@ small_order = (
   },
 )
 
--- the insert of 7 at leaf 6
+-- the insert of 7 above leaf 6
 others_seven : (x : ℕ) (u : Bool) → ((x ≡ 4) × (u ≡ true)) ⊎ (with_seven x u ≡ small_child x u)
 others_seven x false = inr refl
 others_seven x true = elim (cases_eq x 4) [
@@ -133,35 +132,29 @@ others_seven x true = elim (cases_eq x 4) [
 at_four : Spans small_key small_child 64 4 0 32
 at_four = goes false (root refl refl refl) refl refl refl refl
 
-new_leaves : (u : Bool) → ¬ IsInternal (small_child 12 u)
-new_leaves true e = let h : ◌≡◌ {A = ℕ} 2 0 = e in omega arith
-new_leaves false e = let h : ◌≡◌ {A = ℕ} 1 0 = e in omega arith
-
-plain_leaves : (u : Bool) → small_opening.holds (small_child 12 u) ≡ false
-plain_leaves true = refl
-plain_leaves false = refl
-
-fresh_leaves : (u : Bool) → ¬ In small_born (small_child 12 u)
-fresh_leaves true e = false≢true e
-fresh_leaves false e = false≢true e
-
-pub small_leaf : LeafInsert (In small_born) small_opening small_key small_child with_seven 64 4 true 6 12 true 7
-small_leaf = record {
+pub small_insert_above_leaf : InsertAbove (In small_born) small_opening small_key small_child with_seven 64 4 true 6 12 true 14 7
+small_insert_above_leaf = record {
   shape = record {
     relinks = record { there = refl; others = others_seven };
+    was = refl;
+    from = refl;
     node = refl;
-    outer = new_leaves;
+    outer = λ e. let h : ◌≡◌ {A = ℕ} 2 0 = e in omega arith;
+    beside = refl;
+    below = refl;
+    has = refl;
     small = omega arith;
-    plain = refl;
-    plain_leaves = plain_leaves;
+    old_plain = refl;
+    new_plain = refl;
+    leaf_plain = refl;
+    fresh = λ e. false≢true e;
+    fresh_leaf = λ e. false≢true e;
   };
-  from = refl;
   there = record { low = 0; high = 32; spans = at_four };
   course = ordinary (here at_four (omega arith) (omega arith));
   inside = λ e. record { block = record { bit = 2; place = 0 }; middle = refl; inside = record { from = omega arith; before = omega arith } };
   toward = refl;
-  was = refl;
-  leaf = λ e. let h : ◌≡◌ {A = ℕ} 2 0 = e in omega arith;
+  lacks = λ inner. absurd (let h : ◌≡◌ {A = ℕ} 2 0 = inner in omega arith);
   parts = record {
     block = record { bit = 0; place = 3 };
     middle = refl;
@@ -170,13 +163,9 @@ small_leaf = record {
       upper = record { from = omega arith; before = omega arith };
     };
   };
-  beside = refl;
-  copied = refl;
-  fresh = λ e. false≢true e;
-  fresh_leaves = fresh_leaves;
 }
 
--- the insert of 12 at the edge from the root to node 4
+-- the insert of 12 above node 4
 others : (x : ℕ) (u : Bool) → ((x ≡ 0) × (u ≡ false)) ⊎ (with_twelve x u ≡ small_child x u)
 others x true = inr refl
 others x false = elim (cases_eq x 0) [
@@ -184,8 +173,8 @@ others x false = elim (cases_eq x 0) [
   | inr e ↦ inr (ap (λ b. if b then 8 else small_child x false) (ne_eqb x 0 e))
 ]
 
-pub small_edge : EdgeInsert (In small_born) small_opening small_key small_child with_twelve 64 0 false 4 8 true 10 12
-small_edge = record {
+pub small_insert : InsertAbove (In small_born) small_opening small_key small_child with_twelve 64 0 false 4 8 true 10 12
+small_insert = record {
   shape = record {
     relinks = record { there = refl; others = others };
     was = refl;

@@ -10,5 +10,5 @@ pub mod Finds
 pub mod Tries
 -- Nodes on course afterwards.
 pub mod Courses
--- The laws of links and of edge inserts.
+-- The laws of links and of inserts.
 pub mod Laws

@@ -74,7 +74,7 @@ impl Handle {
 
     /// Returns how many cards of the tree are not given out yet, 0 if all are: the number at one step of the call,
     /// while other handles went on. No more than that are ever left in this tree afterwards. A tree whose cards come
-    /// back has a card for each of 2^61 numbers, however few slots it has, and these are counted.
+    /// back has a card for each of 2^62 numbers, however few slots it has, and these are counted.
     pub fn cards_left(&mut self) -> u64
         // Returns how many cards were not given out at its one step.
         ensures { ReadsCards self.old self.new result }

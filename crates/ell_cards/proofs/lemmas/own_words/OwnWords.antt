@@ -1,4 +1,4 @@
-use Rattle.std.proofs.Common.{eqb-true, ◌≡◌, ℕ, ◌<◌, ◌≤◌, ◌⊎◌, Bool, true, false, refl, sym, ◌∙◌, inl, inr, ◌%◌, ◌==◌, ◌&&◌, if◌then◌else◌, nat_le, nat_lt, subst, arith}
+use Rattle.std.proofs.Common.{eqb-true, ◌≡◌, ℕ, ◌<◌, ◌≤◌, ◌⊎◌, Bool, true, false, refl, sym, ◌∙◌, inl, inr, ◌%◌, ◌&&◌, if◌then◌else◌, nat_le, nat_lt, subst, arith}
 use mathlib.Core.Option.{some}
 use lib.ListN.{get_elem?}
 use Rattle.ell_word.specs.Node.{card, internal, left_leaf, right_leaf}

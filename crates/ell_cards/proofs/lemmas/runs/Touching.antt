@@ -17,7 +17,7 @@ use Rattle.ell_core.specs.declared.fact.Fact.TheVariants as fact
 use Rattle.ell_layout.specs.declared.field.Field.{Field}
 use Rattle.ell_layout.specs.declared.field.Field.TheVariants as field
 use Rattle.ell_layout.specs.Layout.{address}
-use Rattle.ell_layout.specs.Words.{Words, IsLeaf, word, key_field, child_field}
+use Rattle.ell_layout.specs.Words.{Words, word, key_field, child_field}
 use Rattle.ell_layout.specs.Cards.{says_by}
 use Rattle.ell_core.specs.state.Machine.{Machine, Worker}
 use Rattle.ell_core.specs.acts.Events.{Steps}

@@ -2,7 +2,7 @@
 use Rattle.std.proofs.Common.{◌≡◌, ℕ, ◌%◌, ◌<◌, ◌≤◌, ◌==◌, Bool, true, false, refl, sym, ap, ◌∙◌, arith, eqb-true, eq-eqb, true≢false}
 use Rattle.ell_word.specs.declared.link.Link.{Link}
 use Rattle.ell_word.specs.Node.{card}
-use Rattle.ell_word.specs.Link.{linked, link_in, node_bound}
+use Rattle.ell_word.specs.Link.{linked, link_in, node_bound, tag_unit}
 use Rattle.ell_cards.specs.Apart.{cut_node}
 use Rattle.ell_cards.specs.SlotWords.{slot_of}
 use Rattle.ell_cards.specs.Shown.{IsNear, IsWord, cut_word, cut_tag, shown_link}
@@ -23,7 +23,7 @@ node_slot x = omega arith
 pub node_is_word : (x : ℕ) → cut_word (cut_node x) ≡ cut_node x
 node_is_word x = omega arith
 
-pub node_small : (x : ℕ) → x < 274877906944 → cut_node x ≡ x
+pub node_small : (x : ℕ) → x < tag_unit → cut_node x ≡ x
 node_small x small = omega arith
 
 -- two nodes are cut to the same exactly if they are the same, where that is so of them

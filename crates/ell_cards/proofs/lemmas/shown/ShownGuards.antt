@@ -183,8 +183,8 @@ module _ (plan : TablePlan) (v : View) (apart : IsApart plan v) where
         calm = subst (λ (s : Seen). IsClean s.word) (sym up.is) h.calm;
       }
 
-  pub claim_whole : (c : ℕ) (node_key : NewNode) → MayClaim (flat_from plan) (shown v) c node_key → MayClaim (flat_from plan) v c node_key
-  claim_whole c node_key may =
+  pub claim_whole : (c : ℕ) (node : NewNode) → MayClaim (flat_from plan) (shown v) c node → MayClaim (flat_from plan) v c node
+  claim_whole c node may =
       let above = was_seen v.worker.search.parent may.parent may.behind in
       let at = was_stood v.worker.search.node may.below may.stands in
       record {
@@ -200,9 +200,9 @@ module _ (plan : TablePlan) (v : View) (apart : IsApart plan v) where
         told = may.told;
         behind = above.has;
         calm = subst (λ (s : Seen). IsClean s.word) (sym above.is) may.calm;
-        wants = wants_whole may.op above.whole.node at.whole may.key node_key.key (apart.names.parent above.whole above.has) (apart.names.node at.whole at.has)
-            (subst (λ x. Wants (flat_from plan) (shown v) may.op (shown_seen above.whole).node x may.key node_key.key) (sym at.is)
-            (subst (λ (s : Seen). Wants (flat_from plan) (shown v) may.op s.node may.below may.key node_key.key) (sym above.is) may.wants));
+        wants = wants_whole may.op above.whole.node at.whole may.key node.key (apart.names.parent above.whole above.has) (apart.names.node at.whole at.has)
+            (subst (λ x. Wants (flat_from plan) (shown v) may.op (shown_seen above.whole).node x may.key node.key) (sym at.is)
+            (subst (λ (s : Seen). Wants (flat_from plan) (shown v) may.op s.node may.below may.key node.key) (sym above.is) may.wants));
         shape = may.shape;
       }
 

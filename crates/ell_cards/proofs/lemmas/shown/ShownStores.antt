@@ -1,5 +1,5 @@
 -- What was stored of the card in hand stays what is planned, if it is that once it is cut.
-use Rattle.std.proofs.Common.{◌≡◌, ℕ, zero, suc, ◌+◌, ◌*◌, ◌%◌, ◌<◌, ◌≤◌, ◌==◌, ◌&&◌, nat_le, nat_lt, if◌then◌else◌, Bool, true, false, Option, Some, refl, sym, ◌∙◌, subst, arith, eqb-true, unwrap_or}
+use Rattle.std.proofs.Common.{◌≡◌, ℕ, zero, suc, ◌+◌, ◌*◌, ◌<◌, ◌≤◌, ◌==◌, ◌&&◌, nat_le, nat_lt, if◌then◌else◌, Bool, true, false, Option, Some, refl, sym, ◌∙◌, subst, arith, eqb-true, unwrap_or}
 use Rattle.std.proofs.lemmas.Option.{same_Some}
 use Rattle.ell_ops.specs.declared.op.Op.{Op}
 use Rattle.ell_ops.specs.declared.op.Op.TheVariants.{Find, Insert, Delete, Swap}
@@ -105,22 +105,22 @@ module _ (plan : TablePlan) (v : View) (apart : IsApart plan v) where
   none_nothing : (f : Field) → IsNothingSo f 0
   none_nothing f e = refl
 
-  planned_nothing : (c : ℕ) (node_key : NewNode) (tag : ℕ) (op : Option Op) (node : Option ℕ) (parent above : Option Seen) (key : ℕ) (value_of : ℕ → ℕ)
-      → ((x : ℕ) → node ≡ Some x → IsTold v (Met x) × (0 < x)) → ((seen : Seen) → parent ≡ Some seen → IsTold v (Met seen.node))
+  planned_nothing : (c : ℕ) (node : NewNode) (tag : ℕ) (op : Option Op) (lower : Option ℕ) (parent above : Option Seen) (key : ℕ) (value_of : ℕ → ℕ)
+      → ((x : ℕ) → lower ≡ Some x → IsTold v (Met x) × (0 < x)) → ((seen : Seen) → parent ≡ Some seen → IsTold v (Met seen.node))
       → ((seen : Seen) → above ≡ Some seen → IsTold v (Met seen.node)) → (f : Field)
-      → IsNothingSo f (stored (tagged tag (filling_for c node_key op node parent above key value_of)) f 0)
-  planned_nothing c node_key tag (Some (Insert k value)) (Some below) (Some parent) above key value_of at behind top =
-      put_nothing node_key.flat c k value node_key.key parent.node below key (value_of below) tag (behind parent refl) (at below refl).0 (at below refl).1
-  planned_nothing c node_key tag (Some (Swap k was value)) (Some below) (Some parent) above key value_of at behind top =
-      put_nothing node_key.flat c k value node_key.key parent.node below key (value_of below) tag (behind parent refl) (at below refl).0 (at below refl).1
-  planned_nothing c node_key tag (Some (Delete k)) (Some leaf) (Some parent) (Some above) key value_of at behind top =
+      → IsNothingSo f (stored (tagged tag (filling_for c node op lower parent above key value_of)) f 0)
+  planned_nothing c node tag (Some (Insert k value)) (Some below) (Some parent) above key value_of at behind top =
+      put_nothing node.flat c k value node.key parent.node below key (value_of below) tag (behind parent refl) (at below refl).0 (at below refl).1
+  planned_nothing c node tag (Some (Swap k was value)) (Some below) (Some parent) above key value_of at behind top =
+      put_nothing node.flat c k value node.key parent.node below key (value_of below) tag (behind parent refl) (at below refl).0 (at below refl).1
+  planned_nothing c node tag (Some (Delete k)) (Some leaf) (Some parent) (Some above) key value_of at behind top =
       delete_nothing above.node parent.node leaf parent.word tag (top above refl) (behind parent refl) (at leaf refl).0 (at leaf refl).1
-  planned_nothing c node_key tag _ _ _ _ key value_of at behind top = none_nothing
+  planned_nothing c node tag _ _ _ _ key value_of at behind top = none_nothing
 
   -- claim
-  claim_stays : (c : ℕ) (node_key : NewNode) (won : Bool) → MayClaim (flat_from plan) v c node_key → StoresAreWhole v → StoresAreWhole (after_claim won c node_key v)
-  claim_stays c node_key true may stores f e =
-      planned_nothing c node_key (expected_tag v) v.worker.operation v.worker.search.node v.worker.search.parent
+  claim_stays : (c : ℕ) (node : NewNode) (won : Bool) → MayClaim (flat_from plan) v c node → StoresAreWhole v → StoresAreWhole (after_claim won c node v)
+  claim_stays c node true may stores f e =
+      planned_nothing c node (expected_tag v) v.worker.operation v.worker.search.node v.worker.search.parent
       v.worker.search.grandparent (unwrap_or v.here 0) (value_told v.told)
       (λ x at. (apart.names.node x at, no_root x (same_Some may.below x (sym may.stands ∙ at)))) apart.names.parent apart.names.grandparent f
       (zero_shown f ∙ e)
@@ -134,8 +134,8 @@ module _ (plan : TablePlan) (v : View) (apart : IsApart plan v) where
       zero_shown _ = refl
 
       no_root : (x : ℕ) → may.below ≡ x → 0 < x
-      no_root zero e = absurd (wanted (flat_from plan) v may.op may.parent.node may.key node_key.key
-          (subst (λ y. Wants (flat_from plan) v may.op may.parent.node y may.key node_key.key) e may.wants))
+      no_root zero e = absurd (wanted (flat_from plan) v may.op may.parent.node may.key node.key
+          (subst (λ y. Wants (flat_from plan) v may.op may.parent.node y may.key node.key) e may.wants))
       no_root (suc x) e = omega arith
   claim_stays c node_key false may stores f e = stores f e
 

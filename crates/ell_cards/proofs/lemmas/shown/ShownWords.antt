@@ -1,5 +1,5 @@
 -- What is shown of the words that a card in hand has, or is to have.
-use Rattle.std.proofs.Common.{◌≡◌, ℕ, ◌%◌, ◌==◌, ◌&&◌, nat_le, nat_lt, min, max, if◌then◌else◌, map, Bool, true, false, Option, Some, None, List, [], ◌∷◌, refl, sym, ap, ◌∙◌, eqb-true, unwrap_or, ◌||◌}
+use Rattle.std.proofs.Common.{◌≡◌, ℕ, ◌==◌, ◌&&◌, nat_le, nat_lt, min, max, if◌then◌else◌, map, Bool, true, false, Option, Some, None, List, [], ◌∷◌, refl, sym, ap, ◌∙◌, eqb-true, unwrap_or, ◌||◌}
 use Rattle.std.specs.Option.{option_map}
 use Rattle.ell_ops.specs.declared.op.Op.{Op}
 use Rattle.ell_ops.specs.declared.op.Op.TheVariants.{Find, Insert, Delete, Swap}
@@ -117,25 +117,25 @@ delete_alike above parent leaf was tag = λ t.
     ∷ (field.L, tagged_alike field.L tag (cut_tag tag) leaf (cut_node leaf) (sym (tag_again tag)) (sym (node_again leaf)) t) ∷ (field.Was, was) ∷ []
 
 -- what a claim plans
-planned_alike : (c : ℕ) (node_key : NewNode) (op : Option Op) (node : Option ℕ) (parent above : Option Seen) (key tag : ℕ) (value_of value_of' : ℕ → ℕ)
-    → ((x : ℕ) → node ≡ Some x → value_of x ≡ value_of' (cut_node x))
-    → shown_words (tagged tag (filling_for c node_key op node parent above key value_of))
-    ≡ shown_words (tagged (cut_tag tag) (filling_for c node_key op (option_map cut_node node) (option_map shown_seen parent) (option_map shown_seen above) key value_of'))
-planned_alike c node_key (Some (Insert k value)) (Some below) (Some parent) above key tag value_of value_of' same =
-    put_alike node_key.flat c k value node_key.key parent.node below key (value_of below) (value_of' (cut_node below)) tag (same below refl)
-planned_alike c node_key (Some (Swap k was value)) (Some below) (Some parent) above key tag value_of value_of' same =
-    put_alike node_key.flat c k value node_key.key parent.node below key (value_of below) (value_of' (cut_node below)) tag (same below refl)
-planned_alike c node_key (Some (Delete k)) (Some leaf) (Some parent) (Some above) key tag value_of value_of' same =
+planned_alike : (c : ℕ) (node : NewNode) (op : Option Op) (lower : Option ℕ) (parent above : Option Seen) (key tag : ℕ) (value_of value_of' : ℕ → ℕ)
+    → ((x : ℕ) → lower ≡ Some x → value_of x ≡ value_of' (cut_node x))
+    → shown_words (tagged tag (filling_for c node op lower parent above key value_of))
+    ≡ shown_words (tagged (cut_tag tag) (filling_for c node op (option_map cut_node lower) (option_map shown_seen parent) (option_map shown_seen above) key value_of'))
+planned_alike c node (Some (Insert k value)) (Some below) (Some parent) above key tag value_of value_of' same =
+    put_alike node.flat c k value node.key parent.node below key (value_of below) (value_of' (cut_node below)) tag (same below refl)
+planned_alike c node (Some (Swap k was value)) (Some below) (Some parent) above key tag value_of value_of' same =
+    put_alike node.flat c k value node.key parent.node below key (value_of below) (value_of' (cut_node below)) tag (same below refl)
+planned_alike c node (Some (Delete k)) (Some leaf) (Some parent) (Some above) key tag value_of value_of' same =
     delete_alike above.node parent.node leaf parent.word tag
-planned_alike c node_key (Some (Delete k)) (Some leaf) (Some parent) None key tag value_of value_of' same = refl
-planned_alike c node_key (Some (Delete k)) (Some leaf) None above key tag value_of value_of' same = refl
-planned_alike c node_key (Some (Delete k)) None parent above key tag value_of value_of' same = refl
-planned_alike c node_key (Some (Insert k value)) (Some below) None above key tag value_of value_of' same = refl
-planned_alike c node_key (Some (Insert k value)) None parent above key tag value_of value_of' same = refl
-planned_alike c node_key (Some (Swap k was value)) (Some below) None above key tag value_of value_of' same = refl
-planned_alike c node_key (Some (Swap k was value)) None parent above key tag value_of value_of' same = refl
-planned_alike c node_key (Some (Find k)) node parent above key tag value_of value_of' same = refl
-planned_alike c node_key None node parent above key tag value_of value_of' same = refl
+planned_alike c node (Some (Delete k)) (Some leaf) (Some parent) None key tag value_of value_of' same = refl
+planned_alike c node (Some (Delete k)) (Some leaf) None above key tag value_of value_of' same = refl
+planned_alike c node (Some (Delete k)) None parent above key tag value_of value_of' same = refl
+planned_alike c node (Some (Insert k value)) (Some below) None above key tag value_of value_of' same = refl
+planned_alike c node (Some (Insert k value)) None parent above key tag value_of value_of' same = refl
+planned_alike c node (Some (Swap k was value)) (Some below) None above key tag value_of value_of' same = refl
+planned_alike c node (Some (Swap k was value)) None parent above key tag value_of value_of' same = refl
+planned_alike c node (Some (Find k)) lower parent above key tag value_of value_of' same = refl
+planned_alike c node None lower parent above key tag value_of value_of' same = refl
 
 -- and the tag that a card is to expect is cut
 tag_cut : (op : Option Op) (parent above : Option Seen)
@@ -152,12 +152,12 @@ pub value_here : (plan : TablePlan) (v : View) → IsApart plan v → (x : ℕ) 
 value_here plan v apart x at =
     sym (value_shown v.told x (λ y value has same. apart.met y x (apart.names.entries (Value y value) has) (apart.names.node x at) same))
 
-pub planned_shown_alike : (plan : TablePlan) (c : ℕ) (node_key : NewNode) (v : View) → IsApart plan v
-    → shown_words (tagged (expected_tag v) (filling_of c node_key v)) ≡ shown_words (tagged (expected_tag (shown v)) (filling_of c node_key (shown v)))
-planned_shown_alike plan c node_key v apart =
-    planned_alike c node_key v.worker.operation v.worker.search.node v.worker.search.parent v.worker.search.grandparent (unwrap_or v.here 0) (expected_tag v)
+pub planned_shown_alike : (plan : TablePlan) (c : ℕ) (node : NewNode) (v : View) → IsApart plan v
+    → shown_words (tagged (expected_tag v) (filling_of c node v)) ≡ shown_words (tagged (expected_tag (shown v)) (filling_of c node (shown v)))
+planned_shown_alike plan c node v apart =
+    planned_alike c node v.worker.operation v.worker.search.node v.worker.search.parent v.worker.search.grandparent (unwrap_or v.here 0) (expected_tag v)
     (value_told v.told) (value_told (shown v).told) (value_here plan v apart)
-    ∙ ap (λ tag. shown_words (tagged tag (filling_of c node_key (shown v)))) (sym (tag_shown v))
+    ∙ ap (λ tag. shown_words (tagged tag (filling_of c node (shown v)))) (sym (tag_shown v))
 
 -- what is told of a card when it is claimed
 pub told_filling_shown : (c : ℕ) (es : List (Field × ℕ)) (told : List Told)
@@ -178,28 +178,28 @@ told_put : (flat : Bool) (c k value node_key parent below key there there' : ℕ
 told_put flat c k value node_key parent below key there there' told same =
     ap (λ x. told_filling c (put_filling flat c k value node_key (cut_node parent) (cut_node below) key x) told) same
 
-told_alike : (c : ℕ) (node_key : NewNode) (op : Option Op) (node : Option ℕ) (parent above : Option Seen) (key : ℕ) (value_of value_of' : ℕ → ℕ) (told : List Told)
-    → ((x : ℕ) → node ≡ Some x → value_of x ≡ value_of' (cut_node x))
-    → told_filling c (shown_filling (filling_for c node_key op node parent above key value_of)) told
-    ≡ told_filling c (filling_for c node_key op (option_map cut_node node) (option_map shown_seen parent) (option_map shown_seen above) key value_of') told
-told_alike c node_key (Some (Insert k value)) (Some below) (Some parent) above key value_of value_of' told same =
-    told_put node_key.flat c k value node_key.key parent.node below key (value_of below) (value_of' (cut_node below)) told (same below refl)
-told_alike c node_key (Some (Swap k was value)) (Some below) (Some parent) above key value_of value_of' told same =
-    told_put node_key.flat c k value node_key.key parent.node below key (value_of below) (value_of' (cut_node below)) told (same below refl)
-told_alike c node_key (Some (Delete k)) (Some leaf) (Some parent) (Some above) key value_of value_of' told same = refl
-told_alike c node_key (Some (Delete k)) (Some leaf) (Some parent) None key value_of value_of' told same = refl
-told_alike c node_key (Some (Delete k)) (Some leaf) None above key value_of value_of' told same = refl
-told_alike c node_key (Some (Delete k)) None parent above key value_of value_of' told same = refl
-told_alike c node_key (Some (Insert k value)) (Some below) None above key value_of value_of' told same = refl
-told_alike c node_key (Some (Insert k value)) None parent above key value_of value_of' told same = refl
-told_alike c node_key (Some (Swap k was value)) (Some below) None above key value_of value_of' told same = refl
-told_alike c node_key (Some (Swap k was value)) None parent above key value_of value_of' told same = refl
-told_alike c node_key (Some (Find k)) node parent above key value_of value_of' told same = refl
-told_alike c node_key None node parent above key value_of value_of' told same = refl
+told_alike : (c : ℕ) (node : NewNode) (op : Option Op) (lower : Option ℕ) (parent above : Option Seen) (key : ℕ) (value_of value_of' : ℕ → ℕ) (told : List Told)
+    → ((x : ℕ) → lower ≡ Some x → value_of x ≡ value_of' (cut_node x))
+    → told_filling c (shown_filling (filling_for c node op lower parent above key value_of)) told
+    ≡ told_filling c (filling_for c node op (option_map cut_node lower) (option_map shown_seen parent) (option_map shown_seen above) key value_of') told
+told_alike c node (Some (Insert k value)) (Some below) (Some parent) above key value_of value_of' told same =
+    told_put node.flat c k value node.key parent.node below key (value_of below) (value_of' (cut_node below)) told (same below refl)
+told_alike c node (Some (Swap k was value)) (Some below) (Some parent) above key value_of value_of' told same =
+    told_put node.flat c k value node.key parent.node below key (value_of below) (value_of' (cut_node below)) told (same below refl)
+told_alike c node (Some (Delete k)) (Some leaf) (Some parent) (Some above) key value_of value_of' told same = refl
+told_alike c node (Some (Delete k)) (Some leaf) (Some parent) None key value_of value_of' told same = refl
+told_alike c node (Some (Delete k)) (Some leaf) None above key value_of value_of' told same = refl
+told_alike c node (Some (Delete k)) None parent above key value_of value_of' told same = refl
+told_alike c node (Some (Insert k value)) (Some below) None above key value_of value_of' told same = refl
+told_alike c node (Some (Insert k value)) None parent above key value_of value_of' told same = refl
+told_alike c node (Some (Swap k was value)) (Some below) None above key value_of value_of' told same = refl
+told_alike c node (Some (Swap k was value)) None parent above key value_of value_of' told same = refl
+told_alike c node (Some (Find k)) lower parent above key value_of value_of' told same = refl
+told_alike c node None lower parent above key value_of value_of' told same = refl
 
-pub told_of_claim : (plan : TablePlan) (c : ℕ) (node_key : NewNode) (v : View) → IsApart plan v
-    → map shown_told (told_filling c (filling_of c node_key v) v.told) ≡ told_filling c (filling_of c node_key (shown v)) (shown v).told
-told_of_claim plan c node_key v apart =
-    told_filling_shown c (filling_of c node_key v) v.told
-    ∙ told_alike c node_key v.worker.operation v.worker.search.node v.worker.search.parent v.worker.search.grandparent (unwrap_or v.here 0)
+pub told_of_claim : (plan : TablePlan) (c : ℕ) (node : NewNode) (v : View) → IsApart plan v
+    → map shown_told (told_filling c (filling_of c node v) v.told) ≡ told_filling c (filling_of c node (shown v)) (shown v).told
+told_of_claim plan c node v apart =
+    told_filling_shown c (filling_of c node v) v.told
+    ∙ told_alike c node v.worker.operation v.worker.search.node v.worker.search.parent v.worker.search.grandparent (unwrap_or v.here 0)
     (value_told v.told) (value_told (shown v).told) (map shown_told v.told) (value_here plan v apart)

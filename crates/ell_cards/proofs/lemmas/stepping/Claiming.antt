@@ -89,15 +89,15 @@ taking c tag es v = record v {
 }
 
 -- what fills a card for an operation that puts something
-pub put_filling : (op : Op) (what : Put) → put_of op ≡ Some what → (c : ℕ) (node_key : NewNode) (below : ℕ) (parent : Seen) (above : Option Seen) (key : ℕ) (value_of : ℕ → ℕ)
-    → layout.put_filling node_key.flat c what.key what.value node_key.key parent.node below key (value_of below)
-    ≡ filling_for c node_key (Some op) (Some below) (Some parent) above key value_of
-put_filling (Find k) what e c node_key below parent above key value_of = absurd cc
-put_filling (Insert k value) what e c node_key below parent above key value_of =
-    ap (λ (t : Put). layout.put_filling node_key.flat c t.key t.value node_key.key parent.node below key (value_of below)) (sym (same_Some (added k value) what e))
-put_filling (Delete k) what e c node_key below parent above key value_of = absurd cc
-put_filling (Swap k was value) what e c node_key below parent above key value_of =
-    ap (λ (t : Put). layout.put_filling node_key.flat c t.key t.value node_key.key parent.node below key (value_of below)) (sym (same_Some (replacing k was value) what e))
+pub put_filling : (op : Op) (what : Put) → put_of op ≡ Some what → (c : ℕ) (node : NewNode) (below : ℕ) (parent : Seen) (above : Option Seen) (key : ℕ) (value_of : ℕ → ℕ)
+    → layout.put_filling node.flat c what.key what.value node.key parent.node below key (value_of below)
+    ≡ filling_for c node (Some op) (Some below) (Some parent) above key value_of
+put_filling (Find k) what e c node below parent above key value_of = absurd cc
+put_filling (Insert k value) what e c node below parent above key value_of =
+    ap (λ (t : Put). layout.put_filling node.flat c t.key t.value node.key parent.node below key (value_of below)) (sym (same_Some (added k value) what e))
+put_filling (Delete k) what e c node below parent above key value_of = absurd cc
+put_filling (Swap k was value) what e c node below parent above key value_of =
+    ap (λ (t : Put). layout.put_filling node.flat c t.key t.value node.key parent.node below key (value_of below)) (sym (same_Some (replacing k was value) what e))
 
 -- the value that was told of a leaf, as that is told in the machine; an internal node has none
 told_below : (w : Words) (told : List Told) (x : ℕ) → (IsLeaf x → told_value told x ≡ w.value x) → value_told told x ≡ layout.value_below w x
@@ -229,10 +229,10 @@ module _ (plan : TablePlan) (s : TableState) (r : HasMachine plan s) (id : ℕ) 
       (subst (λ n. IsReached plan s r id v here (set s.words 0 (next + 1)) (claimed r.words n es) (taking next n es v) act.Claim Moved) e at)
 
   -- what a claim needs of the word that it found: a won one is of the next card
-  claims : (c : ℕ) (node_key : NewNode) → MayClaim (flat_from plan) v c node_key → c ≤ plan.last_card → c ≡ next
-      → IsReached plan s r id v here (set s.words 0 (c + 1)) (claimed r.words (expected_tag v) (filling_of next node_key v)) (after_claim true c node_key v) act.Claim Moved
-  claims c node_key may room same =
-      subst (λ d. IsReached plan s r id v here (set s.words 0 (d + 1)) (claimed r.words (expected_tag v) (filling_of next node_key v)) (after_claim true d node_key v) act.Claim Moved)
+  claims : (c : ℕ) (node : NewNode) → MayClaim (flat_from plan) v c node → c ≤ plan.last_card → c ≡ next
+      → IsReached plan s r id v here (set s.words 0 (c + 1)) (claimed r.words (expected_tag v) (filling_of next node v)) (after_claim true c node v) act.Claim Moved
+  claims c node may room same =
+      subst (λ d. IsReached plan s r id v here (set s.words 0 (d + 1)) (claimed r.words (expected_tag v) (filling_of next node v)) (after_claim true d node v) act.Claim Moved)
       (sym same) (by may.op may.busy may.wants)
     where
       key_is : r.words.key may.below ≡ may.key
@@ -244,7 +244,7 @@ module _ (plan : TablePlan) (s : TableState) (r : HasMachine plan s) (id : ℕ) 
           (ap (λ (u : Worker). u.search.parent) (mine_is plan s r id v here) ∙ may.behind)
 
       -- the tree is flat in the machine as by the plan
-      flat_is : node_key.flat ≡ is_flat r.words
+      flat_is : node.flat ≡ is_flat r.words
       flat_is = may.shape ∙ ap (nat_lt 0) (sym r.shape)
 
       -- it may take a card in the machine as by the plan
@@ -252,29 +252,29 @@ module _ (plan : TablePlan) (s : TableState) (r : HasMachine plan s) (id : ℕ) 
       ready = subst (λ n. MayTake n (worker_of v.worker)) (sym r.shape) may.ready
 
       puts : (op : Op) (what : Put) → put_of op ≡ Some what → v.worker.operation ≡ Some op → GivesPlace r.words what may.below
-          → (what.was ≡ None → IsInBlock r.words may.parent.node what.key) → IsNodeKey r.words.flat_from what.key (r.words.key may.below) node_key.key
+          → (what.was ≡ None → IsInBlock r.words may.parent.node what.key) → IsNodeKey r.words.flat_from what.key (r.words.key may.below) node.key
           → (IsLeaf may.below → told_value v.told may.below ≡ r.words.value may.below)
-          → IsReached plan s r id v here (set s.words 0 (next + 1)) (claimed r.words (expected_tag v) (filling_of next node_key v)) (after_claim true next node_key v) act.Claim Moved
+          → IsReached plan s r id v here (set s.words 0 (next + 1)) (claimed r.words (expected_tag v) (filling_of next node v)) (after_claim true next node v) act.Claim Moved
       puts op what is_put busy takes_it fits named value_is =
           let below_value = value_told v.told may.below in
           let below_is = told_below r.words v.told may.below value_is in
-          let es = layout.put_filling node_key.flat next what.key what.value node_key.key may.parent.node may.below may.key below_value in
-          let filled_as : es ≡ layout.put_filling (is_flat r.words) next what.key what.value node_key.key may.parent.node may.below (r.words.key may.below) (layout.value_below r.words may.below) =
-          λ t. layout.put_filling (flat_is t) next what.key what.value node_key.key may.parent.node may.below (sym key_is t) (below_is t) in
-          let is : es ≡ filling_of next node_key v =
-          put_filling op what is_put next node_key may.below may.parent v.worker.search.grandparent may.key (value_told v.told)
-          ∙ (λ t. filling_for next node_key (sym busy t) (sym may.stands t) (sym may.behind t) v.worker.search.grandparent (unwrap_or (sym may.told t) 0) (value_told v.told)) in
+          let es = layout.put_filling node.flat next what.key what.value node.key may.parent.node may.below may.key below_value in
+          let filled_as : es ≡ layout.put_filling (is_flat r.words) next what.key what.value node.key may.parent.node may.below (r.words.key may.below) (layout.value_below r.words may.below) =
+          λ t. layout.put_filling (flat_is t) next what.key what.value node.key may.parent.node may.below (sym key_is t) (below_is t) in
+          let is : es ≡ filling_of next node v =
+          put_filling op what is_put next node may.below may.parent v.worker.search.grandparent may.key (value_told v.told)
+          ∙ (λ t. filling_for next node (sym busy t) (sym may.stands t) (sym may.behind t) v.worker.search.grandparent (unwrap_or (sym may.told t) 0) (value_told v.told)) in
           let tag_is : may.parent.tag ≡ expected_tag v =
           put_tag op what is_put may.parent v.worker.search.grandparent
           ∙ (λ t. tag_of_claim (sym busy t) (sym may.behind t) v.worker.search.grandparent) in
           let at = claimed_words may.parent.tag es in
-          as_known may.parent.tag (expected_tag v) es (filling_of next node_key v) tag_is is
-          (takes may.parent.tag es (insert_tagged node_key.flat may.parent.tag next what.key what.value node_key.key may.parent.node may.below may.key below_value) (omega arith) (inl (record {
+          as_known may.parent.tag (expected_tag v) es (filling_of next node v) tag_is is
+          (takes may.parent.tag es (insert_tagged node.flat may.parent.tag next what.key what.value node.key may.parent.node may.below may.key below_value) (omega arith) (inl (record {
             op = op;
             what = what;
             below = may.below;
             parent = may.parent;
-            node_key = node_key.key;
+            node_key = node.key;
             busy = busy;
             puts = is_put;
             ready = ready;
@@ -315,7 +315,7 @@ module _ (plan : TablePlan) (s : TableState) (r : HasMachine plan s) (id : ℕ) 
       has_it x = ap (λ n. has_block n x) (sym r.shape)
 
       -- an insert's key is in the parent's block
-      fits_there : (k key : ℕ) → WantsInsert (flat_from plan) v k may.parent.node may.below key node_key.key → IsInBlock r.words may.parent.node k
+      fits_there : (k key : ℕ) → WantsInsert (flat_from plan) v k may.parent.node may.below key node.key → IsInBlock r.words may.parent.node k
       fits_there k key wants = record {
         inner = λ inner has.
             let told = wants.fits (has_it may.parent.node ∙ has) in
@@ -324,16 +324,16 @@ module _ (plan : TablePlan) (s : TableState) (r : HasMachine plan s) (id : ℕ) 
       }
 
       -- and not in that of an internal node at which it ends
-      lacks_there : (k : ℕ) → WantsInsert (flat_from plan) v k may.parent.node may.below may.key node_key.key → IsInternal may.below → ¬ IsInBlock r.words may.below k
+      lacks_there : (k : ℕ) → WantsInsert (flat_from plan) v k may.parent.node may.below may.key node.key → IsInternal may.below → ¬ IsInBlock r.words may.below k
       lacks_there k wants inner in_block =
           let edge = wants.edge inner in
           edge.1 (subst (λ n. InBlockOf n k) key_is (in_block.inner inner (sym (has_it may.below) ∙ edge.0)))
 
-      named_so : (k : ℕ) → IsNodeKey (flat_from plan) k may.key node_key.key → IsNodeKey r.words.flat_from k (r.words.key may.below) node_key.key
-      named_so k named = subst (λ n. IsNodeKey n k (r.words.key may.below) node_key.key) (sym r.shape) (subst (λ m. IsNodeKey (flat_from plan) k m node_key.key) (sym key_is) named)
+      named_so : (k : ℕ) → IsNodeKey (flat_from plan) k may.key node.key → IsNodeKey r.words.flat_from k (r.words.key may.below) node.key
+      named_so k named = subst (λ n. IsNodeKey n k (r.words.key may.below) node.key) (sym r.shape) (subst (λ m. IsNodeKey (flat_from plan) k m node.key) (sym key_is) named)
 
-      by : (op : Op) → v.worker.operation ≡ Some op → Wants (flat_from plan) v op may.parent.node may.below may.key node_key.key
-          → IsReached plan s r id v here (set s.words 0 (next + 1)) (claimed r.words (expected_tag v) (filling_of next node_key v)) (after_claim true next node_key v) act.Claim Moved
+      by : (op : Op) → v.worker.operation ≡ Some op → Wants (flat_from plan) v op may.parent.node may.below may.key node.key
+          → IsReached plan s r id v here (set s.words 0 (next + 1)) (claimed r.words (expected_tag v) (filling_of next node v)) (after_claim true next node v) act.Claim Moved
       by (Find k) busy wants = absurd wants
       by (Insert k value) busy wants = puts (Insert k value) (added k value) refl busy
           (record { leaf = λ outer e. (wants.leaf outer).0 (sym key_is ∙ e); edge = λ inner. (refl, lacks_there k wants inner) })
@@ -347,11 +347,11 @@ module _ (plan : TablePlan) (s : TableState) (r : HasMachine plan s) (id : ℕ) 
       by (Delete k) busy wants =
           let above = wants.above in
           let es = delete_filling above.node may.parent.node may.below may.parent.word in
-          let is : es ≡ filling_of next node_key v =
-          λ t. filling_for next node_key (sym busy t) (sym may.stands t) (sym may.behind t) (sym wants.grandparent t) (unwrap_or v.here 0) (value_told v.told) in
+          let is : es ≡ filling_of next node v =
+          λ t. filling_for next node (sym busy t) (sym may.stands t) (sym may.behind t) (sym wants.grandparent t) (unwrap_or v.here 0) (value_told v.told) in
           let tag_is : above.tag ≡ expected_tag v = λ t. tag_of_claim (sym busy t) (sym may.behind t) (sym wants.grandparent t) in
           let at = claimed_words above.tag es in
-          as_known above.tag (expected_tag v) es (filling_of next node_key v) tag_is is
+          as_known above.tag (expected_tag v) es (filling_of next node v) tag_is is
           (takes above.tag es (delete_tagged above.tag above.node may.parent.node may.below may.parent.word) (omega arith) (inr (record {
             key = k;
             leaf = may.below;
@@ -368,36 +368,36 @@ module _ (plan : TablePlan) (s : TableState) (r : HasMachine plan s) (id : ℕ) 
           })) (at field.Gp, (at field.P, (at field.L, (at field.Was, tt)))))
 
   -- the event of a claim by whether it was won
-  record ClaimAt (c : ℕ) (node_key : NewNode) (b : Bool) : Type 0 where
-    kept : HasMachine plan (record { words = set s.words 0 (if b then c + 1 else get_or s.words 0 0); homes = s.homes; views = set s.views id (after_claim b c node_key v) })
+  record ClaimAt (c : ℕ) (node : NewNode) (b : Bool) : Type 0 where
+    kept : HasMachine plan (record { words = set s.words 0 (if b then c + 1 else get_or s.words 0 0); homes = s.homes; views = set s.views id (after_claim b c node v) })
     later : StagesLater r.stages kept.stages
     event : Becomes id (if b then Some act.Claim else None) Moved (machine plan s r id v here)
-        (seated kept.words (set s.views id (after_claim b c node_key v)) plan.last_card)
+        (seated kept.words (set s.views id (after_claim b c node v)) plan.last_card)
     wins : (d : ℕ) → wins_of (kept.stages d) ≡ wins_of (r.stages d) ++ act_wins (if b then Some act.Claim else None) v.worker.card Moved d
     still : (if b then Some act.Claim else None) ≡ None → kept.stages ≡ r.stages
 
-  claim_at : (c : ℕ) (node_key : NewNode) → MayClaim (flat_from plan) v c node_key → c ≤ plan.last_card → (b : Bool) → (get_or s.words 0 0 == c) ≡ b → ClaimAt c node_key b
-  claim_at c node_key may room true e =
-      let reached = claims c node_key may room (sym (eqb-true (get_or s.words 0 0) c e) ∙ r.next) in record {
+  claim_at : (c : ℕ) (node : NewNode) → MayClaim (flat_from plan) v c node → c ≤ plan.last_card → (b : Bool) → (get_or s.words 0 0 == c) ≡ b → ClaimAt c node b
+  claim_at c node may room true e =
+      let reached = claims c node may room (sym (eqb-true (get_or s.words 0 0) c e) ∙ r.next) in record {
         kept = reached.kept.kept;
         later = reached.kept.later;
-        event = subst (λ w. Becomes id (Some act.Claim) Moved (machine plan s r id v here) (seated w (set s.views id (after_claim true c node_key v)) plan.last_card))
+        event = subst (λ w. Becomes id (Some act.Claim) Moved (machine plan s r id v here) (seated w (set s.views id (after_claim true c node v)) plan.last_card))
             (sym reached.kept.words) reached.steps;
         wins = reached.kept.wins;
         still = λ none. absurd (some_not_none refl none);
       }
-  claim_at c node_key may room false e =
+  claim_at c node may room false e =
       let h = r.views id v here in
-      let kept = kept_told plan s r id v here (after_claim false c node_key v) refl (record { entries = h.entries; here = h.here; hand = h.hand; read = h.read; least = (let low = h.read c may.read in let is = r.next in let other : get_or s.words 0 0 ≢ c = (λ q. true≢false (sym (eq-eqb (get_or s.words 0 0) c q) ∙ e)) in omega arith); knew = h.knew; walk = h.walk }) 0 in record {
+      let kept = kept_told plan s r id v here (after_claim false c node v) refl (record { entries = h.entries; here = h.here; hand = h.hand; read = h.read; least = (let low = h.read c may.read in let is = r.next in let other : get_or s.words 0 0 ≢ c = (λ q. true≢false (sym (eq-eqb (get_or s.words 0 0) c q) ∙ e)) in omega arith); knew = h.knew; walk = h.walk }) 0 in record {
         kept = kept.kept.kept;
         later = kept.kept.later;
-        event = sym (same_machine plan s r id v here (after_claim false c node_key v) refl
-            ∙ ap (λ w. seated w (set s.views id (after_claim false c node_key v)) plan.last_card) (sym kept.kept.words));
+        event = sym (same_machine plan s r id v here (after_claim false c node v) refl
+            ∙ ap (λ w. seated w (set s.views id (after_claim false c node v)) plan.last_card) (sym kept.kept.words));
         wins = kept.kept.wins;
         still = λ none. kept.still;
       }
 
   -- claim
-  pub keeps_claim : (c : ℕ) (node_key : NewNode) → MayClaim (flat_from plan) v c node_key → c ≤ plan.last_card → IsEvent plan s r id v (call.Claim c node_key)
-  keeps_claim c node_key may room =
-      let h = claim_at c node_key may room (get_or s.words 0 0 == c) refl in record { kept = h.kept; later = h.later; event = h.event; wins = h.wins; still = h.still; tells = tt }
+  pub keeps_claim : (c : ℕ) (node : NewNode) → MayClaim (flat_from plan) v c node → c ≤ plan.last_card → IsEvent plan s r id v (call.Claim c node)
+  keeps_claim c node may room =
+      let h = claim_at c node may room (get_or s.words 0 0 == c) refl in record { kept = h.kept; later = h.later; event = h.event; wins = h.wins; still = h.still; tells = tt }

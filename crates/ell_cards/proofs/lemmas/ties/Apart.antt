@@ -4,7 +4,7 @@ use Rattle.std.proofs.lemmas.Bool.{cases_eq}
 use Rattle.std.proofs.lemmas.Bool.Decides.{nat_tests}
 use mathlib.Core.Option.{some}
 use lib.ListN.{get_elem?}
-use Rattle.ell_word.specs.Node.{card, greatest_card}
+use Rattle.ell_word.specs.Node.{card, greatest_card, turn_size}
 use Rattle.ell_layout.specs.Words.{has_block}
 use Rattle.ell_core.specs.history.Stages.{Born}
 use Rattle.ell_cards.specs.declared.call.Call.TheVariants as call
@@ -16,7 +16,7 @@ use Rattle.ell_cards.specs.Apart.{cut_node, IsApart}
 use Rattle.ell_cards.specs.Machines.{HasMachine}
 use Rattle.ell_cards.specs.Models.{TablePlan, IsTold, flat_from}
 use Rattle.ell_cards.specs.Periods.{WholeState}
-use Rattle.ell_cards.specs.SlotWords.{has_slot_in, slot_of, turn_of}
+use Rattle.ell_cards.specs.SlotWords.{has_slot_in, slot_of, turn_of, turns_told_apart}
 use Rattle.ell_cards.specs.Starts.{IsReached, MayStart, SlotsFit}
 use Rattle.ell_cards.specs.States.{TableState}
 use Rattle.ell_cards.specs.Tied.{HasWon, IsTied, LiesThere}
@@ -49,7 +49,7 @@ few_uncut x few = omega arith
 first_uncut : (x : ℕ) → turn_of (card x) ≡ 0 → cut_node x ≡ x
 first_uncut x first = omega arith
 
-later_cut : (x : ℕ) → turn_of (card x) % 1024 ≢ 0 → 67108864 ≤ card (cut_node x)
+later_cut : (x : ℕ) → turn_of (card x) % turns_told_apart ≢ 0 → turn_size ≤ card (cut_node x)
 later_cut x later = omega arith
 
 same_low : (x : ℕ) → cut_node x % 4 ≡ x % 4
@@ -58,9 +58,9 @@ same_low x = omega arith
 both_past : (from a b : ℕ) → from ≤ a → from ≤ b → nat_le from a ≡ nat_le from b
 both_past from a b low low' = grind (arith, nat_tests)
 
-block_told : (last from x : ℕ) → last < 67108864 → from ≤ last + 1 → has_slot_in last (card x) ≡ true → has_block from (cut_node x) ≡ has_block from x
+block_told : (last from x : ℕ) → last < turn_size → from ≤ last + 1 → has_slot_in last (card x) ≡ true → has_block from (cut_node x) ≡ has_block from x
 unfolding has_block
-block_told last from x low most has = elim (cases_eq (turn_of (card x) % 1024) 0) [
+block_told last from x low most has = elim (cases_eq (turn_of (card x) % turns_told_apart) 0) [
   | inl first ↦ ap (has_block from) (first_uncut x (turn_apart last (card x) has first))
   | inr later ↦
       let cut = later_cut x later in

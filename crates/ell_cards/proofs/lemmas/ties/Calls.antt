@@ -1,6 +1,7 @@
 -- Memory is tied to its tree after a step call, if it was before.
 use Rattle.std.proofs.Common.{◌≡◌, ◌≢◌, ◌⊎◌, ℕ, ◌+◌, ◌^◌, ◌<◌, ◌≤◌, ◌==◌, if◌then◌else◌, inl, inr, Bool, true, false, Some, None, List, [], ◌∷◌, length, get_or, set, refl, sym, ap, ◌∙◌, subst, ⊎_elim, arith, eqb-true, true≢false, get_or-set_same, get_or-set_other}
 use Rattle.std.proofs.lemmas.Bool.{cases_eq}
+use Rattle.ell_word.specs.Node.{turn_size}
 use mathlib.Core.Option.{some}
 use mathlib.Core.Option.{Option as Maybe}
 use lib.ListN.{get_elem?}
@@ -138,7 +139,7 @@ left_rises _ n is = absurd (omega arith)
 read_there : (l : List ℕ) (i j n : ℕ) → j ≡ i → i < length l → get_or (set l i n) j 0 ≡ n
 read_there l i j n same fits = ap (λ x. get_or (set l i n) x 0) same ∙ get_or-set_same l i n 0 fits
 
-module _ (plan : TablePlan) (s : Slots) (low : s.last < 67108864) (tree : TableState) (t : WholeState) (stage next : Stages) (lie : ℕ → ℕ) (dead : ℕ → Bool) (was_dead : ℕ → ℕ → Bool)
+module _ (plan : TablePlan) (s : Slots) (low : s.last < turn_size) (tree : TableState) (t : WholeState) (stage next : Stages) (lie : ℕ → ℕ) (dead : ℕ → Bool) (was_dead : ℕ → ℕ → Bool)
     (tied : IsTied s tree t stage lie dead was_dead) (id : ℕ) (k : Known) (here : get_elem? t.views id ≡ some k) (c : Call) (may : May plan c k.tree) (mem : MayInMemory s k.period.slot k.period.sought.retired k.tree c)
     (touch : TouchesTied s lie t.words tree c) (room : table_size s.last ≤ length t.words) (fits : word_of c < length tree.words)
     (small : get_or (set tree.words (word_of c) (left_by (atomic_of c) (found_by tree c))) 0 0 < 2 ^ 64)

@@ -1,5 +1,6 @@
 -- Splits and joins keep memory tied to its tree.
 use Rattle.std.proofs.Common.{◌≡◌, ◌≢◌, ℕ, ◌<◌, Bool, Some, List, [], ◌∷◌, ◌++◌, set, inl, inr, refl, ap, ◌∙◌, subst, ⊎_elim}
+use Rattle.ell_word.specs.Node.{turn_size}
 use mathlib.Core.Option.{some}
 use lib.ListN.{get_elem?}
 use Rattle.atomic_table.proofs.Lists.{at_set}
@@ -27,7 +28,7 @@ pub record TiesOn (plan : TablePlan) (s : Slots) (tree : TableState) (t : WholeS
   pub on : AgesOn plan s tree t lie dead was_dead h.ages turn tree' t'
   pub tied : IsTied s tree' t' on.ages.now.machine.stages lie dead was_dead
 
-pub split_goes : (plan : TablePlan) (s : Slots) (tree : TableState) (t : WholeState) (lie : ℕ → ℕ) (dead : ℕ → Bool) (was_dead : ℕ → ℕ → Bool) → s.last < 67108864
+pub split_goes : (plan : TablePlan) (s : Slots) (tree : TableState) (t : WholeState) (lie : ℕ → ℕ) (dead : ℕ → Bool) (was_dead : ℕ → ℕ → Bool) → s.last < turn_size
     → (h : IsTiedByAges plan s tree t lie dead was_dead) (id : ℕ) (k : Known) → get_elem? t.views id ≡ some k → get_elem? tree.views id ≡ some k.tree
     → (keys : List ℕ) → IsFree k.tree → MayPart k.tree
     → TiesOn plan s tree t lie dead was_dead h (Splits id keys) (state_split tree id k.tree keys)
@@ -66,7 +67,7 @@ pub splits_keep_ties : SplitsKeepTies
 splits_keep_ties plan s tree t lie dead was_dead low h id k here there keys free may =
     let it = split_goes plan s tree t lie dead was_dead low h id k here there keys free may in record { ages = it.on.ages; tied = it.tied }
 
-pub join_goes : (plan : TablePlan) (s : Slots) (tree : TableState) (t : WholeState) (lie : ℕ → ℕ) (dead : ℕ → Bool) (was_dead : ℕ → ℕ → Bool) → s.last < 67108864
+pub join_goes : (plan : TablePlan) (s : Slots) (tree : TableState) (t : WholeState) (lie : ℕ → ℕ) (dead : ℕ → Bool) (was_dead : ℕ → ℕ → Bool) → s.last < turn_size
     → (h : IsTiedByAges plan s tree t lie dead was_dead) (id other : ℕ) (k l : Known) → get_elem? t.views id ≡ some k → get_elem? t.views other ≡ some l
     → get_elem? tree.views id ≡ some k.tree → get_elem? tree.views other ≡ some l.tree → id ≢ other → IsFree k.tree → IsFree l.tree
     → TiesOn plan s tree t lie dead was_dead h (Joins id other) (state_joined tree id other k.tree l.tree)

@@ -1,5 +1,6 @@
 -- A step call keeps memory tied to its tree.
 use Rattle.std.proofs.Common.{◌⊎◌, ℕ, Bool, List, set, inl, inr, refl, ◌≡◌, ◌<◌, ◌≤◌, length}
+use Rattle.ell_word.specs.Node.{turn_size}
 use mathlib.Core.Option.{Option as Maybe, some}
 use Rattle.ell_cards.specs.declared.view.Known.{Known}
 use Rattle.ell_cards.specs.declared.view.Slots.{Slots}
@@ -34,7 +35,7 @@ ready_by plan s tree t lie dead was_dead h id k (inr p) = elim (h.since id p.pla
 ]
 
 -- what a call does to memory: it touches a word that is tied, and memory is tied after it, by the ages after the call
-module _ (plan : TablePlan) (s : Slots) (tree : TableState) (t : WholeState) (lie : ℕ → ℕ) (dead : ℕ → Bool) (was_dead : ℕ → ℕ → Bool) (reached : IsReached plan tree) (low : s.last < 67108864)
+module _ (plan : TablePlan) (s : Slots) (tree : TableState) (t : WholeState) (lie : ℕ → ℕ) (dead : ℕ → Bool) (was_dead : ℕ → ℕ → Bool) (reached : IsReached plan tree) (low : s.last < turn_size)
     (room : table_size s.last ≤ length t.words) (h : IsTiedByAges plan s tree t lie dead was_dead) (id : ℕ) (k : Known) (here : get_elem? t.views id ≡ some k)
     (there : get_elem? tree.views id ≡ some k.tree) (ready : IsAtRest k.tree ⊎ IsInPeriod t id k) (c : Call) (may : May plan c k.tree) (mem : MayInMemory s k.period.slot k.period.sought.retired k.tree c) where
   abbrev after : TableState

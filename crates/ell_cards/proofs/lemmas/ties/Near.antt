@@ -3,6 +3,7 @@
 use Rattle.std.proofs.Common.{◌≡◌, ◌⊎◌, ℕ, ◌+◌, ◌<◌, ◌≤◌, Bool, true, false, List, [], ◌∷◌, ◌++◌, get_or, length, inl, inr, refl, sym, ap, ◌∙◌, subst, arith}
 use Rattle.std.proofs.lemmas.List.Elements.{All-head, All-tail}
 use Rattle.std.specs.List.{All, AllByRecursion}
+use Rattle.ell_word.specs.Node.{greatest_card}
 use mathlib.Core.Option.{some}
 use lib.ListN.{get_elem?}
 use Rattle.ell_word.specs.Link.{link_in, node_bound, greatest_tag}
@@ -134,7 +135,7 @@ module _ (plan : TablePlan) (tree : TableState) (seat : ℕ) (dead : ℕ → Boo
 
 -- in a period
 module _ (plan : TablePlan) (s : Slots) (tree : TableState) (t : WholeState) (lie : ℕ → ℕ) (dead : ℕ → Bool) (was_dead : ℕ → ℕ → Bool)
-    (tied : IsTiedByAges plan s tree t lie dead was_dead) (low : s.last ≤ 67108861) (id : ℕ) (k : Known) (here : get_elem? t.views id ≡ some k)
+    (tied : IsTiedByAges plan s tree t lie dead was_dead) (low : s.last ≤ greatest_card) (id : ℕ) (k : Known) (here : get_elem? t.views id ≡ some k)
     (there : get_elem? tree.views id ≡ some k.tree) (period : IsInPeriod t id k) (h : ForgotWhen plan tree id (was_dead period.place)) where
   -- the state where the pass forgot, and what has come since
   abbrev start : (r : HasMachine plan h.from) × HasTags (machine_of_table plan h.from r)

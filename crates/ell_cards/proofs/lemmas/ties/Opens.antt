@@ -1,7 +1,7 @@
 -- The memory of a table with places is tied to its tree as it opens.
 use Rattle.std.proofs.Common.{◌≡◌, ◌≢◌, ◌+◌, ◌*◌, ◌-◌, ◌%◌, ◌^◌, ◌<◌, ◌≤◌, ℕ, zero, suc, if◌then◌else◌, nat_lt, Bool, true, false, Some, None, List, [], ◌∷◌, ◌++◌, replicate, length, get_or, inl, inr, refl, sym, ap, ◌∙◌, subst, arith, ltb-false}
 use Rattle.std.proofs.lemmas.List.{length-append}
-use Rattle.ell_word.specs.Node.{card}
+use Rattle.ell_word.specs.Node.{card, turn_size}
 use mathlib.Core.Option.{some, some-injective, some-ne-none}
 use lib.ListN.{get_elem?}
 use Rattle.atomic_table.specs.Table.{opening}
@@ -82,7 +82,7 @@ alone_there first P h zero u at = subst P (some-injective first u at) h
 alone_there first P h (suc j) u at = absurd (some-ne-none u (sym at))
 
 -- memory that has the tree's words in slots, whose words are 0, where each card that was claimed has a slot
-module _ (plan : TablePlan) (s : Slots) (low : s.last < 67108864) (tree : TableState) (r : HasMachine plan tree) (words : List ℕ)
+module _ (plan : TablePlan) (s : Slots) (low : s.last < turn_size) (tree : TableState) (r : HasMachine plan tree) (words : List ℕ)
     (same : (i : ℕ) → i < table_size s.last → get_or words i 0 ≡ get_or tree.words i 0) (small : (i : ℕ) → i < table_size s.last → get_or words i 0 < 2 ^ 64)
     (given : ℕ) (few : get_or tree.words 0 0 ≡ given + 1) (room : given ≤ s.last) (none_said : (c : ℕ) (f : Field) → NoInfo f (get_or tree.words (address c f) 0))
     (first : Known) (none : first.tree.worker.card ≡ None) (unslotted : first.period.slot ≡ None) (dead : ℕ → Bool) (was_dead : ℕ → ℕ → Bool) where
@@ -132,7 +132,7 @@ module _ (plan : TablePlan) (s : Slots) (low : s.last < 67108864) (tree : TableS
   }
 
 -- so it is as a table opens with these words of cards
-module _ (plan : TablePlan) (s : Slots) (cards all : List ℕ) (may : MayStart plan) (fit : SlotsFit plan (Some s)) (flat : plan.flat ≡ true) (size : length cards ≡ table_size s.last)
+module _ (plan : TablePlan) (s : Slots) (cards all : List ℕ) (may : MayStart plan) (fit : SlotsFit plan (Some s)) (size : length cards ≡ table_size s.last)
     (are : words_of cards ≡ words_at_start plan.flat plan.start) (small : (i : ℕ) → IsWord (get_or cards i 0)) (h : AreOpeningWords s (length plan.start) cards all) where
   abbrev long : ℕ
   long = table_size plan.last_card - length cards
@@ -186,7 +186,7 @@ module _ (plan : TablePlan) (s : Slots) (cards all : List ℕ) (may : MayStart p
         (length plan.start) next fit.3
         (no_info plan.flat plan.start (cards ++ replicate long 0) (words_same (cards ++ replicate long 0) cards (with_zeros cards long) ∙ are))
         (record { tree = first_of plan; period = period_by (Some s) }) refl refl out_opened (λ q x. false);
-    flat = flat;
+    flat = fit.5;
     retired = λ seat c u at slot hand. absurd (some_not_none hand (alone_there (record { tree = first_of plan; period = period_by (Some s) }) (λ (x : Known). x.tree.worker.card ≡ None) refl seat u at));
   }
 
@@ -227,14 +227,13 @@ module _ (plan : TablePlan) (s : Slots) (cards all : List ℕ) (may : MayStart p
 pub openings_are_tied : OpeningsAreTied
 openings_are_tied plan s cards all placed may size are small h =
     let fit = subst (SlotsFit plan) placed may.slots in
-    let flat = may.flat (λ none. some_not_none placed none) in
-    let has = periods_opened plan s cards all may fit flat size are small h in record {
-      tree = tree_opened plan s cards all may fit flat size are small h;
-      reached = reached_opened plan s cards all may fit flat size are small h;
+    let has = periods_opened plan s cards all may fit size are small h in record {
+      tree = tree_opened plan s cards all may fit size are small h;
+      reached = reached_opened plan s cards all may fit size are small h;
       views = refl;
       lie = has.lie;
       dead = has.dead;
       was_dead = has.was_dead;
-      tied = subst (λ o. IsTiedByAges plan s (tree_opened plan s cards all may fit flat size are small h) (opening all [] (record { tree = first_of plan; period = period_by o })) has.lie has.dead has.was_dead)
+      tied = subst (λ o. IsTiedByAges plan s (tree_opened plan s cards all may fit size are small h) (opening all [] (record { tree = first_of plan; period = period_by o })) has.lie has.dead has.was_dead)
           (sym placed) (record { ages = has.ages; tied = has.tied });
     }

@@ -1,7 +1,8 @@
 -- Memory stays tied to its tree where a pass takes a slot for its card in hand, in which a card lies that is dead, and was dead for each
 -- pass that is in a period.
-use Rattle.std.proofs.Common.{◌≡◌, ◌≢◌, ◌*◌, ◌<◌, ◌≤◌, ℕ, inl, inr, Bool, true, false, Some, List, length, get_or, set, sym, ap, ◌∙◌, subst, ⊎_elim, arith, true≢false, get_or-set_other}
+use Rattle.std.proofs.Common.{◌≡◌, ◌≢◌, ◌<◌, ◌≤◌, ℕ, inl, inr, Bool, true, false, Some, List, length, get_or, set, sym, ap, ◌∙◌, subst, ⊎_elim, arith, true≢false, get_or-set_other}
 use Rattle.std.proofs.lemmas.Bool.{cases_eq}
+use Rattle.ell_word.specs.Node.{turn_size}
 use mathlib.Core.Option.{some, some-injective}
 use mathlib.Core.Option.{Option as Maybe}
 use lib.ListN.{get_elem?}
@@ -26,7 +27,7 @@ use Rattle.ell_cards.proofs.lemmas.runs.Met.{some_same}
 use Rattle.ell_cards.proofs.lemmas.whole.Seats.{before_clock, clock_before_slots}
 use Rattle.ell_cards.proofs.lemmas.ties.Periods.{kept_of_period}
 
-module _ (s : Slots) (low : s.last < 67108864) (tree : TableState) (t : WholeState) (stage : Stages) (lie : ℕ → ℕ) (dead : ℕ → Bool) (was_dead : ℕ → ℕ → Bool)
+module _ (s : Slots) (low : s.last < turn_size) (tree : TableState) (t : WholeState) (stage : Stages) (lie : ℕ → ℕ) (dead : ℕ → Bool) (was_dead : ℕ → ℕ → Bool)
     (tied : IsTied s tree t stage lie dead was_dead) (id : ℕ) (k : Known) (here : get_elem? t.views id ≡ some k)
     (c : ℕ) (inside : slot_of c ≤ s.last) (numbered : has_slot_in s.last c ≡ true) (waits : HoldsWaiting k.tree c) (unwon : ¬ HasWon stage c) (claimed : c < get_or t.words 0 0)
     (p : Period) (place : p.place ≡ k.period.place) (announced : p.announced ≡ k.period.announced) (taken : p.slot ≡ Some c)

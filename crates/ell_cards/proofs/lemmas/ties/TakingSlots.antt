@@ -3,7 +3,7 @@ use Rattle.std.proofs.Common.{◌≡◌, ◌+◌, ◌*◌, ◌%◌, ◌<◌, ◌
 use Rattle.std.proofs.lemmas.Bool.{cases_eq, false≢true}
 use mathlib.Core.Option.{some}
 use lib.ListN.{get_elem?}
-use Rattle.ell_word.specs.Node.{card}
+use Rattle.ell_word.specs.Node.{card, turn_size}
 use Rattle.ell_core.proofs.lemmas.following.waiting.Cards.{hand_waits, one_hand}
 use Rattle.ell_core.proofs.lemmas.outcomes.Decide.{some_not_none}
 use Rattle.ell_core.proofs.lemmas.stages.Waiting.{waits-claimed}
@@ -147,7 +147,7 @@ pub record TakenOn (plan : TablePlan) (s : Slots) (tree : TableState) (t : Whole
       → NothingLeaks s (memory_taken s t id k c) tree.views ages.now.machine.words ages.now.machine.stages (put lie (slot_of c) c)
 
 pub take_goes : (plan : TablePlan) (s : Slots) (tree : TableState) (t : WholeState) (lie : ℕ → ℕ) (dead : ℕ → Bool) (was_dead : ℕ → ℕ → Bool)
-    → s.last < 67108864 → length t.words ≡ slots_size s
+    → s.last < turn_size → length t.words ≡ slots_size s
     → (h : IsTiedByAges plan s tree t lie dead was_dead) → trees_of t.views ≡ tree.views
     → (id : ℕ) (k : Known) → get_elem? t.views id ≡ some k → (c : ℕ) → HoldsWaiting k.tree c → has_slot_in s.last c ≡ true
     → dead (lie (slot_of c)) ≡ true

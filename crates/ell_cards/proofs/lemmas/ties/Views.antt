@@ -1,5 +1,6 @@
 -- Memory stays tied to its tree where passes come to know something else, while the words of slots are as they were.
 use Rattle.std.proofs.Common.{◌≡◌, ◌<◌, ◌≤◌, ℕ, Bool, false, Some, None, true, List, get_or, sym, ap, ◌∙◌, subst, arith}
+use Rattle.ell_word.specs.Node.{turn_size}
 use mathlib.Core.Option.{some}
 use mathlib.Core.Option.{Option as Maybe}
 use lib.ListN.{get_elem?}
@@ -29,7 +30,7 @@ pub data StaysSo (views : List Known) (seat : ℕ) (u : Known) : Type 0 where
       → u.period.announced ≡ k.period.announced → u.period.slot ≡ k.period.slot → StaysSo views seat u
   blank : u.tree.worker.card ≡ None → u.period.announced ≡ None → u.period.slot ≡ None → StaysSo views seat u
 
-module _ (s : Slots) (low : s.last < 67108864) (tree tree' : TableState) (t : WholeState) (stage next : Stages) (lie : ℕ → ℕ) (dead : ℕ → Bool) (was_dead : ℕ → ℕ → Bool)
+module _ (s : Slots) (low : s.last < turn_size) (tree tree' : TableState) (t : WholeState) (stage next : Stages) (lie : ℕ → ℕ) (dead : ℕ → Bool) (was_dead : ℕ → ℕ → Bool)
     (tied : IsTied s tree t stage lie dead was_dead) (cards : tree'.words ≡ tree.words) (words : List ℕ)
     (slots : (i : ℕ) → i < table_size s.last → get_or words i 0 ≡ get_or t.words i 0)
     (wins : (c : ℕ) → HasWon next c → HasWon stage c)

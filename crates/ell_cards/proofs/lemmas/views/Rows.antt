@@ -31,9 +31,9 @@ use Rattle.ell_cards.specs.Stepping.{SameShare}
 use Rattle.ell_cards.proofs.lemmas.views.Entries.{filling_more}
 
 -- what was told before a claim is told after it
-pub told_on : (c : ℕ) (node_key : NewNode) (v : View) (e : Told) → IsTold v e → IsTold (after_one c node_key v) e
-told_on c node_key v e h =
-    earlier e (Expects c (expected_tag v)) (told_filling c (filling_of c node_key v) v.told) (filling_more c (filling_of c node_key v) v.told e h)
+pub told_on : (c : ℕ) (node : NewNode) (v : View) (e : Told) → IsTold v e → IsTold (after_one c node v) e
+told_on c node v e h =
+    earlier e (Expects c (expected_tag v)) (told_filling c (filling_of c node v) v.told) (filling_more c (filling_of c node v) v.told e h)
 
 -- so are the values of leaves
 value_on : (c : ℕ) (es : List (Field × ℕ)) (told : List Told) (x : ℕ) → told_value (told_filling c es told) x ≡ told_value told x
@@ -45,14 +45,14 @@ value_on c (e ∷ es) told x = by (is_fixed e.0) (value_on c es told x)
     by true rest = rest
     by false rest = rest
 
-values_on : (c : ℕ) (node_key : NewNode) (v : View) → value_told (after_one c node_key v).told ≡ value_told v.told
-values_on c node_key v = λ t x. if x % 4 == 0 then 0 else value_on c (filling_of c node_key v) v.told x t
+values_on : (c : ℕ) (node : NewNode) (v : View) → value_told (after_one c node v).told ≡ value_told v.told
+values_on c node v = λ t x. if x % 4 == 0 then 0 else value_on c (filling_of c node v) v.told x t
 
 -- so what fills a card after a claim fills it before that
-filling_on : (c d : ℕ) (node_key : NewNode) (v : View) → filling_of d node_key (after_one c node_key v) ≡ filling_of d node_key v
-filling_on c d node_key v =
-    ap (filling_for d node_key v.worker.operation v.worker.search.node v.worker.search.parent v.worker.search.grandparent
-    (unwrap_or v.here 0)) (values_on c node_key v)
+filling_on : (c d : ℕ) (node : NewNode) (v : View) → filling_of d node (after_one c node v) ≡ filling_of d node v
+filling_on c d node v =
+    ap (filling_for d node v.worker.operation v.worker.search.node v.worker.search.parent v.worker.search.grandparent
+    (unwrap_or v.here 0)) (values_on c node v)
 
 -- what is told of what fills a card
 filling_has : (c : ℕ) (es : List (Field × ℕ)) (told : List Told) (e : Told) → Has (told_filling c es []) e → Has (told_filling c es told) e
@@ -97,8 +97,8 @@ claim_only c tag es told e (earlier _ _ _ h) = elim (filling_only c es told e h)
 ]
 
 -- what a pass knows after a row of claims
-pub rows_keep : (n c : ℕ) (node_key : NewNode) (v : View) → IsAfterRow c (c + n) node_key v (cut_planned (after_row n c node_key v))
-rows_keep zero c node_key v = subst (λ m. IsAfterRow c m node_key v (cut_planned (after_row zero c node_key v))) (omega arith) (record {
+pub rows_keep : (n c : ℕ) (node : NewNode) (v : View) → IsAfterRow c (c + n) node v (cut_planned (after_row n c node v))
+rows_keep zero c node v = subst (λ m. IsAfterRow c m node v (cut_planned (after_row zero c node v))) (omega arith) (record {
   operation = refl;
   search = refl;
   knows = refl;
@@ -125,19 +125,19 @@ rows_keep zero c node_key v = subst (λ m. IsAfterRow c m node_key v (cut_planne
   won = λ w h. earlier w (exchange.Claim, c) v.won h;
   claimed = λ d low most. subst (λ x. Has ((exchange.Claim, c) ∷ v.won) (exchange.Claim, x)) (omega arith) (latest (exchange.Claim, c) v.won);
   made = omega arith;
-  told = told_on c node_key v;
-  values = values_on c node_key v;
-  says = claim_says c (expected_tag v) (filling_of c node_key v) v.told;
-  only = λ e h. elim (claim_only c (expected_tag v) (filling_of c node_key v) v.told e h) [
+  told = told_on c node v;
+  values = values_on c node v;
+  says = claim_says c (expected_tag v) (filling_of c node v) v.told;
+  only = λ e h. elim (claim_only c (expected_tag v) (filling_of c node v) v.told e h) [
     | inl old ↦ inl old
     | inr new ↦ inr (record { card = c; from = omega arith; upto = omega arith; among = new })
   ];
 })
-rows_keep (suc n) c node_key v =
-    let h = rows_keep n (c + 1) node_key (after_one c node_key v) in
-    let same : (d : ℕ) → told_of_claim d node_key (after_one c node_key v) ≡ told_of_claim d node_key v =
-    λ d. ap (λ es. Expects d (expected_tag v) ∷ told_filling d es []) (filling_on c d node_key v) in
-    subst (λ m. IsAfterRow c m node_key v (cut_planned (after_row (suc n) c node_key v))) (omega arith) (record {
+rows_keep (suc n) c node v =
+    let h = rows_keep n (c + 1) node (after_one c node v) in
+    let same : (d : ℕ) → told_of_claim d node (after_one c node v) ≡ told_of_claim d node v =
+    λ d. ap (λ es. Expects d (expected_tag v) ∷ told_filling d es []) (filling_on c d node v) in
+    subst (λ m. IsAfterRow c m node v (cut_planned (after_row (suc n) c node v))) (omega arith) (record {
       operation = h.operation;
       search = h.search;
       knows = h.knows;
@@ -145,7 +145,7 @@ rows_keep (suc n) c node_key v =
       shared = h.shared;
       card = h.card;
       unflagged = h.unflagged;
-      planned = h.planned ∙ ap (λ es. shown_words (tagged (expected_tag v) es)) (filling_on c (c + 1 + n) node_key v);
+      planned = h.planned ∙ ap (λ es. shown_words (tagged (expected_tag v) es)) (filling_on c (c + 1 + n) node v);
       stores = h.stores;
       here = h.here;
       next = λ at. h.next refl;
@@ -163,16 +163,16 @@ rows_keep (suc n) c node_key v =
       met = h.met;
       won = λ w has. h.won w (earlier w (exchange.Claim, c) v.won has);
       claimed = λ d low most. elim (cases_eq d c) [
-        | inl e ↦ subst (λ x. Has (after_row n (c + 1) node_key (after_one c node_key v)).won (exchange.Claim, x)) (sym e)
+        | inl e ↦ subst (λ x. Has (after_row n (c + 1) node (after_one c node v)).won (exchange.Claim, x)) (sym e)
             (h.won (exchange.Claim, c) (latest (exchange.Claim, c) v.won))
         | inr other ↦ h.claimed d (omega arith) most
       ];
       made = let more = h.made in omega arith;
-      told = λ e was. h.told e (told_on c node_key v e was);
-      values = h.values ∙ values_on c node_key v;
+      told = λ e was. h.told e (told_on c node v e was);
+      values = h.values ∙ values_on c node v;
       says = λ e has. h.says e (subst (λ es. Has es e) (sym (same (c + 1 + n))) has);
       only = λ e has. elim (h.only e has) [
-        | inl old ↦ elim (claim_only c (expected_tag v) (filling_of c node_key v) v.told e old) [
+        | inl old ↦ elim (claim_only c (expected_tag v) (filling_of c node v) v.told e old) [
           | inl older ↦ inl older
           | inr new ↦ inr (record { card = c; from = omega arith; upto = omega arith; among = new })
         ]
@@ -186,11 +186,11 @@ rows_keep (suc n) c node_key v =
     })
 
 -- it has the keys and the share that it had
-pub row_keys : (n c : ℕ) (node_key : NewNode) (v : View) → ledger_keys (after_row n c node_key v).worker.ledger ≡ ledger_keys v.worker.ledger
-row_keys n c node_key v = ap ledger_keys (rows_keep n c node_key v).ledger
+pub row_keys : (n c : ℕ) (node : NewNode) (v : View) → ledger_keys (after_row n c node v).worker.ledger ≡ ledger_keys v.worker.ledger
+row_keys n c node v = ap ledger_keys (rows_keep n c node v).ledger
 
-pub row_share : (n c : ℕ) (node_key : NewNode) (v : View) → SameShare v (cut_planned (after_row n c node_key v))
-row_share n c node_key v = let h = rows_keep n c node_key v in record { share = h.share; ownable = h.shared }
+pub row_share : (n c : ℕ) (node : NewNode) (v : View) → SameShare v (cut_planned (after_row n c node v))
+row_share n c node v = let h = rows_keep n c node v in record { share = h.share; ownable = h.shared }
 
 -- a pass that was told what it was told before, and whose search stands where it stood, wants the same
 pub wants_same : (from : ℕ) (v w : View) → ((e : Told) → IsTold v e → IsTold w e) → w.worker.search ≡ v.worker.search
@@ -218,10 +218,10 @@ wants_same from v w more same (Delete k) parent x key node_key h = record {
 
 -- so in a flat tree, where it might claim the card from which it has claimed a row, it may claim the next one too, once it
 -- has read that: then the last one of the row is laid aside
-pub row_claims_on : (from : ℕ) → 0 < from → (n c : ℕ) (node_key : NewNode) (next : ℕ) (v : View) → next ≢ c + n → MayClaim from v c node_key
-    → MayClaim from (after call.Next next (after_row n c node_key v)) next node_key
-row_claims_on from flat n c node_key next v other m =
-    let h = rows_keep n c node_key v in
+pub row_claims_on : (from : ℕ) → 0 < from → (n c : ℕ) (node : NewNode) (next : ℕ) (v : View) → next ≢ c + n → MayClaim from v c node
+    → MayClaim from (after call.Next next (after_row n c node v)) next node
+row_claims_on from flat n c node next v other m =
+    let h = rows_keep n c node v in
     record {
       op = m.op;
       below = m.below;
@@ -235,13 +235,13 @@ row_claims_on from flat n c node_key next v other m =
       told = h.here ∙ m.told;
       behind = ap (λ (s : Search). s.parent) h.search ∙ m.behind;
       calm = m.calm;
-      wants = wants_same from v (after call.Next next (after_row n c node_key v)) h.told h.search m.op m.parent.node m.below m.key node_key.key m.wants;
+      wants = wants_same from v (after call.Next next (after_row n c node v)) h.told h.search m.op m.parent.node m.below m.key node.key m.wants;
       shape = m.shape;
     }
 
 -- so it is after one claim
-pub one_claims_on : (from : ℕ) → 0 < from → (c : ℕ) (node_key : NewNode) (v : View) → MayClaim from v c node_key → MayClaim from (after_one c node_key v) (c + 1) node_key
-one_claims_on from flat c node_key v m = row_claims_on from flat 0 c node_key (c + 1) v (λ e. omega arith) m
+pub one_claims_on : (from : ℕ) → 0 < from → (c : ℕ) (node : NewNode) (v : View) → MayClaim from v c node → MayClaim from (after_one c node v) (c + 1) node
+one_claims_on from flat c node v m = row_claims_on from flat 0 c node (c + 1) v (λ e. omega arith) m
 
 -- the nodes that fill a card are those where the search stands and stood
 abbrev Stood : Option ℕ → Option Seen → Option Seen → Field → ℕ → Type 0
@@ -255,15 +255,15 @@ abbrev AllStood : Option ℕ → Option Seen → Option Seen → List (Field × 
 AllStood below parent above [] = Unit {0}
 AllStood below parent above (e ∷ es) = Stood below parent above e.0 e.1 × AllStood below parent above es
 
-filling_stood : (c : ℕ) (node_key : NewNode) (op : Option Op) (node : Option ℕ) (parent above : Option Seen) (key : ℕ) (value_of : ℕ → ℕ)
-    → AllStood node parent above (filling_for c node_key op node parent above key value_of)
-filling_stood c node_key (Some (Insert k value)) (Some below) (Some parent) above key value_of =
+filling_stood : (c : ℕ) (node : NewNode) (op : Option Op) (lower : Option ℕ) (parent above : Option Seen) (key : ℕ) (value_of : ℕ → ℕ)
+    → AllStood lower parent above (filling_for c node op lower parent above key value_of)
+filling_stood c node (Some (Insert k value)) (Some below) (Some parent) above key value_of =
     ((below, parent, refl, refl, refl), (refl, (tt, (tt, (tt, (tt, (tt, (tt, (tt, (tt, tt))))))))))
-filling_stood c node_key (Some (Swap k was value)) (Some below) (Some parent) above key value_of =
+filling_stood c node (Some (Swap k was value)) (Some below) (Some parent) above key value_of =
     ((below, parent, refl, refl, refl), (refl, (tt, (tt, (tt, (tt, (tt, (tt, (tt, (tt, tt))))))))))
-filling_stood c node_key (Some (Delete k)) (Some leaf) (Some parent) (Some above) key value_of =
+filling_stood c node (Some (Delete k)) (Some leaf) (Some parent) (Some above) key value_of =
     ((leaf, parent, above, refl, refl, refl, refl), ((leaf, parent, refl, refl, refl), (refl, (tt, tt))))
-filling_stood c node_key _ _ _ _ key value_of = tt
+filling_stood c node _ _ _ _ key value_of = tt
 
 -- what is so of entries that tell such fields of a card is so of what is told of its filling
 stood_told : (Q : Told → Type 0) (c : ℕ) (node : Option ℕ) (parent above : Option Seen)
@@ -277,13 +277,13 @@ stood_told Q c below parent above each (d ∷ es) all e h = by (is_fixed d.0) e 
     by true e rest (earlier _ _ _ g) = rest g
     by false e rest g = rest g
 
-claim_told : (Q : Told → Type 0) (c : ℕ) (node_key : NewNode) (v : View) → Q (Expects c (expected_tag v))
+claim_told : (Q : Told → Type 0) (c : ℕ) (node : NewNode) (v : View) → Q (Expects c (expected_tag v))
     → ((f : Field) (x : ℕ) → Stood v.worker.search.node v.worker.search.parent v.worker.search.grandparent f x → Q (Info c f x))
-    → (e : Told) → Has (told_of_claim c node_key v) e → Q e
-claim_told Q c node_key v tag each e (latest _ _) = tag
-claim_told Q c node_key v tag each e (earlier _ _ _ h) =
-    stood_told Q c v.worker.search.node v.worker.search.parent v.worker.search.grandparent each (filling_of c node_key v)
-    (filling_stood c node_key v.worker.operation v.worker.search.node v.worker.search.parent v.worker.search.grandparent (unwrap_or v.here 0) (value_told v.told)) e h
+    → (e : Told) → Has (told_of_claim c node v) e → Q e
+claim_told Q c node v tag each e (latest _ _) = tag
+claim_told Q c node v tag each e (earlier _ _ _ h) =
+    stood_told Q c v.worker.search.node v.worker.search.parent v.worker.search.grandparent each (filling_of c node v)
+    (filling_stood c node v.worker.operation v.worker.search.node v.worker.search.parent v.worker.search.grandparent (unwrap_or v.here 0) (value_told v.told)) e h
 
 -- the tag that a card expects is one that its search has seen
 tag_seen : (last : ℕ) (op : Option Op) (parent above : Option Seen) → ((seen : Seen) → parent ≡ Some seen → seen.tag ≤ last)
@@ -302,9 +302,9 @@ tag_seen last (Some (Delete k)) (Some seen) None near far = near seen refl
 tag_seen last (Some (Delete k)) (Some seen) (Some top) near far = far top refl
 
 -- a pass that names what is in a table with this last card does after a row of claims up to that
-pub row_named : (from last n c : ℕ) (node_key : NewNode) (v : View) → MayClaim from v c node_key → c + n ≤ last → IsNamed last v
-    → IsNamed last (after_row n c node_key v)
-row_named from last n c node_key v may room h = record {
+pub row_named : (from last n c : ℕ) (node : NewNode) (v : View) → MayClaim from v c node → c + n ≤ last → IsNamed last v
+    → IsNamed last (after_row n c node v)
+row_named from last n c node v may room h = record {
   node = λ x at. h.node x (sym (ap (λ (s : Search). s.node) keeps.search) ∙ at);
   parent = λ x seen at behind. h.parent x seen (sym (ap (λ (s : Search). s.node) keeps.search) ∙ at) (sym (ap (λ (s : Search). s.parent) keeps.search) ∙ behind);
   grandparent = λ x seen top at behind up. h.grandparent x seen top (sym (ap (λ (s : Search). s.node) keeps.search) ∙ at)
@@ -313,7 +313,7 @@ row_named from last n c node_key v may room h = record {
   facts = λ f knows. h.facts f (subst (λ facts. known_of facts f ≡ true) keeps.knows knows);
   entries = λ e told. elim (keeps.only e told) [
     | inl old ↦ h.entries e old
-    | inr new ↦ claim_told (EntryIsNamed last) new.card node_key v (
+    | inr new ↦ claim_told (EntryIsNamed last) new.card node v (
       let low = new.upto in omega arith,
       tag_seen last v.worker.operation v.worker.search.parent v.worker.search.grandparent
           (λ seen is. (h.parent may.below seen may.stands is).tag) (λ top is. (h.grandparent may.below may.parent top may.stands may.behind is).tag),
@@ -323,8 +323,8 @@ row_named from last n c node_key v may room h = record {
   next = let same = keeps.least in omega arith;
 }
   where
-    keeps : IsAfterRow c (c + n) node_key v (cut_planned (after_row n c node_key v))
-    keeps = rows_keep n c node_key v
+    keeps : IsAfterRow c (c + n) node v (cut_planned (after_row n c node v))
+    keeps = rows_keep n c node v
 
     named : (d : ℕ) → d ≤ last → (f : Field) (x : ℕ) → Stood v.worker.search.node v.worker.search.parent v.worker.search.grandparent f x
         → EntryIsNamed last (Info d f x)
@@ -334,8 +334,8 @@ row_named from last n c node_key v may room h = record {
     named d low _ x at = (low, tt)
 
 -- and what it names lies in the slots in which it lay
-pub row_placed : (last n c : ℕ) (node_key : NewNode) (v : View) → IsPlaced last v → IsPlaced last (after_row n c node_key v)
-row_placed last n c node_key v h = record {
+pub row_placed : (last n c : ℕ) (node : NewNode) (v : View) → IsPlaced last v → IsPlaced last (after_row n c node v)
+row_placed last n c node v h = record {
   node = λ x at. h.node x (sym (ap (λ (s : Search). s.node) keeps.search) ∙ at);
   parent = λ x seen at behind. h.parent x seen (sym (ap (λ (s : Search). s.node) keeps.search) ∙ at) (sym (ap (λ (s : Search). s.parent) keeps.search) ∙ behind);
   grandparent = λ x seen top at behind up. h.grandparent x seen top (sym (ap (λ (s : Search). s.node) keeps.search) ∙ at)
@@ -343,17 +343,17 @@ row_placed last n c node_key v h = record {
   facts = λ d knows. h.facts d (known d knows);
   entries = λ e told. elim (keeps.only e told) [
     | inl old ↦ h.entries e old
-    | inr new ↦ claim_told (EntryIsPlaced last) new.card node_key v tt (placed new.card) e new.among
+    | inr new ↦ claim_told (EntryIsPlaced last) new.card node v tt (placed new.card) e new.among
   ];
 }
   where
-    keeps : IsAfterRow c (c + n) node_key v (cut_planned (after_row n c node_key v))
-    keeps = rows_keep n c node_key v
+    keeps : IsAfterRow c (c + n) node v (cut_planned (after_row n c node v))
+    keeps = rows_keep n c node v
 
-    fact : (f : Fact) → known_of (after_row n c node_key v).worker.knows f ≡ true → known_of v.worker.knows f ≡ true
+    fact : (f : Fact) → known_of (after_row n c node v).worker.knows f ≡ true → known_of v.worker.knows f ≡ true
     fact f knows = subst (λ facts. known_of facts f ≡ true) keeps.knows knows
 
-    known : (d : ℕ) → KnowsCard (after_row n c node_key v) d → KnowsCard v d
+    known : (d : ℕ) → KnowsCard (after_row n c node v) d → KnowsCard v d
     known d (inl k) = inl (fact (IFlagged d) k)
     known d (inr (inl k)) = inr (inl (fact (DFlagged d) k))
     known d (inr (inr k)) = inr (inr (fact (Marked d) k))

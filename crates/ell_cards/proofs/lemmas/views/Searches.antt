@@ -43,11 +43,11 @@ may_go_down a b op x u key k s same busy stands inner told no_card =
     })
 
 -- the claim word was read where a search ended, behind a parent that was read clean, and a claim may be made
-pub may_claim : (from : ℕ) (a b : PassModel) (op : Op) (c below key : ℕ) (node_key : NewNode) (parent : Seen) → Steps a b (after_next c a.view) → Does a.view op → a.view.worker.card ≢ Some c
+pub may_claim : (from : ℕ) (a b : PassModel) (op : Op) (c below key : ℕ) (node : NewNode) (parent : Seen) → Steps a b (after_next c a.view) → Does a.view op → a.view.worker.card ≢ Some c
     → MayTake from a.view.worker → StandsAt a.view below → a.view.here ≡ Some key → a.view.worker.search.parent ≡ Some parent → IsClean parent.word
-    → Wants from a.view op parent.node below key node_key.key → node_key.flat ≡ nat_lt 0 from → MayClaim from b.view c node_key
-may_claim from a b op c below key node_key parent s busy other ready stands told behind calm wants shape =
-    subst (λ (w : View). MayClaim from w c node_key) (sym (view_after a b (after_next c a.view) s)) (record {
+    → Wants from a.view op parent.node below key node.key → node.flat ≡ nat_lt 0 from → MayClaim from b.view c node
+may_claim from a b op c below key node parent s busy other ready stands told behind calm wants shape =
+    subst (λ (w : View). MayClaim from w c node) (sym (view_after a b (after_next c a.view) s)) (record {
       op = op;
       below = below;
       key = key;
@@ -64,15 +64,15 @@ may_claim from a b op c below key node_key parent s busy other ready stands told
       shape = shape;
     })
   where
-    by : (o : Op) → Wants from a.view o parent.node below key node_key.key → Wants from (after_next c a.view) o parent.node below key node_key.key
+    by : (o : Op) → Wants from a.view o parent.node below key node.key → Wants from (after_next c a.view) o parent.node below key node.key
     by (Find k) w = w
     by (Insert k value) w = record { leaf = w.leaf; edge = w.edge; fits = w.fits; named = w.named }
     by (Swap k was value) w = record { outer = w.outer; same = w.same; value = w.value; named = w.named }
     by (Delete k) w = record { outer = w.outer; same = w.same; above = w.above; grandparent = w.grandparent; calm = w.calm }
 
 -- what fills a card, by a search that ended at a node of this key
-pub filling_at : (v : View) (op : Op) (c : ℕ) (node_key : NewNode) (below key : ℕ) (parent : Seen) (above : Option Seen) → Does v op → StandsAt v below → v.here ≡ Some key
+pub filling_at : (v : View) (op : Op) (c : ℕ) (node : NewNode) (below key : ℕ) (parent : Seen) (above : Option Seen) → Does v op → StandsAt v below → v.here ≡ Some key
     → v.worker.search.parent ≡ Some parent → v.worker.search.grandparent ≡ above
-    → filling_of c node_key v ≡ filling_for c node_key (Some op) (Some below) (Some parent) above key (value_told v.told)
-filling_at v op c node_key below key parent above busy stands told behind grandparent =
-    λ t. filling_for c node_key (busy t) (stands t) (behind t) (grandparent t) (unwrap_or (told t) 0) (value_told v.told)
+    → filling_of c node v ≡ filling_for c node (Some op) (Some below) (Some parent) above key (value_told v.told)
+filling_at v op c node below key parent above busy stands told behind grandparent =
+    λ t. filling_for c node (busy t) (stands t) (behind t) (grandparent t) (unwrap_or (told t) 0) (value_told v.told)

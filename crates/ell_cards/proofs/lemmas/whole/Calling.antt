@@ -10,7 +10,7 @@ use Rattle.atomic_table.proofs.Lists.{at_set}
 use Rattle.ell_core.proofs.lemmas.outcomes.Decide.{some_not_none}
 use Rattle.ell_word.specs.Link.{linked, tag_unit}
 use Rattle.ell_word.specs.declared.link.Link.{Link}
-use Rattle.ell_word.specs.Node.{greatest_card, greatest_number}
+use Rattle.ell_word.specs.Node.{greatest_card, greatest_number, turn_size}
 use Rattle.ell_layout.specs.Layout.{address, table_size}
 use Rattle.ell_layout.specs.declared.field.Field.{Field}
 use Rattle.ell_layout.specs.declared.field.Field.TheVariants as field
@@ -247,7 +247,7 @@ module _ (plan : TablePlan) (s : WholeState) (h : IsWhole plan s) (id : ℕ) (k 
           by None none = inl ((has.periods.each id k here).rests none)
           by (Some a) says = by_place a says k.period.place refl
 
-      pub low_last : sl.last < 67108864
+      pub low_last : sl.last < turn_size
       low_last = let low = fit.4 in omega arith
 
       pub room : table_size sl.last ≤ length s.words

@@ -4,7 +4,7 @@ use Rattle.std.proofs.lemmas.Bool.{cases_eq, false≢true}
 use mathlib.Core.Option.{some}
 use lib.ListN.{get_elem?}
 use Rattle.ell_ops.specs.Meaning.{key_of}
-use Rattle.ell_word.specs.Node.{IsInternal, card, left_leaf, right_leaf}
+use Rattle.ell_word.specs.Node.{card, left_leaf, right_leaf}
 use Rattle.ell_layout.specs.declared.field.Field.TheVariants as field
 use Rattle.ell_layout.specs.Words.{Words, IsLeaf}
 use Rattle.ell_layout.specs.Cards.{is_replace_card, keeps_below}

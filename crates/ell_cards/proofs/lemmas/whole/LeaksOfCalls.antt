@@ -258,16 +258,16 @@ mark_free false d x u v w same free = by (is_mark_of d u.state u.card) same
     by true same = ap (λ k. k.operation) same ∙ free
     by false same = ap (λ k. k.operation) same ∙ free
 
-claim_free : (b : Bool) (d : ℕ) (node_key : NewNode) (v : View) → v.worker.operation ≡ None → (after_claim b d node_key v).worker.operation ≡ None
-claim_free true d node_key v free = free
-claim_free false d node_key v free = free
+claim_free : (b : Bool) (d : ℕ) (node : NewNode) (v : View) → v.worker.operation ≡ None → (after_claim b d node v).worker.operation ≡ None
+claim_free true d node v free = free
+claim_free false d node v free = free
 
 pub free_after : (c : Call) (n : ℕ) (v : View) → BeginsNone c → v.worker.operation ≡ None → (after c n v).worker.operation ≡ None
 free_after (call.Begin op) n v begun free = absurd begun
 free_after (call.IFlag e p from) n v begun free = flag_free (n == packed from) (fact.IFlagged e) p (unpacked n) v (after (call.IFlag e p from) n v) refl free
 free_after (call.DFlag e gp from) n v begun free = flag_free (n == packed from) (fact.DFlagged e) gp (unpacked n) v (after (call.DFlag e gp from) n v) refl free
 free_after (call.Mark e p was) n v begun free = mark_free (n == was) e p (unpacked n) v (after (call.Mark e p was) n v) refl free
-free_after (call.Claim e node_key) n v begun free = claim_free (n == e) e node_key v free
+free_after (call.Claim e node) n v begun free = claim_free (n == e) e node v free
 free_after call.Leave n v begun free = refl
 free_after call.Rest n v begun free = refl
 free_after (call.Answer said) n v begun free = refl

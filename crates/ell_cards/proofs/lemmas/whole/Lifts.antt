@@ -1,6 +1,6 @@
 -- A call that a pass may make by what is shown of what it knows is one that it may make by that itself, where all that it
 -- names, and the word that the call finds, are so small that nothing is cut.
-use Rattle.std.proofs.Common.{◌≡◌, ℕ, ◌%◌, ◌≤◌, ◌==◌, ◌&&◌, nat_le, nat_lt, if◌then◌else◌, Bool, true, false, Option, Some, None, [], ◌⊎◌, inl, inr, refl, sym, ap, ◌∙◌, subst, arith, unwrap_or}
+use Rattle.std.proofs.Common.{◌≡◌, ℕ, ◌≤◌, ◌==◌, ◌&&◌, nat_le, nat_lt, if◌then◌else◌, Bool, true, false, Option, Some, None, [], ◌⊎◌, inl, inr, refl, sym, ap, ◌∙◌, subst, arith, unwrap_or}
 use Rattle.ell_ops.specs.declared.op.Op.{Op}
 use Rattle.ell_ops.specs.declared.op.Op.TheVariants.{Find, Insert, Delete, Swap}
 use Rattle.ell_word.specs.Link.{linked}
@@ -179,17 +179,17 @@ module _ (plan : TablePlan) (v : View) (last : ℕ) (few : last ≤ greatest_car
   nothing_fits field.Right = refl
   nothing_fits _ = refl
 
-  filling_fits : (c : ℕ) (node_key : NewNode) (tag : ℕ) (op : Option Op) (node : Option ℕ) (parent above : Option Seen) (key : ℕ) (value_of : ℕ → ℕ) → c ≤ last → tag ≤ last
-      → ((x : ℕ) → node ≡ Some x → card x ≤ last) → ((x : ℕ) (seen : Seen) → node ≡ Some x → parent ≡ Some seen → card seen.node ≤ last)
-      → ((x : ℕ) (seen top : Seen) → node ≡ Some x → parent ≡ Some seen → above ≡ Some top → card top.node ≤ last) → (f : Field)
-      → shown_word f (stored (tagged tag (filling_for c node_key op node parent above key value_of)) f 0) ≡ stored (tagged tag (filling_for c node_key op node parent above key value_of)) f 0
-  filling_fits c node_key tag (Some (Insert k value)) (Some below) (Some parent) above key value_of own less at behind top =
-      put_fits node_key.flat c k value node_key.key parent.node below key (value_of below) tag own (behind below parent refl refl) (at below refl) less
-  filling_fits c node_key tag (Some (Swap k was value)) (Some below) (Some parent) above key value_of own less at behind top =
-      put_fits node_key.flat c k value node_key.key parent.node below key (value_of below) tag own (behind below parent refl refl) (at below refl) less
-  filling_fits c node_key tag (Some (Delete k)) (Some leaf) (Some parent) (Some above) key value_of own less at behind top =
+  filling_fits : (c : ℕ) (node : NewNode) (tag : ℕ) (op : Option Op) (lower : Option ℕ) (parent above : Option Seen) (key : ℕ) (value_of : ℕ → ℕ) → c ≤ last → tag ≤ last
+      → ((x : ℕ) → lower ≡ Some x → card x ≤ last) → ((x : ℕ) (seen : Seen) → lower ≡ Some x → parent ≡ Some seen → card seen.node ≤ last)
+      → ((x : ℕ) (seen top : Seen) → lower ≡ Some x → parent ≡ Some seen → above ≡ Some top → card top.node ≤ last) → (f : Field)
+      → shown_word f (stored (tagged tag (filling_for c node op lower parent above key value_of)) f 0) ≡ stored (tagged tag (filling_for c node op lower parent above key value_of)) f 0
+  filling_fits c node tag (Some (Insert k value)) (Some below) (Some parent) above key value_of own less at behind top =
+      put_fits node.flat c k value node.key parent.node below key (value_of below) tag own (behind below parent refl refl) (at below refl) less
+  filling_fits c node tag (Some (Swap k was value)) (Some below) (Some parent) above key value_of own less at behind top =
+      put_fits node.flat c k value node.key parent.node below key (value_of below) tag own (behind below parent refl refl) (at below refl) less
+  filling_fits c node tag (Some (Delete k)) (Some leaf) (Some parent) (Some above) key value_of own less at behind top =
       delete_fits above.node parent.node leaf parent.word tag (top leaf parent above refl refl refl) (behind leaf parent refl refl) (at leaf refl) less
-  filling_fits c node_key tag _ _ _ _ key value_of own less at behind top = nothing_fits
+  filling_fits c node tag _ _ _ _ key value_of own less at behind top = nothing_fits
 
   -- the tag that a card is to expect is one of the table
   tag_fits : (op : Option Op) (x : ℕ) (seen : Seen) (above : Option Seen) → v.worker.search.node ≡ Some x → v.worker.search.parent ≡ Some seen
@@ -205,15 +205,15 @@ module _ (plan : TablePlan) (v : View) (last : ℕ) (few : last ≤ greatest_car
   abbrev PlanFits : View → Type 0
   PlanFits w = (f : Field) → shown_word f (stored w.planned f 0) ≡ stored w.planned f 0
 
-  claim_fits : (from c : ℕ) (node_key : NewNode) (won : Bool) → MayClaim from v c node_key → c ≤ last → PlanFits v → PlanFits (after_claim won c node_key v)
-  claim_fits from c node_key true may own fits =
-      filling_fits c node_key (expected_tag v) v.worker.operation v.worker.search.node v.worker.search.parent v.worker.search.grandparent (unwrap_or v.here 0)
+  claim_fits : (from c : ℕ) (node : NewNode) (won : Bool) → MayClaim from v c node → c ≤ last → PlanFits v → PlanFits (after_claim won c node v)
+  claim_fits from c node true may own fits =
+      filling_fits c node (expected_tag v) v.worker.operation v.worker.search.node v.worker.search.parent v.worker.search.grandparent (unwrap_or v.here 0)
       (value_told v.told) own
       (subst (λ o. tag_of_claim v.worker.operation o v.worker.search.grandparent ≤ last) (sym may.behind)
       (tag_fits v.worker.operation may.below may.parent v.worker.search.grandparent may.stands may.behind refl))
       (λ x at. named.node x at) (λ x seen at behind. (named.parent x seen at behind).node)
       (λ x seen top at behind up. (named.grandparent x seen top at behind up).node)
-  claim_fits from c node_key false may own fits = fits
+  claim_fits from c node false may own fits = fits
 
   flag_fits : (won : Bool) (new : Fact) (x : ℕ) (u : Update) → PlanFits v → PlanFits (after_flag won new x u v)
   flag_fits true new x u fits = fits

@@ -7,7 +7,7 @@ use Rattle.std.proofs.lemmas.Option.{same_Some}
 use mathlib.Core.Option.{some}
 use lib.ListN.{get_elem?}
 use prog.Atomic.{either}
-use Rattle.ell_word.specs.Node.{card}
+use Rattle.ell_word.specs.Node.{card, turn_size}
 use Rattle.ell_layout.specs.declared.field.Field.TheVariants as field
 use Rattle.ell_layout.specs.Words.{Words}
 use Rattle.ell_core.specs.history.Invariant.{DeleteCard}
@@ -239,7 +239,7 @@ module _ (plan : TablePlan) (s : Slots) (tree : TableState) (t : WholeState) (id
     where
       at_home : (c n : ℕ) → slot_of (card_by (slot_of c) n) ≡ slot_of c
       at_home c n = omega arith
-  turn_there false c n inside used was now = lies_now c inside used ∙ ap (λ u. 67108864 * u + slot_of c) (now ∙ sym was)
+  turn_there false c n inside used was now = lies_now c inside used ∙ ap (λ u. turn_size * u + slot_of c) (now ∙ sym was)
 
   notes_next : (taken_out : Bool) (c : ℕ) (nodes : CardNodes) → plan.slots ≡ Some s → slot_of c ≤ s.last → MayRetire (shown k.tree) taken_out c nodes
       → (n : ℕ) → k.period.read ≡ Some (record { slot = slot_of c; word = n }) → MayNote k.tree taken_out c nodes n → MayNoteNext k.tree taken_out c nodes n (word_now c)

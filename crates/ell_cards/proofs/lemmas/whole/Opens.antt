@@ -7,7 +7,7 @@ use lib.ListN.{get_elem?}
 use Rattle.atomic_table.specs.Table.{opening}
 use Rattle.ell_core.proofs.lemmas.outcomes.Decide.{some_not_none}
 use Rattle.ell_grace.proofs.lemmas.Grace.{grace_starts}
-use Rattle.ell_word.specs.Node.{greatest_card, greatest_number}
+use Rattle.ell_word.specs.Node.{greatest_card, greatest_number, number_bound, turn_size}
 use Rattle.ell_layout.specs.Layout.{address, table_size}
 use Rattle.ell_layout.specs.Words.{words_of, table_words}
 use Rattle.ell_cards.specs.declared.view.Known.{Known}
@@ -56,19 +56,19 @@ not_below a b low = grind (arith, low)
 
 -- as a table opens with so many start keys, their cards lie in the slots of their numbers, and in each other slot one of a number that no card has
 abbrev pub lies_opened : ℕ → ℕ → ℕ
-lies_opened given slot = if nat_lt given slot then 4611686018427387904 + slot else slot
+lies_opened given slot = if nat_lt given slot then number_bound + slot else slot
 
 -- and these alone are out
 abbrev pub out_opened : ℕ → Bool
 out_opened c = nat_lt greatest_number c
 
 pub lies_as_given : (given slot : ℕ) → slot ≤ given → lies_opened given slot ≡ slot
-lies_as_given given slot low = ap (λ b. if b then 4611686018427387904 + slot else slot) (not_below given slot low)
+lies_as_given given slot low = ap (λ b. if b then number_bound + slot else slot) (not_below given slot low)
 
-pub lies_at_home : (given slot : ℕ) → slot < 67108864 → slot_of (lies_opened given slot) ≡ slot
+pub lies_at_home : (given slot : ℕ) → slot < turn_size → slot_of (lies_opened given slot) ≡ slot
 lies_at_home given slot low = by (nat_lt given slot)
   where
-    by : (b : Bool) → slot_of (if b then 4611686018427387904 + slot else slot) ≡ slot
+    by : (b : Bool) → slot_of (if b then number_bound + slot else slot) ≡ slot
     by true = omega (arith, low)
     by false = omega (arith, low)
 
@@ -76,7 +76,7 @@ lies_at_home given slot low = by (nat_lt given slot)
 pub lies_or_free : (given slot : ℕ) → opening_word given slot % 8 ≢ 0 → lies_opened given slot ≡ card_by slot (opening_word given slot)
 lies_or_free given slot = by (nat_lt given slot)
   where
-    by : (b : Bool) → (if b then free_word 0 else taken_word 0) % 8 ≢ 0 → (if b then 4611686018427387904 + slot else slot) ≡ card_by slot (if b then free_word 0 else taken_word 0)
+    by : (b : Bool) → (if b then free_word 0 else taken_word 0) % 8 ≢ 0 → (if b then number_bound + slot else slot) ≡ card_by slot (if b then free_word 0 else taken_word 0)
     by true used = absurd (used refl)
     by false used = omega arith
 
@@ -84,7 +84,7 @@ lies_or_free given slot = by (nat_lt given slot)
 pub noted_opened : (given slot k : ℕ) → is_noted (opening_word given slot) k ≡ true → greatest_number < (4 * lies_opened given slot + k) / 4
 noted_opened given slot k = by (nat_lt given slot) k
   where
-    by : (b : Bool) (k : ℕ) → is_noted (if b then free_word 0 else taken_word 0) k ≡ true → greatest_number < (4 * (if b then 4611686018427387904 + slot else slot) + k) / 4
+    by : (b : Bool) (k : ℕ) → is_noted (if b then free_word 0 else taken_word 0) k ≡ true → greatest_number < (4 * (if b then number_bound + slot else slot) + k) / 4
     by true zero is = omega arith
     by true (suc zero) is = omega arith
     by true (suc (suc zero)) is = omega arith
@@ -205,7 +205,7 @@ module _ (s : Slots) (given : ℕ) (cards all : List ℕ) (size : length cards �
   free_is_out : (clock c r : ℕ) → stamp_at s (lies_opened given) all c ≡ Some r → (r ≤ clock) × (out_opened c ≡ true)
   free_is_out clock c r = inside (nat_le (slot_of c) s.last) refl
     where
-      stamped : (o : Bool) → lies_opened given (slot_of c) ≡ (if o then 4611686018427387904 + slot_of c else slot_of c) → (there : Bool) → (lies_opened given (slot_of c) == c) ≡ there
+      stamped : (o : Bool) → lies_opened given (slot_of c) ≡ (if o then number_bound + slot_of c else slot_of c) → (there : Bool) → (lies_opened given (slot_of c) == c) ≡ there
           → (if there then freed_by (if o then free_word 0 else taken_word 0) else None) ≡ Some r → (r ≤ clock) × (out_opened c ≡ true)
       stamped true lies true here is =
           let same = eqb-true (lies_opened given (slot_of c)) c here in

@@ -1,10 +1,11 @@
 use Rattle.std.proofs.Common.{◌≡◌, ◌≢◌, ℕ, zero, suc, ◌+◌, ◌-◌, ◌*◌, ◌/◌, ◌%◌, ◌<◌, ◌≤◌, ◌==◌, ◌&&◌, not, Bool, true, false, inl, inr, refl, sym, ap, ◌∙◌, subst, arith, eq-eqb, ne_eqb, if◌then◌else◌}
 use Rattle.std.proofs.Math.Nat.{le-min, mul-add, mul-one}
 use Rattle.std.proofs.lemmas.Bool.{cases_eq}
+use Rattle.ell_word.specs.Node.{turn_size}
 use Rattle.ell_cards.specs.declared.view.Seek.{Seek}
 use Rattle.ell_cards.specs.declared.view.Slots.{Slots}
 use Rattle.ell_cards.specs.Seeking.{slots_before, is_next, row_from, row_on, sought_on, FindsNone}
-use Rattle.ell_cards.specs.SlotWords.{has_slot_in, slot_of, turn_of}
+use Rattle.ell_cards.specs.SlotWords.{has_slot_in, slot_of, turn_of, turns_told_apart}
 use Rattle.ell_cards.proofs.lemmas.words.Slotted.{slot_inside, turn_apart, has_slot_by}
 
 -- a turn later there are as many more numbers as there are slots
@@ -13,21 +14,21 @@ turn_later n t k = mul-add n t (1 + k) ∙ ap (λ m. n * t + m) (mul-add n 1 k �
 
 -- how many turns with slots come before a turn that has them
 abbrev turns_before : ℕ → ℕ
-turns_before t = t - t / 1024
+turns_before t = t - t / turns_told_apart
 
 -- a later one has more before it
-more_turns : (t u : ℕ) → t < u → (u % 1024 ≡ 0 → u ≡ 0) → turns_before t < turns_before u
-more_turns t u less apart = elim (cases_eq (u % 1024) 0) [
+more_turns : (t u : ℕ) → t < u → (u % turns_told_apart ≡ 0 → u ≡ 0) → turns_before t < turns_before u
+more_turns t u less apart = elim (cases_eq (u % turns_told_apart) 0) [
   | inl low ↦ (let first = apart low in omega arith)
   | inr other ↦ omega arith
 ]
 
 -- the next one has one more
-next_turn : (t u : ℕ) → (t % 1024 ≡ 0 → t ≡ 0) → (u % 1024 ≡ 0 → u ≡ 0) → t < u → u ≤ t + 2 → (u ≡ t + 2 → (t + 1) % 1024 ≡ 0)
+next_turn : (t u : ℕ) → (t % turns_told_apart ≡ 0 → t ≡ 0) → (u % turns_told_apart ≡ 0 → u ≡ 0) → t < u → u ≤ t + 2 → (u ≡ t + 2 → (t + 1) % turns_told_apart ≡ 0)
     → turns_before u ≡ turns_before t + 1
 next_turn t u apart_t apart_u less most two = elim (cases_eq u (t + 2)) [
   | inl e ↦ (let low = two e in omega arith)
-  | inr n ↦ elim (cases_eq (u % 1024) 0) [
+  | inr n ↦ elim (cases_eq (u % turns_told_apart) 0) [
     | inl low ↦ (let first = apart_u low in omega arith)
     | inr other ↦ (let is : u ≡ t + 1 = omega arith in omega arith)
   ]
@@ -45,20 +46,20 @@ later_in_row s c d in_c in_d less = elim (cases_eq (turn_of c) (turn_of d)) [
 ]
 
 -- the next number that has a slot is the next one of the row
-pub next_in_row : (s : Slots) (c d : ℕ) → s.last < 67108864 → has_slot_in s.last c ≡ true → has_slot_in s.last d ≡ true → c < d
+pub next_in_row : (s : Slots) (c d : ℕ) → s.last < turn_size → has_slot_in s.last c ≡ true → has_slot_in s.last d ≡ true → c < d
     → ((e : ℕ) → c + 1 ≤ e → has_slot_in s.last e ≡ true → d ≤ e) → slots_before s d ≡ slots_before s c + 1
 next_in_row s c d low in_c in_d less first = elim (cases_eq (slot_of c) s.last) [
   | inl e ↦
       let past : turn_of c < turn_of d = (let inside = slot_inside s.last d in_d in omega arith) in
-      elim (cases_eq ((turn_of c + 1) % 1024) 0) [
+      elim (cases_eq ((turn_of c + 1) % turns_told_apart) 0) [
         | inl skips ↦
-            let at = first (67108864 * (turn_of c + 2)) (omega arith) (starts (turn_of c + 2) (omega arith)) in
+            let at = first (turn_size * (turn_of c + 2)) (omega arith) (starts (turn_of c + 2) (omega arith)) in
             let most : turn_of d ≤ turn_of c + 2 = omega arith in
             let apart : turn_of d ≢ turn_of c + 1 = (λ is. absurd (none_there is skips)) in
             turned (next_turn (turn_of c) (turn_of d) (turn_apart s.last c in_c) (turn_apart s.last d in_d) past most (λ two. skips))
             (omega arith) e
         | inr goes ↦
-            let at = first (67108864 * (turn_of c + 1)) (omega arith) (starts (turn_of c + 1) goes) in
+            let at = first (turn_size * (turn_of c + 1)) (omega arith) (starts (turn_of c + 1) goes) in
             let most : turn_of d ≤ turn_of c + 1 = omega arith in
             turned (next_turn (turn_of c) (turn_of d) (turn_apart s.last c in_c) (turn_apart s.last d in_d) past (omega arith) (λ two. absurd (omega arith)))
             (omega arith) e
@@ -66,20 +67,20 @@ next_in_row s c d low in_c in_d less first = elim (cases_eq (slot_of c) s.last) 
   | inr n ↦
       let inside = slot_inside s.last c in_c in
       let turn : turn_of (c + 1) ≡ turn_of c = omega arith in
-      let at = first (c + 1) (omega arith) (has_slot_by s.last (c + 1) (omega arith) (λ low. turn ∙ turn_apart s.last c in_c (ap (λ t. t % 1024) (sym turn) ∙ low))) in
+      let at = first (c + 1) (omega arith) (has_slot_by s.last (c + 1) (omega arith) (λ low. turn ∙ turn_apart s.last c in_c (ap (λ t. t % turns_told_apart) (sym turn) ∙ low))) in
       let next : d ≡ c + 1 = omega arith in
       let same = ap (λ t. (s.last + 1) * turns_before t) (ap turn_of next ∙ turn) in omega arith
 ]
   where
     -- a number of the next turn has no slot, if that is not told from the first
-    none_there : turn_of d ≡ turn_of c + 1 → (turn_of c + 1) % 1024 ≡ 0 → ⊥
-    none_there is skips = (let first_turn = turn_apart s.last d in_d (ap (λ t. t % 1024) is ∙ skips) in absurd (omega arith))
+    none_there : turn_of d ≡ turn_of c + 1 → (turn_of c + 1) % turns_told_apart ≡ 0 → ⊥
+    none_there is skips = (let first_turn = turn_apart s.last d in_d (ap (λ t. t % turns_told_apart) is ∙ skips) in absurd (omega arith))
 
     -- a turn that has slots begins with one
-    starts : (t : ℕ) → t % 1024 ≢ 0 → has_slot_in s.last (67108864 * t) ≡ true
+    starts : (t : ℕ) → t % turns_told_apart ≢ 0 → has_slot_in s.last (turn_size * t) ≡ true
     starts t apart =
-        let turn : turn_of (67108864 * t) ≡ t = omega arith in
-        has_slot_by s.last (67108864 * t) (omega arith) (λ low. absurd (apart (ap (λ u. u % 1024) (sym turn) ∙ low)))
+        let turn : turn_of (turn_size * t) ≡ t = omega arith in
+        has_slot_by s.last (turn_size * t) (omega arith) (λ low. absurd (apart (ap (λ u. u % turns_told_apart) (sym turn) ∙ low)))
 
     mul_zero : (n : ℕ) → n * 0 ≡ 0
     mul_zero n = omega arith
@@ -113,7 +114,7 @@ pub row_begins : (s : Slots) (card : ℕ) (for_delete : Bool) (made safe next : 
 row_begins s card for_delete made safe next k first = record { start = λ none. first; on = λ some. absurd (omega arith) }
 
 -- it reads one more
-pub row_goes_on : (s : Slots) (card : ℕ) (for_delete : Bool) (made safe next read next' n : ℕ) (k : Seek) → s.last < 67108864 → card ≤ next
+pub row_goes_on : (s : Slots) (card : ℕ) (for_delete : Bool) (made safe next read next' n : ℕ) (k : Seek) → s.last < turn_size → card ≤ next
     → has_slot_in s.last next ≡ true → has_slot_in s.last next' ≡ true → next + 1 ≤ next' → ((c : ℕ) → next + 1 ≤ c → has_slot_in s.last c ≡ true → next' ≤ c)
     → RowSoFar s card for_delete made safe next read k
     → RowSoFar s card for_delete made safe next' (read + 1) (sought_on s (read == 0) for_delete next made n false safe k)

@@ -49,9 +49,9 @@ pub from_some : (plan : TablePlan) → plan.flat ≡ true → 0 < flat_from plan
 from_some plan flat = subst (λ b. 0 < (if b then length plan.start + 1 else 0)) (sym flat) (omega arith)
 
 -- where the last card was claimed, and the claim word read, the next one may be claimed
-pub claims_on : (plan : TablePlan) → plan.flat ≡ true → (c : ℕ) (node_key : NewNode) (v : View) → c + 1 ≤ plan.last_card → May plan (call.Claim c node_key) v
-    → May plan (call.Claim (c + 1) node_key) (after_one c node_key v)
-claims_on plan flat c node_key v room may = (one_claims_on (flat_from plan) (from_some plan flat) c node_key v may.0, room)
+pub claims_on : (plan : TablePlan) → plan.flat ≡ true → (c : ℕ) (node : NewNode) (v : View) → c + 1 ≤ plan.last_card → May plan (call.Claim c node) v
+    → May plan (call.Claim (c + 1) node) (after_one c node v)
+claims_on plan flat c node v room may = (one_claims_on (flat_from plan) (from_some plan flat) c node v may.0, room)
 
 -- a pass has taken no slot for a card in hand that it may lay aside
 abbrev pub LaysAside : Known → Type 0
@@ -62,8 +62,8 @@ abbrev pub SlotIsBefore : Known → ℕ → Type 0
 SlotIsBefore k c = (d : ℕ) → k.period.slot ≡ Some d → d < c
 
 -- the card that was claimed has no slot yet
-aside_now : (c : ℕ) (node_key : NewNode) (k : Known) → SlotIsBefore k c → LaysAside (record { tree = after_one c node_key k.tree; period = k.period })
-aside_now c node_key k before d waits at =
+aside_now : (c : ℕ) (node : NewNode) (k : Known) → SlotIsBefore k c → LaysAside (record { tree = after_one c node k.tree; period = k.period })
+aside_now c node k before d waits at =
     let same = same_Some c d waits.0 in
     let low = before d at in
     absurd (by same low)
@@ -103,26 +103,26 @@ module _ (plan : TablePlan) (s : Slots) (placed : plan.slots ≡ Some s) where
     found = sym (has_periods t h).tied.claim
 
     -- after a claim
-    claimed : (c : ℕ) (node_key : NewNode) → May plan (call.Claim c node_key) k.tree → LaysAside k → (won : Bool) → (get_or t.words 0 0 == c) ≡ won
-        → IsWhole plan (claimed_to t id k (after_claim won c node_key k.tree) (cut_word (if won then c + 1 else get_or t.words 0 0)))
-    claimed c node_key may aside won is =
-        subst (λ b. IsWhole plan (claimed_to t id k (after_claim b c node_key k.tree) (cut_word (if b then c + 1 else get_or t.words 0 0)))) is
-        (subst (λ n. IsWhole plan (claimed_to t id k (after_claim (n == c) c node_key k.tree) (cut_word (if n == c then c + 1 else n)))) found
-        (tied_whole plan t h id k here (call.Claim c node_key) may tt s placed aside unlost tt (λ none. tt) k.period (nothing refl tt (λ some d flags. absurd flags))))
+    claimed : (c : ℕ) (node : NewNode) → May plan (call.Claim c node) k.tree → LaysAside k → (won : Bool) → (get_or t.words 0 0 == c) ≡ won
+        → IsWhole plan (claimed_to t id k (after_claim won c node k.tree) (cut_word (if won then c + 1 else get_or t.words 0 0)))
+    claimed c node may aside won is =
+        subst (λ b. IsWhole plan (claimed_to t id k (after_claim b c node k.tree) (cut_word (if b then c + 1 else get_or t.words 0 0)))) is
+        (subst (λ n. IsWhole plan (claimed_to t id k (after_claim (n == c) c node k.tree) (cut_word (if n == c then c + 1 else n)))) found
+        (tied_whole plan t h id k here (call.Claim c node) may tt s placed aside unlost tt (λ none. tt) k.period (nothing refl tt (λ some d flags. absurd flags))))
 
-    pub claim_won : (c : ℕ) (node_key : NewNode) → May plan (call.Claim c node_key) k.tree → LaysAside k → get_or t.words 0 0 ≡ c
-        → IsWhole plan (claimed_to t id k (after_claim true c node_key k.tree) (c + 1))
-    claim_won c node_key may aside is =
+    pub claim_won : (c : ℕ) (node : NewNode) → May plan (call.Claim c node) k.tree → LaysAside k → get_or t.words 0 0 ≡ c
+        → IsWhole plan (claimed_to t id k (after_claim true c node k.tree) (c + 1))
+    claim_won c node may aside is =
         let low = may.1 in
         let limit = h.reached.starts.may.limit in
-        subst (λ n. IsWhole plan (claimed_to t id k (after_claim true c node_key k.tree) n)) (cut_same (c + 1) (omega arith))
-        (claimed c node_key may aside true (eq-eqb (get_or t.words 0 0) c is))
+        subst (λ n. IsWhole plan (claimed_to t id k (after_claim true c node k.tree) n)) (cut_same (c + 1) (omega arith))
+        (claimed c node may aside true (eq-eqb (get_or t.words 0 0) c is))
 
-    pub claim_lost : (c : ℕ) (node_key : NewNode) → May plan (call.Claim c node_key) k.tree → LaysAside k → (get_or t.words 0 0 == c) ≡ false → IsWord (get_or t.words 0 0)
-        → IsWhole plan (claimed_to t id k (after_claim false c node_key k.tree) (get_or t.words 0 0))
-    claim_lost c node_key may aside is word =
-        subst (λ n. IsWhole plan (claimed_to t id k (after_claim false c node_key k.tree) n)) (cut_same (get_or t.words 0 0) word)
-        (claimed c node_key may aside false is)
+    pub claim_lost : (c : ℕ) (node : NewNode) → May plan (call.Claim c node) k.tree → LaysAside k → (get_or t.words 0 0 == c) ≡ false → IsWord (get_or t.words 0 0)
+        → IsWhole plan (claimed_to t id k (after_claim false c node k.tree) (get_or t.words 0 0))
+    claim_lost c node may aside is word =
+        subst (λ n. IsWhole plan (claimed_to t id k (after_claim false c node k.tree) n)) (cut_same (get_or t.words 0 0) word)
+        (claimed c node may aside false is)
 
     -- after the claim word was read
     pub read_next : (n : ℕ) → get_or t.words 0 0 ≡ n → IsWord n → IsWhole plan (claimed_to t id k (after call.Next n k.tree) n)
@@ -142,53 +142,53 @@ module _ (plan : TablePlan) (s : Slots) (placed : plan.slots ≡ Some s) where
 
   module _ (flat : plan.flat ≡ true) where
     -- after a claim that was won, and the claim word read
-    pub one_on : (c : ℕ) (node_key : NewNode) (t : WholeState) (h : IsWhole plan t) (id : ℕ) (k : Known) → get_elem? t.views id ≡ some k → k.period.lost ≡ None → LaysAside k
-        → May plan (call.Claim c node_key) k.tree → get_or t.words 0 0 ≡ c → IsWhole plan (claimed_to t id k (after_one c node_key k.tree) (c + 1))
-    one_on c node_key t h id k here unlost aside may is =
+    pub one_on : (c : ℕ) (node : NewNode) (t : WholeState) (h : IsWhole plan t) (id : ℕ) (k : Known) → get_elem? t.views id ≡ some k → k.period.lost ≡ None → LaysAside k
+        → May plan (call.Claim c node) k.tree → get_or t.words 0 0 ≡ c → IsWhole plan (claimed_to t id k (after_one c node k.tree) (c + 1))
+    one_on c node t h id k here unlost aside may is =
         let low = may.1 in
         let limit = h.reached.starts.may.limit in
-        let now : Known = record { tree = after_claim true c node_key k.tree; period = k.period } in
-        subst (IsWhole plan) (written_again t id k now (after_one c node_key k.tree) (c + 1) (c + 1) refl)
-        (read_next (claimed_to t id k (after_claim true c node_key k.tree) (c + 1)) (claim_won t h id k here unlost c node_key may aside is) id now
+        let now : Known = record { tree = after_claim true c node k.tree; period = k.period } in
+        subst (IsWhole plan) (written_again t id k now (after_one c node k.tree) (c + 1) (c + 1) refl)
+        (read_next (claimed_to t id k (after_claim true c node k.tree) (c + 1)) (claim_won t h id k here unlost c node may aside is) id now
         (set_there t.views id now k here) unlost (c + 1) (get_or-set_same t.words 0 (c + 1) 0 (has_words t h)) (omega arith))
 
     -- a row of claims
-    pub row_whole : (n c : ℕ) (node_key : NewNode) (t : WholeState) (h : IsWhole plan t) (id : ℕ) (k : Known) → get_elem? t.views id ≡ some k → k.period.lost ≡ None → LaysAside k → SlotIsBefore k c
-        → May plan (call.Claim c node_key) k.tree → get_or t.words 0 0 ≡ c → c + n ≤ plan.last_card
-        → IsWhole plan (claimed_to t id k (after_row n c node_key k.tree) (c + n + 1))
-    row_whole zero c node_key t h id k here unlost aside before may is room =
-        subst (λ m. IsWhole plan (claimed_to t id k (after_claim true c node_key k.tree) m)) (omega arith) (claim_won t h id k here unlost c node_key may aside is)
-    row_whole (suc n) c node_key t h id k here unlost aside before may is room =
-        let now : Known = record { tree = after_one c node_key k.tree; period = k.period } in
-        let v = after_row n (c + 1) node_key (after_one c node_key k.tree) in
+    pub row_whole : (n c : ℕ) (node : NewNode) (t : WholeState) (h : IsWhole plan t) (id : ℕ) (k : Known) → get_elem? t.views id ≡ some k → k.period.lost ≡ None → LaysAside k → SlotIsBefore k c
+        → May plan (call.Claim c node) k.tree → get_or t.words 0 0 ≡ c → c + n ≤ plan.last_card
+        → IsWhole plan (claimed_to t id k (after_row n c node k.tree) (c + n + 1))
+    row_whole zero c node t h id k here unlost aside before may is room =
+        subst (λ m. IsWhole plan (claimed_to t id k (after_claim true c node k.tree) m)) (omega arith) (claim_won t h id k here unlost c node may aside is)
+    row_whole (suc n) c node t h id k here unlost aside before may is room =
+        let now : Known = record { tree = after_one c node k.tree; period = k.period } in
+        let v = after_row n (c + 1) node (after_one c node k.tree) in
         subst (λ m. IsWhole plan (claimed_to t id k v m)) (omega arith)
         (subst (IsWhole plan) (written_again t id k now v (c + 1) (c + 1 + n + 1) refl)
-        (row_whole n (c + 1) node_key (claimed_to t id k (after_one c node_key k.tree) (c + 1)) (one_on c node_key t h id k here unlost aside may is) id now
-        (set_there t.views id now k here) unlost (aside_now c node_key k before) (λ d at. (let low = before d at in omega arith)) (claims_on plan flat c node_key k.tree (omega arith) may)
+        (row_whole n (c + 1) node (claimed_to t id k (after_one c node k.tree) (c + 1)) (one_on c node t h id k here unlost aside may is) id now
+        (set_there t.views id now k here) unlost (aside_now c node k before) (λ d at. (let low = before d at in omega arith)) (claims_on plan flat c node k.tree (omega arith) may)
         (get_or-set_same t.words 0 (c + 1) 0 (has_words t h)) (omega arith)))
 
 -- what was planned before a row of claims is gone after it
-planned_anew : (n c : ℕ) (node_key : NewNode) (v : View) → after_row n c node_key (cut_planned v) ≡ after_row n c node_key v
-planned_anew zero c node_key v = refl
-planned_anew (suc n) c node_key v = refl
+planned_anew : (n c : ℕ) (node : NewNode) (v : View) → after_row n c node (cut_planned v) ≡ after_row n c node v
+planned_anew zero c node v = refl
+planned_anew (suc n) c node v = refl
 
 -- what is shown of what a pass knows after a row of claims
 module _ (plan : TablePlan) (s : Slots) (placed : plan.slots ≡ Some s) (flat : plan.flat ≡ true) where
-  row_shown : (n c : ℕ) (node_key : NewNode) (t : WholeState) (h : IsWhole plan t) (id : ℕ) (k : Known) → get_elem? t.views id ≡ some k → k.period.lost ≡ None → LaysAside k → SlotIsBefore k c
-      → May plan (call.Claim c node_key) k.tree → get_or t.words 0 0 ≡ c → c + n ≤ plan.last_card
-      → shown (after_row n c node_key k.tree) ≡ cut_planned (after_row n c node_key (shown k.tree))
-  row_shown zero c node_key t h id k here unlost aside before may is room = claims_are_shown plan c node_key k.tree (whole_apart plan s placed t h id k here)
-  row_shown (suc n) c node_key t h id k here unlost aside before may is room =
-      let now : Known = record { tree = after_one c node_key k.tree; period = k.period } in
-      let first : shown (after_one c node_key k.tree) ≡ cut_planned (after_one c node_key (shown k.tree)) =
-      ap (after call.Next (c + 1)) (claims_are_shown plan c node_key k.tree (whole_apart plan s placed t h id k here)) in
-      row_shown n (c + 1) node_key (claimed_to t id k (after_one c node_key k.tree) (c + 1)) (one_on plan s placed flat c node_key t h id k here unlost aside may is) id now
-      (set_there t.views id now k here) unlost (aside_now c node_key k before) (λ d at. (let low = before d at in omega arith)) (claims_on plan flat c node_key k.tree (omega arith) may)
+  row_shown : (n c : ℕ) (node : NewNode) (t : WholeState) (h : IsWhole plan t) (id : ℕ) (k : Known) → get_elem? t.views id ≡ some k → k.period.lost ≡ None → LaysAside k → SlotIsBefore k c
+      → May plan (call.Claim c node) k.tree → get_or t.words 0 0 ≡ c → c + n ≤ plan.last_card
+      → shown (after_row n c node k.tree) ≡ cut_planned (after_row n c node (shown k.tree))
+  row_shown zero c node t h id k here unlost aside before may is room = claims_are_shown plan c node k.tree (whole_apart plan s placed t h id k here)
+  row_shown (suc n) c node t h id k here unlost aside before may is room =
+      let now : Known = record { tree = after_one c node k.tree; period = k.period } in
+      let first : shown (after_one c node k.tree) ≡ cut_planned (after_one c node (shown k.tree)) =
+      ap (after call.Next (c + 1)) (claims_are_shown plan c node k.tree (whole_apart plan s placed t h id k here)) in
+      row_shown n (c + 1) node (claimed_to t id k (after_one c node k.tree) (c + 1)) (one_on plan s placed flat c node t h id k here unlost aside may is) id now
+      (set_there t.views id now k here) unlost (aside_now c node k before) (λ d at. (let low = before d at in omega arith)) (claims_on plan flat c node k.tree (omega arith) may)
       (get_or-set_same t.words 0 (c + 1) 0 (has_words plan s placed t h)) (omega arith)
-      ∙ ap cut_planned (ap (after_row n (c + 1) node_key) first ∙ planned_anew n (c + 1) node_key (after_one c node_key (shown k.tree)))
+      ∙ ap cut_planned (ap (after_row n (c + 1) node) first ∙ planned_anew n (c + 1) node (after_one c node (shown k.tree)))
 
 -- a pass takes all numbers from its next one to a last one, or loses the claim
-module _ (plan : TablePlan) (s : Slots) (placed : plan.slots ≡ Some s) (flat : plan.flat ≡ true) (p : PassModel) (first last : ℕ) (node_key : NewNode) (order : first ≤ last) (room : last ≤ plan.last_card) (may : MayClaim (flat_from plan) p.view first node_key)
+module _ (plan : TablePlan) (s : Slots) (placed : plan.slots ≡ Some s) (flat : plan.flat ≡ true) (p : PassModel) (first last : ℕ) (node : NewNode) (order : first ≤ last) (room : last ≤ plan.last_card) (may : MayClaim (flat_from plan) p.view first node)
     (lays : (d : ℕ) → HoldsWaiting p.view d → p.slot ≢ Some d) where
   abbrev v : View
   v = p.view
@@ -199,10 +199,10 @@ module _ (plan : TablePlan) (s : Slots) (placed : plan.slots ≡ Some s) (flat :
 
     abbrev Goes : Bool → Type 0
     Goes b = (w : Known) × (a : Act (Unit {0})) × Valid t.homes [] a × IsWhole plan (stepped t 0 (either b (last + 1) n) id [] w a)
-        × (((shown w.tree ≡ after_claimed_row b first last node_key v) × IsInside plan (shown w.tree) × IsFresh plan p.slot b last) × (w.period ≡ k.period) × (carried_after {S = Unit {0}} [] a ≡ []))
+        × (((shown w.tree ≡ after_claimed_row b first last node v) × IsInside plan (shown w.tree) × IsFresh plan p.slot b last) × (w.period ≡ k.period) × (carried_after {S = Unit {0}} [] a ≡ []))
 
-    by_tree : May plan (call.Claim first node_key) k.tree
-    by_tree = (claim_whole plan k.tree (whole_apart plan s placed t h id k here) first node_key (subst (λ u. MayClaim (flat_from plan) u first node_key) (sym is) may), omega arith)
+    by_tree : May plan (call.Claim first node) k.tree
+    by_tree = (claim_whole plan k.tree (whole_apart plan s placed t h id k here) first node (subst (λ u. MayClaim (flat_from plan) u first node) (sym is) may), omega arith)
 
     aside : LaysAside k
     aside d waits at = lays d (ap (λ (u : View). u.worker.card) (sym is) ∙ waits.0, ap (λ (u : View). u.worker.flagged) (sym is) ∙ waits.1) (sym slotted ∙ at)
@@ -210,7 +210,7 @@ module _ (plan : TablePlan) (s : Slots) (placed : plan.slots ≡ Some s) (flat :
     before : n ≡ first → SlotIsBefore k first
     before won d at = subst (λ m. d < m) won ((has_periods plan s placed t h).tied.past id d k here at)
 
-    goes : (b : Bool) (w : View) → IsWhole plan (claimed_to t id k w (either b (last + 1) n)) → shown w ≡ after_claimed_row b first last node_key v → IsFresh plan p.slot b last → Goes b
+    goes : (b : Bool) (w : View) → IsWhole plan (claimed_to t id k w (either b (last + 1) n)) → shown w ≡ after_claimed_row b first last node v → IsFresh plan p.slot b last → Goes b
     goes b w whole shows fresh =
         let now : Known = record { tree = w; period = k.period } in
         let names = whole_inside plan s placed (claimed_to t id k w (either b (last + 1) n)) whole id now (set_there t.views id now k here) in
@@ -218,17 +218,17 @@ module _ (plan : TablePlan) (s : Slots) (placed : plan.slots ≡ Some s) (flat :
 
     by : (b : Bool) → (n == first) ≡ b → Goes b
     by true won =
-        goes true (after_row (last - first) first node_key k.tree)
-        (subst (λ m. IsWhole plan (claimed_to t id k (after_row (last - first) first node_key k.tree) m)) (omega arith)
-        (row_whole plan s placed flat (last - first) first node_key t h id k here unlost aside (before (eqb-true n first won)) by_tree (eqb-true n first won) (omega arith)))
-        (row_shown plan s placed flat (last - first) first node_key t h id k here unlost aside (before (eqb-true n first won)) by_tree (eqb-true n first won) (omega arith)
-        ∙ ap (λ u. cut_planned (after_row (last - first) first node_key u)) is)
+        goes true (after_row (last - first) first node k.tree)
+        (subst (λ m. IsWhole plan (claimed_to t id k (after_row (last - first) first node k.tree) m)) (omega arith)
+        (row_whole plan s placed flat (last - first) first node t h id k here unlost aside (before (eqb-true n first won)) by_tree (eqb-true n first won) (omega arith)))
+        (row_shown plan s placed flat (last - first) first node t h id k here unlost aside (before (eqb-true n first won)) by_tree (eqb-true n first won) (omega arith)
+        ∙ ap (λ u. cut_planned (after_row (last - first) first node u)) is)
         (λ there yes at. (let low = before (eqb-true n first won) last (slotted ∙ at) in omega arith))
     by false lost =
-        goes false (after_claim false first node_key k.tree) (claim_lost plan s placed t h id k here unlost first node_key by_tree aside lost small)
-        (ap (after_claim false first node_key) is) (λ there yes. absurd (false≢true yes))
+        goes false (after_claim false first node k.tree) (claim_lost plan s placed t h id k here unlost first node by_tree aside lost small)
+        (ap (after_claim false first node) is) (λ there yes. absurd (false≢true yes))
 
-  pub row_goes : MayStepOn plan p 0 (λ n. either (n == first) (last + 1) n) (RowTells plan first last node_key p)
+  pub row_goes : MayStepOn plan p 0 (λ n. either (n == first) (last + 1) n) (RowTells plan first last node p)
   row_goes k is slotted unlost id t h homes here small = by k is slotted unlost id t h here small (get_or t.words 0 0 == first) refl
 
 -- the number before the one behind the last
@@ -236,41 +236,41 @@ pub one_back : (last : ℕ) → last + 1 - 1 ≡ last
 one_back last = omega arith
 
 -- whichever places there are
-pub row_goes_any : (plan : TablePlan) → plan.slots ≢ None → plan.flat ≡ true → (p : PassModel) (first last : ℕ) (node_key : NewNode) → first ≤ last → last ≤ plan.last_card
-    → MayClaim (flat_from plan) p.view first node_key → MayInTable plan p (call.Claim first node_key)
-    → MayStepOn plan p 0 (λ n. either (n == first) (last + 1) n) (RowTells plan first last node_key p)
-row_goes_any plan there flat p first last node_key order room may lays = by plan.slots refl
+pub row_goes_any : (plan : TablePlan) → plan.slots ≢ None → plan.flat ≡ true → (p : PassModel) (first last : ℕ) (node : NewNode) → first ≤ last → last ≤ plan.last_card
+    → MayClaim (flat_from plan) p.view first node → MayInTable plan p (call.Claim first node)
+    → MayStepOn plan p 0 (λ n. either (n == first) (last + 1) n) (RowTells plan first last node p)
+row_goes_any plan there flat p first last node order room may lays = by plan.slots refl
   where
-    by : (o : Option Slots) → plan.slots ≡ o → MayStepOn plan p 0 (λ n. either (n == first) (last + 1) n) (RowTells plan first last node_key p)
+    by : (o : Option Slots) → plan.slots ≡ o → MayStepOn plan p 0 (λ n. either (n == first) (last + 1) n) (RowTells plan first last node p)
     by None none = absurd (there none)
-    by (Some s) placed = row_goes plan s placed flat p first last node_key order room may (lays s placed)
+    by (Some s) placed = row_goes plan s placed flat p first last node order room may (lays s placed)
 
 -- the pass has the keys and the share that it had, and names what is in the table
-pub row_keeps_pass : (plan : TablePlan) (p : PassModel) (first last : ℕ) (node_key : NewNode) → KeepsPass plan p.view (RowTells plan first last node_key p)
-row_keeps_pass plan p first last node_key n w h = by (n == first) h.0
+pub row_keeps_pass : (plan : TablePlan) (p : PassModel) (first last : ℕ) (node : NewNode) → KeepsPass plan p.view (RowTells plan first last node p)
+row_keeps_pass plan p first last node n w h = by (n == first) h.0
   where
     v : View
     v = p.view
 
-    by : (b : Bool) → w ≡ after_claimed_row b first last node_key v → (ledger_keys w.worker.ledger ≡ ledger_keys v.worker.ledger) × SameShare v w × IsInside plan w
+    by : (b : Bool) → w ≡ after_claimed_row b first last node v → (ledger_keys w.worker.ledger ≡ ledger_keys v.worker.ledger) × SameShare v w × IsInside plan w
     by true is = (
-      ap (λ (u : View). ledger_keys u.worker.ledger) is ∙ row_keys (last - first) first node_key v,
-      subst (SameShare v) (sym is) (row_share (last - first) first node_key v),
+      ap (λ (u : View). ledger_keys u.worker.ledger) is ∙ row_keys (last - first) first node v,
+      subst (SameShare v) (sym is) (row_share (last - first) first node v),
       h.1,
     )
     by false is =
         (ap (λ (u : View). ledger_keys u.worker.ledger) is, subst (SameShare v) (sym is) (record { share = refl; ownable = refl }), h.1)
 
 -- a claim of one card tells what such a row does
-claim_tells : (plan : TablePlan) (c : ℕ) (node_key : NewNode) (v : View) → MayTell plan (call.Claim c node_key) v (λ n w. (w ≡ after_claimed_row (n == c) c c node_key v) × IsInside plan w)
-claim_tells plan c node_key v s h id w here is apart (call.Claim d key) same may can placed later =
+claim_tells : (plan : TablePlan) (c : ℕ) (node : NewNode) (v : View) → MayTell plan (call.Claim c node) v (λ n w. (w ≡ after_claimed_row (n == c) c c node v) × IsInside plan w)
+claim_tells plan c node v s h id w here is apart (call.Claim d key) same may can placed later =
     let card : d ≡ c = cc in
-    let node : key ≡ node_key = cc in
+    let same_node : key ≡ node = cc in
     let n = found_by s (call.Claim d key) in
     let now = view_after s w (call.Claim d key) in
     let there = set_there s.views id now w here in
     let names = kept_named plan (state_after s id w (call.Claim d key)) (reached_kept plan (state_after s id w (call.Claim d key)) (call_on plan s h id (call.Claim d key) w here may)) id now there in (
-      (won (n == d) (cut_word n == d) can.wins ∙ ((λ i. after_claimed_row (cut_word n == card i) (card i) (card i) (node i) (shown w)) ∙ ap (after_claimed_row (cut_word n == c) c c node_key) is)),
+      (won (n == d) (cut_word n == d) can.wins ∙ ((λ i. after_claimed_row (cut_word n == card i) (card i) (card i) (same_node i) (shown w)) ∙ ap (after_claimed_row (cut_word n == c) c c node) is)),
       (named_shown plan.last_card now names, placed_shown _ now placed),
     )
   where
@@ -283,18 +283,18 @@ claim_tells plan c node_key v s h id w here is apart (call.Claim d key) same may
 
     won : (whole cut : Bool) → cut ≡ whole → shown (after_claim whole d key w) ≡ after_claimed_row cut d d key (shown w)
     won whole cut same = by whole ∙ ap (λ b. after_claimed_row b d d key (shown w)) (sym same)
-claim_tells plan c node_key v s h id w here is apart _ same may can placed later = absurd cc
+claim_tells plan c node v s h id w here is apart _ same may can placed later = absurd cc
 
 -- so a claim is a step that the rule allows
-pub claim_goes : (plan : TablePlan) (p : PassModel) (c : ℕ) (node_key : NewNode) → May plan (call.Claim c node_key) p.view → c + 1 < 2 ^ 64 → MayInTable plan p (call.Claim c node_key)
-    → MayStepOn plan p 0 (λ n. either (n == c) (c + 1) n) (RowTells plan c c node_key p)
-claim_goes plan p c node_key may low lays k is slotted unlost id t h homes here small =
-    let x = tree_step plan k (call.Claim c node_key) (λ n. either (n == c) (c + 1) n) (λ n w. (w ≡ after_claimed_row (n == c) c c node_key p.view) × IsInside plan w) (λ n. k.period) tt
-    (subst (May plan (call.Claim c node_key)) (sym is) may)
+pub claim_goes : (plan : TablePlan) (p : PassModel) (c : ℕ) (node : NewNode) → May plan (call.Claim c node) p.view → c + 1 < 2 ^ 64 → MayInTable plan p (call.Claim c node)
+    → MayStepOn plan p 0 (λ n. either (n == c) (c + 1) n) (RowTells plan c c node p)
+claim_goes plan p c node may low lays k is slotted unlost id t h homes here small =
+    let x = tree_step plan k (call.Claim c node) (λ n. either (n == c) (c + 1) n) (λ n w. (w ≡ after_claimed_row (n == c) c c node p.view) × IsInside plan w) (λ n. k.period) tt
+    (subst (May plan (call.Claim c node)) (sym is) may)
     (λ s placed d waits at. lays s placed d (ap (λ (u : View). u.worker.card) (sym is) ∙ waits.0, ap (λ (u : View). u.worker.flagged) (sym is) ∙ waits.1) (sym slotted ∙ at)) (λ there. unlost)
-    (exchange_does plan (call.Claim c node_key) c (c + 1) (record { whole = c + 1; is = refl; cut = sym (cut_same (c + 1) low); all = λ none. refl }))
+    (exchange_does plan (call.Claim c node) c (c + 1) (record { whole = c + 1; is = refl; cut = sym (cut_same (c + 1) low); all = λ none. refl }))
     (λ there none. tt) (λ fill. absurd fill)
-    (subst (λ v. MayTell plan (call.Claim c node_key) v (λ n w. (w ≡ after_claimed_row (n == c) c c node_key p.view) × IsInside plan w)) (sym is) (claim_tells plan c node_key p.view))
+    (subst (λ v. MayTell plan (call.Claim c node) v (λ n w. (w ≡ after_claimed_row (n == c) c c node p.view) × IsInside plan w)) (sym is) (claim_tells plan c node p.view))
     (λ n word. nothing refl tt (λ some d flags. absurd flags)) id t h homes here small in
     (x.0, x.1, x.2, x.3, ((x.4.0.0, x.4.0.1, fresh), x.4.1, x.4.2))
   where

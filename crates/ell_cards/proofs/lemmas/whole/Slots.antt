@@ -2,6 +2,7 @@ use Rattle.std.proofs.Common.{◌≡◌, ◌≢◌, ℕ, ◌+◌, ◌*◌, ◌%�
 use Rattle.std.proofs.lemmas.Option.{same_Some}
 use Rattle.std.proofs.lemmas.Bool.{cases_eq}
 use Rattle.std.proofs.lemmas.Bool.Decides.{nat_tests}
+use Rattle.ell_word.specs.Node.{turn_size}
 use mathlib.Core.Option.{some}
 use lib.ListN.{get_elem?}
 use Rattle.ell_layout.specs.Words.{put}
@@ -37,7 +38,7 @@ pub taken_bits : (turn : ℕ) → taken_word turn % 8 ≢ 0
 taken_bits turn e = omega arith
 
 -- a card lies in its slot
-pub card_lies : (slot n : ℕ) → slot < 67108864 → slot_of (card_by slot n) ≡ slot
+pub card_lies : (slot n : ℕ) → slot < turn_size → slot_of (card_by slot n) ≡ slot
 card_lies slot n low = omega arith
 
 -- a word sets its slot free if it has all bits, and else not
@@ -358,7 +359,7 @@ module _ (s : Slots) (lie : ℕ → ℕ) (words : List ℕ) (lies : LieInSlots s
   -- it is of the same turn
   pub lie_noted : (n : ℕ) → get_or words (slot_word s slot) 0 % 8 ≢ 0 → turn_in n ≡ turn_in (get_or words (slot_word s slot) 0) → LieInSlots s (set words (slot_word s slot) n) lie
   lie_noted n taken turn =
-      lie_turned n lie (λ other apart. refl) (λ inside still. lies slot inside taken ∙ ap (λ x. 67108864 * x + slot) (sym turn))
+      lie_turned n lie (λ other apart. refl) (λ inside still. lies slot inside taken ∙ ap (λ x. turn_size * x + slot) (sym turn))
 
   -- another card takes the slot
   pub lie_taken : (c : ℕ) → slot_of c ≡ slot → LieInSlots s (set words (slot_word s slot) (taken_word (turn_of c))) (put lie slot c)

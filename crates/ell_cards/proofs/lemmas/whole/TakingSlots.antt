@@ -1,7 +1,8 @@
 -- A pass takes the slot of its card in hand, which was set free with a stamp below the pass's safe number.
-use Rattle.std.proofs.Common.{◌≡◌, ◌≢◌, ℕ, ◌*◌, ◌%◌, ◌<◌, ◌≤◌, ◌==◌, if◌then◌else◌, Bool, true, false, Some, None, length, get_or, inl, inr, ◌⊎◌, refl, sym, ap, ◌∙◌, subst, arith, eq-eqb, ne_eqb, get_or-set_other, set, ◌+◌}
+use Rattle.std.proofs.Common.{◌≡◌, ◌≢◌, ℕ, ◌%◌, ◌<◌, ◌≤◌, ◌==◌, if◌then◌else◌, Bool, true, false, Some, None, length, get_or, inl, inr, ◌⊎◌, refl, sym, ap, ◌∙◌, subst, arith, eq-eqb, ne_eqb, get_or-set_other, set, ◌+◌}
 use Rattle.std.proofs.lemmas.Bool.{cases_eq, eqb-false, false≢true}
 use Rattle.std.proofs.lemmas.Option.{same_Some}
+use Rattle.ell_word.specs.Node.{turn_size}
 use mathlib.Core.Option.{some}
 use lib.ListN.{get_elem?}
 use prog.Atomic.{either}
@@ -90,7 +91,7 @@ module _ (plan : TablePlan) (s : Slots) (tree : TableState) (t : WholeState) (id
       few_misses s t.words takings.taken (after_missing c found k.period) (missed_now takings.taken m (other takings.taken m))
 
   -- it takes the slot, if that was set free with a stamp below the pass's safe number
-  pub takes_now : k.period.lost ≡ None → s.last < 67108864 → (n : ℕ) → get_or t.words (slot_word s (slot_of c)) 0 ≡ n → n % 8 ≡ 0 → stamp_in n < k.period.safe
+  pub takes_now : k.period.lost ≡ None → s.last < turn_size → (n : ℕ) → get_or t.words (slot_word s (slot_of c)) 0 ≡ n → n % 8 ≡ 0 → stamp_in n < k.period.safe
       → GoesTo plan s tree t h (turned_to t id k (after_taking c k.period) (slot_word s (slot_of c)) (taken_word (turn_of c)))
   takes_now unlost low n is free safe =
       let full : found % 8 ≡ 0 = ap (λ m. m % 8) is ∙ free in
@@ -155,7 +156,7 @@ module _ (plan : TablePlan) (s : Slots) (placed : plan.slots ≡ Some s) (k : Kn
       ))
 
   -- it takes the slot, if the word is as it was
-  pub takes_slot : k.period.lost ≡ None → s.last < 67108864 → (n : ℕ) → n % 8 ≡ 0 → stamp_in n < k.period.safe
+  pub takes_slot : k.period.lost ≡ None → s.last < turn_size → (n : ℕ) → n % 8 ≡ 0 → stamp_in n < k.period.safe
       → ((r : SlotRead) → k.period.sought.found ≡ Some r → r.slot ≡ slot_of c → r.word ≡ n)
       → MayGoOn plan k (slot_word s (slot_of c)) (λ m. either (m == n) (taken_word (turn_of c)) m) (λ m p. (p ≡ (if m == n then after_taking c k.period else after_missing c m k.period)) × ((m == n) ≡ false → FewMissed p))
   takes_slot unlost low n free safe found =
@@ -205,7 +206,7 @@ module _ (plan : TablePlan) (s : Slots) (placed : plan.slots ≡ Some s) (k : Kn
       let x = may id t h homes here small in
       (x.0, x.1, x.2, x.3, ((λ d has. x.4.0.0 ∙ ap (λ e. after_own e (get_or t.words word 0) k.period) (one d has), λ none. few_in x.0.period (x.4.0.1 none)), x.4.1, x.4.2))
 
-  pub takes_any : k.period.lost ≡ None → s.last < 67108864 → (n word turn : ℕ) → n % 8 ≡ 0 → stamp_in n < k.period.safe
+  pub takes_any : k.period.lost ≡ None → s.last < turn_size → (n word turn : ℕ) → n % 8 ≡ 0 → stamp_in n < k.period.safe
       → ((r : SlotRead) → k.period.sought.found ≡ Some r → r.slot ≡ slot_of c → r.word ≡ n) → word ≡ slot_word s (slot_of c) → turn ≡ turn_of c
       → MayGoOn plan k word (λ m. either (m == n) (taken_word turn) m)
       (λ m p. ((d : ℕ) → k.tree.worker.card ≡ Some d → p ≡ (if m == n then after_taking d k.period else after_missing d m k.period))

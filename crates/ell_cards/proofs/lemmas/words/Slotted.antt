@@ -1,22 +1,22 @@
 -- What it is for a number to have a slot.
-use Rattle.std.proofs.Common.{◌≡◌, ◌≢◌, ℕ, ◌*◌, ◌%◌, ◌≤◌, ◌⊎◌, true, inl, inr, arith}
+use Rattle.std.proofs.Common.{◌≡◌, ◌≢◌, ℕ, ◌%◌, ◌≤◌, ◌⊎◌, true, inl, inr, arith}
 use Rattle.std.proofs.lemmas.Bool.Decides.{nat_tests}
 use Rattle.std.proofs.lemmas.Bool.{cases_eq}
-use Rattle.ell_cards.specs.SlotWords.{card_by, has_slot_in, slot_of, turn_of, taken_word}
+use Rattle.ell_cards.specs.SlotWords.{card_by, has_slot_in, slot_of, turn_of, taken_word, turns_told_apart}
 
 -- its slot is one of the table
 pub slot_inside : (last c : ℕ) → has_slot_in last c ≡ true → slot_of c ≤ last
 slot_inside last c has = grind (arith, nat_tests)
 
 -- a turn that is the first one, or that child words tell from it
-pub turn_apart : (last c : ℕ) → has_slot_in last c ≡ true → turn_of c % 1024 ≡ 0 → turn_of c ≡ 0
+pub turn_apart : (last c : ℕ) → has_slot_in last c ≡ true → turn_of c % turns_told_apart ≡ 0 → turn_of c ≡ 0
 turn_apart last c has low = grind (arith, nat_tests)
 
 -- and where both are so, the number has a slot
-pub has_slot_by : (last c : ℕ) → slot_of c ≤ last → (turn_of c % 1024 ≡ 0 → turn_of c ≡ 0) → has_slot_in last c ≡ true
-has_slot_by last c inside apart = by (cases_eq (turn_of c % 1024) 0)
+pub has_slot_by : (last c : ℕ) → slot_of c ≤ last → (turn_of c % turns_told_apart ≡ 0 → turn_of c ≡ 0) → has_slot_in last c ≡ true
+has_slot_by last c inside apart = by (cases_eq (turn_of c % turns_told_apart) 0)
   where
-    by : (turn_of c % 1024 ≡ 0) ⊎ (turn_of c % 1024 ≢ 0) → has_slot_in last c ≡ true
+    by : (turn_of c % turns_told_apart ≡ 0) ⊎ (turn_of c % turns_told_apart ≢ 0) → has_slot_in last c ≡ true
     by (inl low) = (let first = apart low in grind (arith, nat_tests))
     by (inr other) = grind (arith, nat_tests)
 

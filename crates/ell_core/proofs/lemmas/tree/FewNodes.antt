@@ -9,11 +9,11 @@ use Rattle.std.specs.Map.{keys_of}
 use Rattle.ell_ops.specs.Meaning.{greatest_key}
 use Rattle.ell_word.specs.Node.{IsInternal, right_leaf}
 use Rattle.ell_layout.specs.Words.{Words, IsLeaf}
-use Rattle.ell_core.specs.tree.Tree.{Below, Reached, IsLawful, ListsKeys, ListsTreePairs}
+use Rattle.ell_core.specs.tree.Tree.{Below, Reached, IsLawful, ListsTreePairs}
 use Rattle.ell_core.specs.tree.Room.{HasRoom}
 use Rattle.ell_core.specs.tree.Rank.{rank}
 use Rattle.ell_core.proofs.lemmas.tree.FewKeys.{inner_cards, inner_cards-none, inner_cards-inner, inner_cards-leaf, inner_cards-length, first_apart, no_longer}
-use Rattle.ell_core.proofs.lemmas.tree.Nodes.{nodes_below, nodes_below-none, nodes_below-leaf, nodes_below-inner, nodes_below-only, nodes_below-all, nodes_below-apart, fuel_for, ranks_inside}
+use Rattle.ell_core.proofs.lemmas.tree.Nodes.{nodes_below, nodes_below-leaf, nodes_below-inner, nodes_below-only, nodes_below-all, nodes_below-apart, fuel_for, ranks_inside}
 use Rattle.ell_core.proofs.lemmas.tree.Pairs.{Contains-none, Contains-first, Contains-later, Contains-cons_cases, Contains-from_list_any, AllPairs-none, AllPairs-cons}
 use Rattle.ell_core.proofs.lemmas.tree.Paths.{internal_or_leaf, Below-refl, Below-cases, Below-leaf, Reached-child}
 use Rattle.ell_core.proofs.lemmas.tree.RealPairs.{inner, real, infinite, kind_of, real_pairs, real_pairs-none, real_pairs-inner, real_pairs-real, real_pairs-infinite, ListsTreePairs-all, ListsKeys-of_pairs}

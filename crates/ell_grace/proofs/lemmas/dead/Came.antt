@@ -1,12 +1,12 @@
 -- What came into the tree is in it, or was taken out, or nobody uses it.
-use Rattle.std.proofs.Common.{◌≡◌, ◌≢◌, ℕ, ◌+◌, ◌*◌, ◌%◌, ◌/◌, ◌⊎◌, inl, inr, true, false, sym, ◌∙◌, subst, arith}
+use Rattle.std.proofs.Common.{◌≡◌, ◌≢◌, ℕ, ◌%◌, ◌/◌, ◌⊎◌, inl, inr, false, sym, ◌∙◌, subst, arith}
 use Rattle.std.proofs.lemmas.Bool.{cases_Bool, cases_eq, false≢true}
 use Rattle.ell_word.specs.Node.{IsInternal, card}
 use Rattle.ell_layout.specs.Words.{Words, IsLeaf}
 use Rattle.ell_layout.specs.Cards.{keeps_below, marked}
 use Rattle.ell_core.specs.state.Machine.{Machine}
 use Rattle.ell_core.specs.tree.Tree.{Reached}
-use Rattle.ell_core.specs.history.Stages.{Stage, Stages, DMarked, Born, is_start, is_changed, is_cut}
+use Rattle.ell_core.specs.history.Stages.{Stages, Born, is_start, is_changed}
 use Rattle.ell_grace.specs.Gone.{TakesOut}
 use Rattle.ell_grace.specs.Dead.{IsUnused, HasUses, IsInOrOut, WhatCameIsInOrOut}
 use Rattle.ell_core.proofs.lemmas.tree.Paths.{Reached-child}

@@ -9,11 +9,10 @@ use Rattle.ell_core.specs.declared.event.Act.{Act}
 use Rattle.ell_core.specs.declared.event.Act.TheVariants as act
 use Rattle.ell_core.specs.declared.event.Stepped.{Stepped}
 use Rattle.ell_layout.specs.Words.{Words, IsLeaf, is_flat}
-use Rattle.ell_layout.specs.Cards.{is_replace_card, keeps_below, stays_below, brought, brought_by, sibling, iflag, dflag, marked}
+use Rattle.ell_layout.specs.Cards.{is_replace_card, keeps_below, stays_below, brought, sibling}
 use Rattle.ell_core.specs.state.Machine.{Machine, Scene, scene, with_scene}
 use Rattle.ell_core.specs.acts.Events.{Row}
 use Rattle.ell_core.specs.acts.Wins.{win_for, wins_by}
-use Rattle.ell_core.specs.tree.Tree.{Reached}
 use Rattle.ell_core.specs.tree.Rank.{rank}
 use Rattle.ell_core.specs.history.Stages.{Stage, Stages, IFlagged, DMarked, Born, is_start, is_insert, is_delete, is_born, is_node_born, is_changed, is_cut}
 use Rattle.ell_core.specs.history.Invariant.{leaf_side, insert_side, delete_side, Invariant}
@@ -27,7 +26,7 @@ use Rattle.ell_core.proofs.lemmas.stages.Sums.{child_changes, sum_append, sum_by
 use Rattle.ell_core.proofs.lemmas.following.Children.{row_children}
 use Rattle.ell_core.proofs.lemmas.stages.Below.{goes-leaf, keeps-two, keeps-stays, keeps_later}
 use Rattle.ell_core.proofs.lemmas.keeping.insert_child.Nodes.{leaf_on, child_is, its_keys, below_child}
-use Rattle.ell_core.proofs.lemmas.keeping.insert_child.Card.{ichild_words, its_card, its_flag, its_child, parent_in, not_born}
+use Rattle.ell_core.proofs.lemmas.keeping.insert_child.Card.{ichild_words, its_card, its_child, parent_in, not_born}
 use Rattle.ell_core.proofs.lemmas.keeping.insert_child.IChild.{won_waiting}
 use Rattle.ell_core.proofs.lemmas.keeping.delete_child.DChild.{dchild-won}
 use Rattle.ell_core.proofs.lemmas.keeping.delete_child.Tree.{cut_words, CutsAt, cuts_at}

@@ -116,8 +116,10 @@ module _ (m : Machine) (stage : Stages) (i : ℕ) (c : ℕ) (said : Stepped) (be
 
   -- the leaf is what it has taken
   pub i_leaf : (d x : ℕ) → d ≡ c → TakesOut becomes.words follows.stages d x → (m.words.l c ≡ x) × (keeps_below m.words c ≡ false)
-  i_leaf d x e (inl h) = (sym (follows.words.info c i_low).l ∙ (ap becomes.words.l (sym e) ∙ h.2),
-      sym (keeps_later m.words becomes.words follows.words c i_low) ∙ (ap (keeps_below becomes.words) (sym e) ∙ h.1))
+  i_leaf d x e (inl h) = (
+    sym (follows.words.info c i_low).l ∙ (ap becomes.words.l (sym e) ∙ h.2),
+    sym (keeps_later m.words becomes.words follows.words c i_low) ∙ (ap (keeps_below becomes.words) (sym e) ∙ h.1),
+  )
   i_leaf d x e (inr h) = absurd (one_kind (follows.stages c) i_insert (cut-delete (follows.stages c) (subst (λ n. is_cut (follows.stages n) ≡ true) e h.0)))
 
   -- a node with another word has its children

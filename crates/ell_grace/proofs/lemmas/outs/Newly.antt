@@ -1,4 +1,4 @@
-use Rattle.std.proofs.Common.{◌≡◌, ◌≢◌, ℕ, ◌<◌, if◌then◌else◌, inl, inr, Bool, true, Some, List, [], ◌∷◌, sym, ap, ◌∙◌, subst, arith}
+use Rattle.std.proofs.Common.{◌≡◌, ◌≢◌, ℕ, ◌<◌, if◌then◌else◌, inl, inr, Bool, true, Some, List, [], ◌∷◌, sym, ap, ◌∙◌, arith}
 use Rattle.std.proofs.lemmas.Bool.{cases_eq, ne_eqb}
 use Rattle.ell_core.specs.declared.exchange.Exchange.{Exchange}
 use Rattle.ell_core.specs.declared.event.Act.{Act}

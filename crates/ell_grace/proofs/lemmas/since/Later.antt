@@ -1,4 +1,4 @@
-use Rattle.std.proofs.Common.{ℕ, inl, inr, sym, ◌∙◌, subst}
+use Rattle.std.proofs.Common.{ℕ, inl, inr, ◌∙◌}
 use Rattle.ell_core.specs.declared.fact.Fact.TheVariants as fact
 use Rattle.ell_layout.specs.Words.{Words}
 use Rattle.ell_core.specs.state.Machine.{Machine}

@@ -6,7 +6,7 @@ use Rattle.ell_trie.proofs.lemmas.order.Bounds.{side_within}
 use Rattle.ell_trie.specs.Halves.{InHalfOf, InsideOf}
 use Rattle.ell_trie.specs.Ranks.{rank_of}
 use Rattle.ell_trie.specs.Tries.{Opening, IsTrie}
-use Rattle.ell_trie.specs.Links.{Links, EdgeInsert, BornWith, InsertKeeps, LinksKeep, EdgeInsertsKeep}
+use Rattle.ell_trie.specs.Links.{Links, InsertAbove, BornWith, InsertKeeps, LinksKeep, InsertsKeep}
 use Rattle.ell_trie.proofs.lemmas.Middles.{side_half, inside_middle, branch_halves, branch_inside, apart_inside}
 use Rattle.ell_trie.proofs.lemmas.Paths.{is_branch, spans_born, in_order}
 use Rattle.ell_trie.proofs.lemmas.Courses.{courses_tell}
@@ -41,10 +41,10 @@ pub links_keep : LinksKeep
 links_keep born holds o key child after top p s x q t n k trie ordered link =
     record { keeps = link_keeps trie ordered.1 link; reached = reached_after trie link }
 
--- an edge insert is a link
+-- an insert is a link
 module _ {Born : ℕ → Type 0} {o : Opening} {key : ℕ → ℕ} {child after : ℕ → Bool → ℕ} {top p : ℕ} {s : Bool} {x q : ℕ} {t : Bool} {n k : ℕ}
     (trie : IsTrie Born o key child) {rank : ℕ → ℕ} (ordered : IsOrdered key child top rank)
-    (at : EdgeInsert Born o key child after top p s x q t n k) where
+    (at : InsertAbove Born o key child after top p s x q t n k) where
   born_p : Born p
   born_p = spans_born trie at.there.spans
 
@@ -77,6 +77,6 @@ module _ {Born : ℕ → Type 0} {o : Opening} {key : ℕ → ℕ} {child after 
         fits = λ plain. branch_inside t at.parts (x_half plain) (side_half (at.inside plain) at.toward);
       }
 
-pub edge_inserts_keep : EdgeInsertsKeep
-edge_inserts_keep born holds o key child after top p s x q t n k trie ordered at =
+pub inserts_keep : InsertsKeep
+inserts_keep born holds o key child after top p s x q t n k trie ordered at =
     links_keep born holds o key child after top p s x q t n k trie ordered (its_link trie ordered.1 at)

@@ -9,7 +9,7 @@ exchange_child-requires-clause-link g c = record {
   tag = c.names.ensures.tags c.args.card c.args.parent.tag c.requires.may.expects;
 }
 
--- and the sibling is a node of 43 bits
+-- and the sibling is a node of 38 bits
 pub exchange_child-requires-clause-fits : goal.exchange_child-requires-clause-fits
 exchange_child-requires-clause-fits g c none = elim c.requires.may.sibling [
   | inl told ↦ c.names.ensures.short.frozen c.args.card true c.args.sibling told.0

@@ -2,16 +2,16 @@ use Rattle.std.proofs.Common.{◌≡◌, ℕ, ◌%◌, ◌==◌, ◌||◌, ◌<�
 use Rattle.std.proofs.lemmas.Bool.{lt-ltb}
 use Rattle.ell_word.specs.Node.{IsInternal, IsNode, card, internal, left_leaf, right_leaf}
 use Rattle.ell_block.specs.Blocks.{IsBranchOf, InBlockOf}
-use Rattle.ell_layout.specs.Words.{Words, has_block, is_flat}
+use Rattle.ell_layout.specs.Words.{Words, has_block}
 use Rattle.ell_layout.specs.Cards.{is_replace_card}
 use Rattle.ell_trie.specs.Ranges.{root, goes, IsOrdered}
 use Rattle.ell_trie.specs.Halves.{IsBranchBeside}
 use Rattle.ell_trie.specs.Tries.{Opening, IsTrie}
-use Rattle.ell_trie.specs.Links.{EdgeInsert, BornWith, InsertKeeps}
+use Rattle.ell_trie.specs.Links.{InsertAbove, BornWith, InsertKeeps}
 use Rattle.ell_trie.proofs.lemmas.Paths.{rank_rises, same_born}
 use Rattle.ell_trie.proofs.lemmas.links.Laws.{its_link, link_keeps}
 use Rattle.ell_trie.proofs.lemmas.links.Ranges.{reached_after}
-use Rattle.ell_core.specs.tree.Flat.{opening_from, IsInBlock}
+use Rattle.ell_core.specs.tree.Flat.{opening_from}
 use Rattle.ell_core.specs.tree.Rank.{rank}
 use Rattle.ell_core.specs.history.Stages.{Stages, IFlagged, IChanged, insert_waits, Born}
 use Rattle.ell_core.specs.history.Invariant.{top, IsIn, insert_key, insert_value, insert_side, InsertCard, WordsAreSound}
@@ -188,7 +188,7 @@ module _ (w : Words) (stage : Stages) (sound : WordsAreSound w stage) (c : ℕ) 
       | inr outer ↦ leaf_block w.flat_from (w.l c) some outer
     ]
 
-    at_edge : EdgeInsert (Born stage) o w.key w.child node_words.child top (w.p c) (insert_side w c) (w.l c) (internal c) half new_leaf (insert_key w c)
+    at_edge : InsertAbove (Born stage) o w.key w.child node_words.child top (w.p c) (insert_side w c) (w.l c) (internal c) half new_leaf (insert_key w c)
     at_edge = record {
       shape = record {
         relinks = its_relinks w stage sound c flagged (internal c);

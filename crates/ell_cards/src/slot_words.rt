@@ -1,0 +1,148 @@
+//! The words of slots, and which slot a card has, at which turn: a slot's word in use has the turn of its card and the
+//! nodes of that which are not known to be dead, and a free slot's word the stamp with which it was set free.
+ghost use Rattle.std.specs.Prelude.{◌==◌, ◌≡◌, ◌+◌, ◌*◌, ◌<◌, ◌≤◌, ◌%◌, ◌||◌, nat_le, ℕ, true};
+ghost use Rattle.ell_word.specs.Node.{card, greatest_card, greatest_number, turn_size};
+ghost use Rattle.ell_cards.specs.Periods.{clock_word, has_slot, slot_word, spread};
+ghost use Rattle.ell_cards.specs.Seeking.{could_take, is_done};
+ghost use Rattle.ell_cards.specs.SlotWords.{has_slot_in, has_slots, slot_of, stamp_in, turn_in, turn_of};
+
+use crate::card_nodes::CardNodes;
+use crate::view::Slots;
+use ell_word::TURN_SIZE;
+
+/// How many turns child words tell apart: of two turns that are a multiple of this apart, they hold the same.
+const TURNS_TOLD_APART: u64 = 1_024;
+
+/// How many slots are left to deletes: the last ones of the table, which a pass takes for no other change.
+const LEFT_TO_DELETES: u64 = 2;
+
+/// The word of a slot that is free from the start, with the stamp 0.
+pub(crate) const FREE_FROM_START: u64 = 0;
+
+/// The word of a slot that is in use from the start.
+pub(crate) const USED_FROM_START: u64 = 7;
+
+/// Returns the slot in which a card lies.
+#[inline(always)]
+pub(crate) fn slot_of(card: u64) -> u64
+    ensures { result ≡ slot_of card }
+{
+    card % TURN_SIZE
+}
+
+/// Returns the turn at which a card lies in its slot.
+#[inline(always)]
+pub(crate) fn turn_of(card: u64) -> u64
+    ensures { result ≡ turn_of card }
+{
+    card / TURN_SIZE
+}
+
+// Returns whether a turn is the first one, or one that child words tell from the first: only such a turn has slots.
+#[inline(always)]
+fn has_slots(turn: u64) -> bool
+    ensures { result ≡ has_slots turn }
+{
+    turn == 0 || turn % TURNS_TOLD_APART != 0
+}
+
+// Returns the turn of the card in a slot in use, by the slot's word.
+#[inline(always)]
+fn turn_in(word: u64) -> u64
+    ensures { result ≡ turn_in word }
+{
+    word / 8
+}
+
+// Returns the stamp with which a slot was set free, by the word of a free slot.
+#[inline(always)]
+fn stamp_in(word: u64) -> u64
+    ensures { result ≡ stamp_in word }
+{
+    word / 8
+}
+
+/// Returns whether by the word of a card's slot none of these nodes of the card is left to be noted.
+#[inline(always)]
+pub(crate) fn is_done(taken_out: bool, card: u64, nodes: CardNodes, word: u64) -> bool
+    ensures { result ≡ is_done taken_out card nodes word }
+{
+    nodes.are_noted(word) || (!taken_out && turn_in(word) != turn_of(card))
+}
+
+/// Returns whether a slot was set free with a stamp below a safe number, by the slot's word.
+#[inline(always)]
+pub(crate) fn is_free_before(word: u64, safe: u64) -> bool
+    ensures { result ≡ could_take word safe }
+{
+    word % 8 == 0 && stamp_in(word) < safe
+}
+
+// Returns where a slot has its word among those of the slots. Passes that claim cards one after the other take slots
+// that come one after the other, whose words stand eight words apart, so that they are not in one line of the cache.
+#[inline(always)]
+fn spread(slot: u64) -> u64
+    ensures { result ≡ spread slot }
+{
+    64 * (slot / 64) + 8 * (slot % 8) + slot / 8 % 8
+}
+
+impl Slots {
+    /// Returns how many numbers that have slots a pass goes by until it looks at all places again: few enough that the
+    /// clock goes on several times while each slot is passed once, and at most 128, so that a look at a place is
+    /// seldom.
+    #[inline(always)]
+    pub(crate) fn numbers_per_look(self) -> u64 {
+        (self.last / 8).clamp(1, 128)
+    }
+
+    /// Returns whether a slot is for each change, as all are but the last ones, which are left to deletes.
+    #[inline(always)]
+    pub(crate) fn is_for_all(self, slot: u64) -> bool
+        requires slot { slot < turn_size }
+        ensures { result ≡ nat_le (slot + 2) self.last }
+    {
+        slot + LEFT_TO_DELETES <= self.last
+    }
+
+    /// Returns whether a card has a slot: it is one of the table, and the card's turn is the first one, or one that
+    /// child words tell from the first.
+    #[inline(always)]
+    pub(crate) fn has_slot(self, card: u64) -> bool
+        ensures has { result ≡ has_slot_in self.last card }
+        ensures inside { result ≡ true → slot_of card ≤ self.last }
+    {
+        slot_of(card) <= self.last && has_slots(turn_of(card))
+    }
+
+    /// Returns the least number of a card that has a slot, from this card on: the first one of the next turn that has
+    /// slots, if the card has none.
+    #[inline(always)]
+    pub(crate) fn next_with_slot(self, card: u64) -> u64
+        requires { card ≤ greatest_number + 1 }
+        ensures from { card ≤ result }
+        ensures slot { has_slot_in self.last result ≡ true }
+        ensures first { (c : ℕ) → card ≤ c → has_slot_in self.last c ≡ true → result ≤ c }
+    {
+        if self.has_slot(card) {
+            return card;
+        }
+        let next = turn_of(card) + 1;
+        if has_slots(next) {
+            TURN_SIZE * next
+        } else {
+            TURN_SIZE * (next + 1)
+        }
+    }
+
+    /// Returns the address of the word of a slot: behind the places.
+    #[inline(always)]
+    pub(crate) fn slot_word(self, slot: u64) -> usize
+        requires last { self.last ≤ greatest_card }
+        requires few { self.places ≤ greatest_card }
+        requires slot { slot ≤ self.last }
+        ensures { result ≡ slot_word self slot }
+    {
+        self.clock_word() + 9 + 8 * self.places as usize + spread(slot) as usize
+    }
+}
