@@ -326,7 +326,7 @@ static uint64_t steps_since(struct elltree_handle *h, uint64_t before) {
 }
 
 /* Start keys are balanced: a search takes a step to begin, two for each of twelve or thirteen inner nodes, and two or three for the leaf, the key
-   behind another at most twice as many, and a range six a key. No start key takes a step. */
+   behind another at most twice as many, and a range six a key, beside 30 for its ends. No start key takes a step. */
 static long balanced(void) {
     enum { EVEN = 4096 };
     static struct elltree_pair pairs[EVEN];
@@ -348,6 +348,10 @@ static long balanced(void) {
     wrong += elltree_next_at_least(&h, 0, &key, &value) != ELLTREE_YES || key != 0 || steps_since(&h, before) > 30;
     before = steps_since(&h, 0);
     wrong += elltree_range(&h, 0, UINT64_MAX, pairs, EVEN, &count, &at) != ELLTREE_YES || count != EVEN || steps_since(&h, before) > 6 * EVEN;
+    before = steps_since(&h, 0);
+    wrong += elltree_range(&h, 0, 6144, pairs, EVEN, &count, &at) != ELLTREE_YES || count != 2048 || steps_since(&h, before) > 6 * 2048 + 30;
+    before = steps_since(&h, 0);
+    wrong += elltree_range(&h, 6000, UINT64_MAX, pairs, 10, &count, &at) != ELLTREE_YES || count != 10 || steps_since(&h, before) > 6 * 10 + 30;
     return wrong + (elltree_free(&h) != ELLTREE_YES);
 }
 

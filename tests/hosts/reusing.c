@@ -423,9 +423,10 @@ static long made_and_freed(uint64_t cards) {
 }
 
 int main(void) {
-    const long wrong = as_many_as_asked_for() + many_in_a_row() + all_filled_and_emptied() + alone(30, KEYS, CHANGES) + alone(1000, KEYS, CHANGES) +
-                       alone(9, 2, CHANGES_BEYOND) + together(64) + together(1000) + none_is_lost() + made_and_freed(64) +
-                       beside_one_that_is_stopped(100) + beside_one_that_rests();
+    long wrong = as_many_as_asked_for() + many_in_a_row();
+    if (!wrong) /* else threads would wait for room for a handle for ever */
+        wrong = all_filled_and_emptied() + alone(30, KEYS, CHANGES) + alone(1000, KEYS, CHANGES) + alone(9, 2, CHANGES_BEYOND) + together(64) +
+                together(1000) + none_is_lost() + made_and_freed(64) + beside_one_that_is_stopped(100) + beside_one_that_rests();
     printf("%ld wrong\n", wrong);
     return wrong != 0;
 }

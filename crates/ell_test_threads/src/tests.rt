@@ -1,8 +1,7 @@
 //! Calls on shared keys that a gate holds, or has begin at once; owners beside shared keys; flat trees; and scans, which
 //! are held too, and whose steps are counted. Trees and runs on one thread, on two and more that a gate holds, and by up to
-//! 64 workers; safe numbers of the table; and streams that fail.
+//! 64 workers; and safe numbers of the table.
 mod calling;
-mod counting;
 mod edges;
 mod holding;
 mod neighbors;
@@ -11,7 +10,6 @@ mod racing;
 mod returning;
 mod runs;
 mod scanning;
-mod streams;
 mod swapping;
 mod table;
 mod telling;

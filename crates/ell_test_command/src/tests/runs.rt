@@ -1,5 +1,9 @@
-//! Runs and replays, over writers that fail. `tests/texts` has many more texts.
-use super::endings::{FIVE_BYTES, UNFLUSHED, WIDE, ends_into, run_into};
+//! Runs and replays over a writer that cannot be flushed. `tests/texts` has many more texts, and `tests/refusals` writers that
+//! take no more.
+use super::streams::Unflushed;
+use ell_command::elltree;
+use std::process::Abort;
+use std::thread::Threads;
 
 const VALUES: &str = "version 2\nstart 3 33\ninsert 7 70\nfind 7\ndelete 3\nfind 3\n";
 
@@ -9,53 +13,32 @@ const REPLAY: &str = "workers 1\ncards 1\nown 0 5\n0 begin find 5\n0 upd\n0 clai
 
 const TRACE: &str = "moved\nmoved\nrefused NotNow\nkeys 0\n";
 
-// The words of a command, a text, and the line that standard error gets where standard output has room for five bytes.
-static LINES_TOLD: [(&str, &str, &str); 7] = [
-    ("run", "walk 5\n", "elltree: line 1: not an operation\n"),
-    ("run", "insert 007\n", "elltree: line 1: not a key\n"),
-    ("run", VALUES, "elltree: write failed after 5 bytes\n"),
-    ("replay", "workers 2\n", "elltree: replay ends too early\n"),
-    (
-        "replay",
-        "workers 2\ncards 0\n",
-        "elltree: line 2: not a number in range\n",
-    ),
-    (
-        "replay",
-        "workers 2\ncards 4\nown 2 5\n",
-        "elltree: no such worker\n",
-    ),
-    ("replay", REPLAY, "elltree: write failed after 5 bytes\n"),
-];
-
-#[test]
-fn a_line_on_standard_error_is_one_write(rt: HostRuntime) {
-    for (row, (words, text, line)) in LINES_TOLD.iter().enumerate() {
-        let ended = run_into(&rt, words, text, FIVE_BYTES);
-        assert!(rt; ended.err.has_in_one_write(line), "row {row}");
-    }
-    let ended = run_into(&rt, "run --report", VALUES, WIDE);
-    assert!(rt; ended.status == 0 && ended.err.has_in_one_write("late 0\n"));
-}
-
 // The words of a command, a text, its answer, and what stands on standard error at the end.
-static UNFLUSHED_ENDS: [(&str, &str, &str, &str); 3] = [
-    ("run", VALUES, VALUES_ANSWER, "elltree: write failed\n"),
+type End<'a> = (&'a [&'static str], &'a str, &'a str, &'a str);
+
+static UNFLUSHED_ENDS: [End<'static>; 3] = [
+    (&["run"], VALUES, VALUES_ANSWER, "elltree: write failed\n"),
     (
-        "run --report",
+        &["run", "--report"],
         VALUES,
         VALUES_ANSWER,
         "late 0\nelltree: write failed\n",
     ),
-    ("replay", REPLAY, TRACE, "elltree: write failed\n"),
+    (&["replay"], REPLAY, TRACE, "elltree: write failed\n"),
 ];
+
+// Whether the program ends so where standard output cannot be flushed.
+fn ends<R: Threads + Sync + Abort + AllocGlobal>(rt: &R, end: &End) -> bool {
+    let (words, text, answer, told) = *end;
+    let (mut out, mut err) = (Unflushed::new(rt.alloc()), Vec::new(rt.alloc()));
+    let mut input = text.as_bytes();
+    let status = elltree(rt, rt.alloc(), words, &mut input, &mut out, &mut err);
+    status == 4 && out.held.as_slice() == answer.as_bytes() && err.as_slice() == told.as_bytes()
+}
 
 #[test]
 fn a_flush_that_fails_ends_the_run_and_the_replay_behind_all_else(rt: HostRuntime) {
-    for (words, text, answer, told) in &UNFLUSHED_ENDS {
-        assert!(rt;
-            ends_into(&rt, words, text, UNFLUSHED, (4, answer, told)),
-            "{words}"
-        );
+    for (row, end) in UNFLUSHED_ENDS.iter().enumerate() {
+        assert!(rt; ends(&rt, end), "row {row}");
     }
 }

@@ -262,30 +262,3 @@ fn a_look_holds_slots_back_until_it_is_ended(rt: HostRuntime) {
         assert!(&rt; 0 < rest_behind(&rt, seeing, false), "nothing is held back");
     }
 }
-
-// How many cards the tree of a pass that is given up is asked for, and how often one is.
-const CARDS: u64 = 24;
-
-const GIVEN_UP: u64 = 60;
-
-// Has a second pass made, and given up, again and again.
-fn part_and_give_up(rt: &impl Abort, tree: &Tree<Global>, pass: Pass<Global>) -> Pass<Global>
-    requires { IsSharer tree.now pass }
-    ensures { IsSharer tree.now result }
-{
-    let mut pass = pass;
-    for _round in 0..GIVEN_UP {
-        let (first, second) = parted(rt, tree, pass, &[], &[]);
-        tree.release(second);
-        pass = first;
-    }
-    pass
-}
-
-#[test]
-fn a_pass_that_is_given_up_makes_room_for_another(rt: HostRuntime) {
-    let (tree, pass) = opened_reusing(&rt, CARDS, 2);
-    let mut pass = part_and_give_up(&rt, &tree, pass);
-    let said = answer(&rt, &tree, &mut pass, &[], Ask(Insert(7, 8)), &NoGate);
-    assert!(&rt; said == Ok(Reply::Yes));
-}

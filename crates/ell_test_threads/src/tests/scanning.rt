@@ -10,7 +10,7 @@ use super::telling::{Sight, opened, tell};
 use ell_ops::Op::{Delete, Insert, Swap};
 use ell_ops::{KEY_MAX, Op};
 use ell_test_gates::Until::{Comes, Ends};
-use ell_test_gates::{Turns, Weaving, two_threads_meet};
+use ell_test_gates::{Counting, Turns, Weaving, two_threads_meet};
 use ell_tree::Exchange::{Claim, DChild, DFlag, DUnflag, IChild, IFlag, IUnflag, Mark};
 use ell_tree::Kind::{self, Begin, Exchange, Fill, Look, Note};
 use ell_tree::{NoGate, Pass, StepGate, Tree};
@@ -74,13 +74,17 @@ fn meet<R: Threads + Abort + AllocGlobal + Sync, G: StepGate + Sync>(
     sight
 }
 
-// How many steps a call takes on a tree with start keys, if nobody changes it.
+// How many steps a call takes on a tree with start keys, if nobody changes it, by the pass and by a gate, which are to
+// agree. `tests/hosts/ranges.c` counts those of calls on many keys.
 fn steps_of(rt: &(impl Abort + AllocGlobal), start: &[(u64, u64)], ask: Ask) -> u64 {
+    let gate = Counting::new(rt.alloc(), 1, NoGate).expect(rt, "memory");
     let (tree, mut pass) = opened(rt, start, 100);
     let before = pass.steps();
-    let sight = tell(rt, &tree, &mut pass, ask, &NoGate);
+    let sight = tell(rt, &tree, &mut pass, ask, &gate);
+    let steps = pass.steps().saturating_sub(before);
     assert!(rt; sight.is_in_order());
-    pass.steps().saturating_sub(before)
+    assert!(rt; gate.tally(0).steps == steps && gate.count(0, Look) == steps);
+    steps
 }
 
 // Keys below this one are told of.
