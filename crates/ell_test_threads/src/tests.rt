@@ -4,14 +4,15 @@
 mod calling;
 mod edges;
 mod holding;
+mod looks;
 mod neighbors;
 mod parting;
 mod racing;
 mod returning;
 mod runs;
 mod scanning;
+mod steps_told;
 mod swapping;
 mod table;
 mod telling;
-mod tree;
 mod updating;

@@ -2,7 +2,6 @@
 //! take no more.
 use super::streams::Unflushed;
 use ell_command::elltree;
-use std::process::Abort;
 use std::thread::Threads;
 
 const VALUES: &str = "version 2\nstart 3 33\ninsert 7 70\nfind 7\ndelete 3\nfind 3\n";
@@ -28,7 +27,7 @@ static UNFLUSHED_ENDS: [End<'static>; 3] = [
 ];
 
 // Whether the program ends so where standard output cannot be flushed.
-fn ends<R: Threads + Sync + Abort + AllocGlobal>(rt: &R, end: &End) -> bool {
+fn ends<R: Threads + Sync + AllocGlobal>(rt: &R, end: &End) -> bool {
     let (words, text, answer, told) = *end;
     let (mut out, mut err) = (Unflushed::new(rt.alloc()), Vec::new(rt.alloc()));
     let mut input = text.as_bytes();

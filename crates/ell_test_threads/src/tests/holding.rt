@@ -17,8 +17,8 @@ use std::thread::{Threads, join};
 /// A call, and what it answers.
 pub type Row = (KeyCall, Reply);
 
-// Makes calls one after the other, each of which is to be answered as its row says.
-fn play<G: StepGate>(
+/// Makes calls one after the other, each of which is to be answered as its row says.
+pub fn play<G: StepGate>(
     rt: &impl Abort,
     tree: &Tree<Global>,
     pass: Pass<Global>,
@@ -38,14 +38,14 @@ fn play<G: StepGate>(
     pass
 }
 
-/// Two workers: worker 0 is held at its first step of a kind, until worker 1 has made its calls. The keys at the start
-/// and at the end, with their values; those that have owners, and those of them that worker 0 owns.
+/// Two workers: worker 0 is held at a step of its calls, until worker 1 has made others. The keys at the start and at the
+/// end, with their values; those that have owners, and those of them that worker 0 owns.
 #[derive(Clone, Copy)]
 pub struct Meeting<'a> {
     pub owned: &'a [u64],
     pub by_zero: &'a [u64],
     pub start: &'a [(u64, u64)],
-    pub held: Row,
+    pub held: &'a [Row],
     pub rows: &'a [Row],
     pub end: &'a [(u64, u64)],
 }
@@ -83,11 +83,11 @@ fn meet_under<R: Threads + Abort + AllocGlobal + Sync, G: StepGate + Sync>(
     gate: &G,
     meeting: Meeting,
 ) {
-    let (owned, held, rows) = (meeting.owned, [meeting.held], meeting.rows);
+    let (owned, held, rows) = (meeting.owned, meeting.held, meeting.rows);
     let (tree, pass) = opened_for(rt, meeting.start, owned, 100);
     let (zero, mut one) = parted(rt, &tree, pass, owned, meeting.by_zero);
     one.relabel(1);
-    let (shared, held) = (&tree, &held);
+    let shared = &tree;
     let (zero, one) = join(
         rt,
         move || play(rt, shared, zero, owned, gate, held),
@@ -96,6 +96,17 @@ fn meet_under<R: Threads + Abort + AllocGlobal + Sync, G: StepGate + Sync>(
     let pass = joined(rt, &tree, owned, zero, one);
     let pairs = close(rt, tree, pass, owned);
     assert!(rt; pairs.as_slice() == meeting.end);
+}
+
+/// Has the two make their calls in turns.
+pub fn meet_in_turns<R: Threads + Abort + AllocGlobal + Sync>(
+    rt: &R,
+    turns: &[WorkerTurn],
+    meeting: Meeting,
+) {
+    let gate = Turns::new(turns);
+    meet_under(rt, &gate, meeting);
+    assert!(rt; gate.are_over());
 }
 
 /// The kinds of the steps of an insert or a swap up to its flag, and of a delete: until then the key may change.
@@ -122,7 +133,7 @@ const BEFORE_ITS_FLAG: Meeting = Meeting {
     owned: &[],
     by_zero: &[],
     start: &[],
-    held: (Ask(Insert(5, 50)), No),
+    held: &[(Ask(Insert(5, 50)), No)],
     rows: &[
         (Ask(Find(5)), No),
         (Ask(Insert(5, 51)), Yes),
@@ -136,7 +147,7 @@ const BEFORE_ITS_FLAG: Meeting = Meeting {
 
 // Its flag stands: a change on the same key makes its exchange for it, and finds the key.
 const BEHIND_ITS_FLAG: Meeting = Meeting {
-    held: (Ask(Insert(5, 50)), Yes),
+    held: &[(Ask(Insert(5, 50)), Yes)],
     rows: &[
         (Ask(Find(5)), No),
         (Ask(Insert(5, 51)), No),
@@ -150,7 +161,7 @@ const BEHIND_ITS_FLAG: Meeting = Meeting {
 
 // Its exchange is made.
 const BEHIND_ITS_EXCHANGE: Meeting = Meeting {
-    held: (Ask(Insert(5, 50)), Yes),
+    held: &[(Ask(Insert(5, 50)), Yes)],
     rows: &[
         (Ask(Find(5)), Found(50)),
         (Ask(Insert(5, 51)), No),
@@ -177,7 +188,7 @@ const BEFORE_ITS_DELETE: Meeting = Meeting {
     owned: &[],
     by_zero: &[],
     start: &[(3, 30), (5, 50), (7, 70)],
-    held: (Ask(Delete(5)), No),
+    held: &[(Ask(Delete(5)), No)],
     rows: &[
         (Ask(Find(5)), Found(50)),
         (Ask(Insert(5, 51)), No),
@@ -192,7 +203,7 @@ const BEFORE_ITS_DELETE: Meeting = Meeting {
 
 // Its flag stands, and its mark too: another delete ends it, and finds no key.
 const BEHIND_ITS_DELETE_FLAG: Meeting = Meeting {
-    held: (Ask(Delete(5)), Yes),
+    held: &[(Ask(Delete(5)), Yes)],
     rows: &[
         (Ask(Find(5)), Found(50)),
         (Ask(Delete(5)), No),
@@ -236,7 +247,7 @@ fn others_go_past_a_delete_of_their_key(rt: HostRuntime) {
 // Between the flag of worker 0 and its mark, worker 1 adds a neighbor at its place: so the mark is lost. Worker 0 is
 // held again before it takes its flag back, and then deletes what it finds.
 static BEHIND_A_LOST_MARK: Meeting = Meeting {
-    held: (Ask(Delete(5)), Yes),
+    held: &[(Ask(Delete(5)), Yes)],
     rows: &[
         (Ask(Insert(6, 60)), Yes),
         (Ask(Find(5)), Found(50)),
@@ -261,10 +272,7 @@ const TURNS: [WorkerTurn; 8] = [
 
 #[test]
 fn others_go_past_a_delete_that_lost_its_mark(rt: HostRuntime) {
-    if !two_threads_meet(&rt) {
-        return;
+    if two_threads_meet(&rt) {
+        meet_in_turns(&rt, &TURNS, BEHIND_A_LOST_MARK);
     }
-    let gate = Turns::new(&TURNS);
-    meet_under(&rt, &gate, BEHIND_A_LOST_MARK);
-    assert!(rt; gate.are_over());
 }

@@ -10,7 +10,7 @@ const OWNER_ADDS: Meeting = Meeting {
     owned: &[5],
     by_zero: &[5],
     start: &[(6, 60)],
-    held: (Ask(Insert(5, 50)), Yes),
+    held: &[(Ask(Insert(5, 50)), Yes)],
     rows: &[
         (Ask(Insert(4, 40)), Yes),
         (Ask(Delete(6)), Yes),
@@ -26,7 +26,7 @@ const OWNER_ADDS: Meeting = Meeting {
 
 const OWNER_DELETES: Meeting = Meeting {
     start: &[(4, 40), (5, 50), (6, 60)],
-    held: (Ask(Delete(5)), Yes),
+    held: &[(Ask(Delete(5)), Yes)],
     rows: &[
         (Ask(Delete(4)), Yes),
         (Ask(Insert(4, 41)), Yes),
@@ -41,28 +41,28 @@ const OWNER_DELETES: Meeting = Meeting {
 
 // So is one that takes its key, or gives it another value: it answers the value that was there.
 const OWNER_TAKES: Meeting = Meeting {
-    held: (Take(5), Found(50)),
+    held: &[(Take(5), Found(50))],
     ..OWNER_DELETES
 };
 
 const OWNER_PUTS: Meeting = Meeting {
-    held: (Put(5, 51), Found(50)),
+    held: &[(Put(5, 51), Found(50))],
     end: &[(5, 51), (6, 61)],
     ..OWNER_DELETES
 };
 
 const OWNER_SWAPS: Meeting = Meeting {
-    held: (Ask(Swap(5, 50, 51)), Found(50)),
+    held: &[(Ask(Swap(5, 50, 51)), Found(50))],
     ..OWNER_PUTS
 };
 
 const OWNER_SUMS: Meeting = Meeting {
-    held: (Add(5, 1), Found(50)),
+    held: &[(Add(5, 1), Found(50))],
     ..OWNER_PUTS
 };
 
 const OWNER_UPDATES: Meeting = Meeting {
-    held: (Update(5), Found(50)),
+    held: &[(Update(5), Found(50))],
     end: &[(5, 151), (6, 61)],
     ..OWNER_PUTS
 };

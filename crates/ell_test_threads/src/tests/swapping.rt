@@ -18,7 +18,7 @@ const BEFORE_ITS_FLAG: Meeting = Meeting {
     owned: &[],
     by_zero: &[],
     start: &[(3, 30), (5, 50), (7, 70)],
-    held: (Ask(Swap(5, 50, 55)), Found(53)),
+    held: &[(Ask(Swap(5, 50, 55)), Found(53))],
     rows: &[
         (Ask(Find(5)), Found(50)),
         (Ask(Swap(5, 50, 51)), Found(50)),
@@ -32,7 +32,7 @@ const BEFORE_ITS_FLAG: Meeting = Meeting {
 
 // The value goes and comes back.
 const BACK_AGAIN: Meeting = Meeting {
-    held: (Ask(Swap(5, 50, 55)), Found(50)),
+    held: &[(Ask(Swap(5, 50, 55)), Found(50))],
     rows: &[
         (Ask(Swap(5, 50, 51)), Found(50)),
         (Ask(Find(5)), Found(51)),
@@ -45,7 +45,7 @@ const BACK_AGAIN: Meeting = Meeting {
 
 // The key goes.
 const GONE: Meeting = Meeting {
-    held: (Ask(Swap(5, 50, 55)), No),
+    held: &[(Ask(Swap(5, 50, 55)), No)],
     rows: &[
         (Ask(Swap(5, 50, 51)), Found(50)),
         (Take(5), Found(51)),
@@ -57,7 +57,7 @@ const GONE: Meeting = Meeting {
 
 // It comes back with its old value.
 const ANEW: Meeting = Meeting {
-    held: (Ask(Swap(5, 50, 55)), Found(50)),
+    held: &[(Ask(Swap(5, 50, 55)), Found(50))],
     rows: &[
         (Ask(Delete(5)), Yes),
         (Ask(Swap(5, 50, 51)), No),
@@ -81,7 +81,7 @@ fn a_swap_goes_by_the_value_that_the_key_has_last(rt: HostRuntime) {
 
 // Its flag stands: another swap makes its exchange for it, and finds its value.
 const BEHIND_ITS_FLAG: Meeting = Meeting {
-    held: (Ask(Swap(5, 50, 55)), Found(50)),
+    held: &[(Ask(Swap(5, 50, 55)), Found(50))],
     rows: &[
         (Ask(Find(5)), Found(50)),
         (Ask(Insert(5, 51)), No),
@@ -162,25 +162,25 @@ fn others_go_past_a_swap_of_their_key(rt: HostRuntime) {
 
 // Others change the key between the find of a put, an update or a sum and its flag.
 const PUTS: Meeting = Meeting {
-    held: (Put(5, 55), Found(51)),
+    held: &[(Put(5, 55), Found(51))],
     rows: &[(Ask(Find(5)), Found(50)), (Ask(Swap(5, 50, 51)), Found(50))],
     end: &[(3, 30), (5, 55), (7, 70)],
     ..BEFORE_ITS_FLAG
 };
 
 const ADDS: Meeting = Meeting {
-    held: (Add(5, 4), Found(51)),
+    held: &[(Add(5, 4), Found(51))],
     ..PUTS
 };
 
 const PUTS_ANEW: Meeting = Meeting {
-    held: (Put(5, 55), No),
+    held: &[(Put(5, 55), No)],
     rows: &[(Ask(Swap(5, 50, 51)), Found(50)), (Ask(Delete(5)), Yes)],
     ..PUTS
 };
 
 const ADDS_TO_NOTHING: Meeting = Meeting {
-    held: (Add(5, 4), No),
+    held: &[(Add(5, 4), No)],
     end: &[(3, 30), (7, 70)],
     ..PUTS_ANEW
 };
@@ -214,14 +214,14 @@ const BEFORE_ITS_REMOVAL: [Kind; 3] = [
 
 // Others change the key between the search of a removal and its flag: it removes no other value.
 const LEAVES: Meeting = Meeting {
-    held: (RemoveIf(5, 50), Found(51)),
+    held: &[(RemoveIf(5, 50), Found(51))],
     end: &[(3, 30), (5, 51), (7, 70)],
     ..PUTS
 };
 
 // The value goes and comes back.
 const REMOVES: Meeting = Meeting {
-    held: (RemoveIf(5, 50), Found(50)),
+    held: &[(RemoveIf(5, 50), Found(50))],
     rows: &[
         (RemoveIf(5, 51), Found(50)),
         (RemoveIf(5, 50), Found(50)),
@@ -233,7 +233,7 @@ const REMOVES: Meeting = Meeting {
 
 // The key goes.
 const REMOVES_NOTHING: Meeting = Meeting {
-    held: (RemoveIf(5, 50), No),
+    held: &[(RemoveIf(5, 50), No)],
     rows: &[(RemoveIf(5, 50), Found(50)), (RemoveIf(5, 50), No)],
     ..REMOVES
 };

@@ -1,13 +1,17 @@
 //! What a gate is told of each operation of one thread.
-use super::asking::{Row, ask};
-use ell_ops::Op::{Delete, Find, Insert, Swap};
-use ell_ops::Reply::{Found, No, Yes};
+ghost use Rattle.std.specs.Prelude.{◌≡◌};
+ghost use Rattle.ell_tree.specs.Ledgers.{IsIdle};
+
+use ell_ops::Op::{self, Delete, Find, Insert, Swap};
+use ell_ops::Reply::{self, Found, No, Yes};
 use ell_test_gates::{Counting, Tally};
 use ell_tree::Kind::{Fill, Look, Note};
-use ell_tree::{NoGate, NotDone, Tree};
+use ell_tree::{NoGate, NotDone, Pass, StepGate, Tree};
+use std::alloc::Global;
+use std::process::Abort;
 
-// An operation, and how many steps of it are notes, looks and fills, and how many are exchanges.
-type Told = (Row, [u64; 3], u64);
+// An operation, how it is to end, how many steps of it are notes, looks and fills, and how many are exchanges.
+type Told = ((Op, Result<Reply, NotDone>), [u64; 3], u64);
 
 // A search reads three words at each inner node, one or two of them, and the key and the value of the leaf. A change then reads the
 // number of the next card. A card of an insert or a swap has ten words, and one of a delete four. Behind its flag an insert reads
@@ -22,6 +26,30 @@ const ROWS: [Told; 8] = [
     ((Delete(5), Ok(Yes)), [2, 13, 4], 5),
     ((Insert(7, 70), Err(NotDone::Spent)), [2, 6, 0], 0),
 ];
+
+// Does an operation on a key of the pass, in one try.
+fn ask<G: StepGate>(
+    rt: &impl Abort,
+    tree: &Tree<Global>,
+    pass: &mut Pass<Global>,
+    op: Op,
+    gate: &G,
+) -> Result<Reply, NotDone>
+    requires own { pass.old.table ≡ tree.now.id }
+    requires idle { IsIdle pass.old }
+    ensures own { pass.new.table ≡ tree.now.id }
+    ensures idle { IsIdle pass.new }
+{
+    assert!(rt; pass.owns(op.key()));
+    match op {
+        Op::Find(key) => Ok(Reply::found(tree.find(pass, key, gate))),
+        Op::Insert(key, value) => Ok(Reply::yes_if(tree.insert(pass, key, value, 1, gate)?)),
+        Op::Delete(key) => Ok(Reply::yes_if(tree.delete(pass, key, 1, gate)?)),
+        Op::Swap(key, was, value) => {
+            Ok(Reply::found(tree.swap(pass, key, was, value, 1, gate)?))
+        }
+    }
+}
 
 // What is to be told after one operation more, which ended behind the last of its steps.
 fn told_more(told: Tally, steps: u64, is_answered: bool) -> Tally {

@@ -1,4 +1,0 @@
-//! Trees on one thread, and on two of which one looks.
-mod asking;
-mod looks;
-mod steps_told;
