@@ -1,6 +1,7 @@
 //! Partings of a small list, with the parts that a person gave them, and texts of faults.
 use ell_ops::{NoMemory, Op};
 use ell_parts::{GatherFault, PartFault, Parts};
+use ell_tree::{CardFault, NotDone, SplitFault};
 use std::alloc::Global;
 use std::fmt::Display;
 use std::process::Abort;
@@ -74,6 +75,25 @@ fn have_texts<T: Display>(rt: &(impl Abort + AllocGlobal), rows: &[(T, &str)]) {
         let said = value.to_string(rt.alloc());
         assert!(rt; said.is_ok_and(|said| said.as_str() == *text), "{text}");
     }
+}
+
+#[test]
+fn faults_of_trees_have_texts(rt: HostRuntime) {
+    have_texts(
+        &rt,
+        &[
+            (CardFault::BadCards, "cards are not 1 to 1000000"),
+            (CardFault::NoMemory, "out of memory"),
+        ],
+    );
+    have_texts(&rt, &[(SplitFault::TooManyPasses, "too many passes")]);
+    have_texts(
+        &rt,
+        &[
+            (NotDone::Busy, "something was in the way of each try"),
+            (NotDone::Spent, "no card is free for the change"),
+        ],
+    );
 }
 
 #[test]

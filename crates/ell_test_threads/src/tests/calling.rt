@@ -2,7 +2,7 @@
 ghost use Rattle.std.specs.Prelude.{◌≡◌, ◌≤◌, None};
 ghost use Rattle.ell_ops.specs.KeySet.{set_of};
 ghost use Rattle.ell_tree.specs.Promises.{MayDo};
-ghost use Rattle.ell_test_threads.specs.Sharing.{IsMember};
+ghost use Rattle.ell_test_threads.specs.Sharing.{IsMember, IsSharer};
 
 use ell_ops::{KEY_MAX, Op, Reply};
 use ell_tree::{NotDone, Pass, StepGate, Tree};
@@ -10,8 +10,8 @@ use std::alloc::Global;
 use std::process::Abort;
 use std::sync::atomic::{AtomicU64, Ordering};
 
-// How many tries a call makes.
-const TRIES: u32 = 1_000;
+/// How many tries a call makes.
+pub const TRIES: u32 = 1_000;
 
 /// A call on a key.
 #[derive(Clone, Copy)]
@@ -228,6 +228,27 @@ pub fn answer<G: StepGate>(
     ensures { IsMember owned.now tree.now pass.new }
 {
     answer_by(rt, tree, pass, owned, call, TRIES, gate)
+}
+
+/// What a worker leaves: its pass, and what it was answered.
+pub type Ran = (Pass<Global>, Result<Reply, NotDone>);
+
+/// A worker makes a call on a shared key, with so many tries.
+pub fn run<G: StepGate>(
+    rt: &impl Abort,
+    tree: &Tree<Global>,
+    pass: Pass<Global>,
+    call: KeyCall,
+    tries: u32,
+    gate: &G,
+) -> Ran
+    requires sharer { IsSharer tree.now pass }
+    requires tries { 1 ≤ tries }
+    ensures { IsSharer tree.now result.0 }
+{
+    let mut pass = pass;
+    let said = answer_by(rt, tree, &mut pass, &[], call, tries, gate);
+    (pass, said)
 }
 
 /// Ends a tree, by the pass that is to own all keys that may have owners, and to have the whole share: the keys with their values.

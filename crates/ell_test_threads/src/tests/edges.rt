@@ -23,9 +23,9 @@ fn opened_flat(rt: &(impl Abort + AllocGlobal)) -> (Tree<Global>, Pass<Global>)
     Tree::reserve_flat(rt.alloc(), &[], &[], 10_000).expect(rt, "tree")
 }
 
-// Makes operations, the finds among them by looks if they are to be: their replies. The gate is told when a look has
-// ended, as if it were an operation.
-fn play<G: StepGate>(
+/// Makes operations, the finds among them by looks if they are to be: their replies. The gate is told when a look has
+/// ended, as if it were an operation.
+pub fn play<G: StepGate>(
     rt: &(impl Abort + AllocGlobal),
     tree: &Tree<Global>,
     pass: Pass<Global>,

@@ -1,42 +1,25 @@
 //! Two workers that make the same call on one key at once, again and again: just one of them changes the map each time.
-ghost use Rattle.ell_test_threads.specs.Sharing.{IsSharer};
-
 use super::calling::KeyCall::{self, Ask, Take};
-use super::calling::{answer, close};
+use super::calling::{TRIES, close, run};
 use super::parting::{joined, parted};
 use super::telling::opened_for;
 use ell_ops::Op::{Delete, Insert};
 use ell_ops::Reply;
 use ell_ops::Reply::{Found, No, Yes};
 use ell_test_gates::{Gathering, two_threads_meet};
-use ell_tree::{Exchange, Kind, Pass, StepGate, Tree};
-use std::alloc::Global;
+use ell_tree::{Exchange, Kind, NotDone};
 use std::process::Abort;
 use std::thread::{Threads, join};
 
 // How often each race is run.
 const RACES: u32 = 50;
 
-// A pass behind its call, and what that was answered.
-type Ran = (Pass<Global>, Option<Reply>);
-
-fn run<G: StepGate>(
-    rt: &impl Abort,
-    tree: &Tree<Global>,
-    pass: Pass<Global>,
-    call: KeyCall,
-    gate: &G,
-) -> Ran
-    requires { IsSharer tree.now pass }
-    ensures { IsSharer tree.now result.0 }
-{
-    let mut pass = pass;
-    let said = answer(rt, tree, &mut pass, &[], call, gate).ok();
-    (pass, said)
-}
-
 // What both calls of a race answer, and the keys at the end with their values.
-type Raced = (Option<Reply>, Option<Reply>, Vec<(u64, u64)>);
+type Raced = (
+    Result<Reply, NotDone>,
+    Result<Reply, NotDone>,
+    Vec<(u64, u64)>,
+);
 
 // Two workers come to a kind of step, and go on at once.
 fn race<R: Threads + Abort + AllocGlobal + Sync>(
@@ -52,8 +35,8 @@ fn race<R: Threads + Abort + AllocGlobal + Sync>(
     let (shared, told) = (&tree, &gate);
     let ((one, said), (other, also)) = join(
         rt,
-        move || run(rt, shared, one, calls.0, told),
-        move || run(rt, shared, other, calls.1, told),
+        move || run(rt, shared, one, calls.0, TRIES, told),
+        move || run(rt, shared, other, calls.1, TRIES, told),
     );
     assert!(rt; gate.has_gathered());
     let pass = joined(rt, &tree, &[], one, other);
@@ -127,7 +110,7 @@ fn of_two_takes_or_deletes_at_once_one_takes_the_key_away(rt: HostRuntime) {
 
 // Whether both calls of a race were answered so.
 fn is_race(raced: &Raced, want: (Reply, Reply)) -> bool {
-    raced.0 == Some(want.0) && raced.1 == Some(want.1)
+    raced.0 == Ok(want.0) && raced.1 == Ok(want.1)
 }
 
 // Has two calls take key 5 away again and again: each time both answer as one of these rows says.

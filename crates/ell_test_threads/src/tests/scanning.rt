@@ -2,8 +2,7 @@
 //! or kept.
 ghost use Rattle.ell_test_threads.specs.Sharing.{IsSharer};
 
-use super::calling::KeyCall::Ask as Call;
-use super::calling::answer;
+use super::edges::play;
 use super::parting::parted;
 use super::telling::Ask::{self, About, AtLeast, Last, Scan};
 use super::telling::{Sight, opened, tell};
@@ -21,22 +20,6 @@ use std::thread::{Threads, join};
 const END: u64 = KEY_MAX + 1;
 
 const ALL: Ask = Scan(0, END, 100);
-
-// Worker 0 makes its operations.
-fn change<G: StepGate>(
-    rt: &impl Abort,
-    tree: &Tree<Global>,
-    pass: Pass<Global>,
-    ops: &[Op],
-    gate: &G,
-)
-    requires { IsSharer tree.now pass }
-{
-    let mut pass = pass;
-    for op in ops {
-        assert!(rt; answer(rt, tree, &mut pass, &[], Call(*op), gate).is_ok());
-    }
-}
 
 // Worker 1 makes its call. The gate is told when it has ended, as if it were an operation.
 fn watch<G: StepGate>(
@@ -68,7 +51,7 @@ fn meet<R: Threads + Abort + AllocGlobal + Sync, G: StepGate + Sync>(
     let shared = &tree;
     let (_, sight) = join(
         rt,
-        move || change(rt, shared, zero, ops, gate),
+        move || play(rt, shared, zero, ops, false, gate),
         move || watch(rt, shared, one, ask, gate),
     );
     sight

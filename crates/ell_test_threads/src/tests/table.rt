@@ -1,12 +1,10 @@
-//! Safe numbers of a table of cards, and texts of faults.
+//! Safe numbers of a table of cards.
 ghost use Rattle.std.specs.Prelude.{◌≡◌, ◌≤◌};
 ghost use Rattle.ell_cards.specs.Models.{IsFree};
 ghost use Rattle.ell_cards.specs.Starts.{most_places};
 
-use ell_cards::{CardFault, CardTable, FixedMemory, Pass, TableKind};
-use ell_tree::{NotDone, SplitFault};
+use ell_cards::{CardTable, FixedMemory, Pass, TableKind};
 use std::alloc::Global;
-use std::fmt::Display;
 use std::process::Abort;
 
 // Three start keys.
@@ -67,27 +65,4 @@ fn a_look_that_goes_on_holds_safe_numbers_down(rt: HostRuntime) {
     assert!(rt; table.look(&mut two).node == 4);
     let mut both = joined(&rt, &table, one, two);
     assert!(rt; table.safe_number(&mut both) == 6);
-}
-
-// Each value has its text.
-fn have_texts<T: Display>(rt: &(impl Abort + AllocGlobal), rows: &[(T, &str)]) {
-    for (value, text) in rows {
-        let said = value.to_string(rt.alloc()).expect(rt, "memory");
-        assert!(rt; said.as_str() == *text);
-    }
-}
-
-#[test]
-fn faults_have_texts(rt: HostRuntime) {
-    let of_tables = [
-        (CardFault::BadCards, "cards are not 1 to 1000000"),
-        (CardFault::NoMemory, "out of memory"),
-    ];
-    have_texts(&rt, &of_tables);
-    have_texts(&rt, &[(SplitFault::TooManyPasses, "too many passes")]);
-    let of_changes = [
-        (NotDone::Busy, "something was in the way of each try"),
-        (NotDone::Spent, "no card is free for the change"),
-    ];
-    have_texts(&rt, &of_changes);
 }

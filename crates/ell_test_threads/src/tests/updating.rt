@@ -2,7 +2,7 @@
 ghost use Rattle.ell_test_threads.specs.Sharing.{IsSharer};
 
 use super::calling::KeyCall::{self, Add, Ask, Put, Update};
-use super::calling::{answer_by, close, next_value, update};
+use super::calling::{Ran, close, next_value, run, update};
 use super::parting::{joined, parted};
 use super::swapping::ONCE_FOUND;
 use super::telling::opened_for;
@@ -15,9 +15,6 @@ use std::alloc::Global;
 use std::process::Abort;
 use std::sync::atomic::{AtomicU64, Ordering};
 use std::thread::{Threads, join};
-
-// What a worker leaves: its pass, and what it was answered.
-type Ran = (Pass<Global>, Result<Reply, NotDone>);
 
 // Worker 0 updates a key, and counts how often its closure is called.
 fn run_update<G: StepGate>(
@@ -33,22 +30,6 @@ fn run_update<G: StepGate>(
     let mut pass = pass;
     let said = update(rt, tree, &mut pass, &[], 5, called, 100, gate);
     (pass, said.map(Reply::found))
-}
-
-// Worker 1 makes a call of one try.
-fn run_once<G: StepGate>(
-    rt: &impl Abort,
-    tree: &Tree<Global>,
-    pass: Pass<Global>,
-    call: KeyCall,
-    gate: &G,
-) -> Ran
-    requires { IsSharer tree.now pass }
-    ensures { IsSharer tree.now result.0 }
-{
-    let mut pass = pass;
-    let said = answer_by(rt, tree, &mut pass, &[], call, 1, gate);
-    (pass, said)
 }
 
 // What both workers are answered, and how often the closure is called.
@@ -73,7 +54,7 @@ fn meet_update<R: Threads + Abort + AllocGlobal + Sync>(
     let ((zero, said), (one, also)) = join(
         rt,
         move || run_update(rt, shared, zero, count, told),
-        move || run_once(rt, shared, one, call, told),
+        move || run(rt, shared, one, call, 1, told),
     );
     assert!(rt; gate.has_held());
     let pass = joined(rt, &tree, &[], zero, one);
