@@ -3,7 +3,7 @@
 ghost use Rattle.std.specs.Prelude.{◌≡◌, [], None};
 ghost use Rattle.ell_test_threads.specs.Sharing.{IsSharer};
 
-use super::calling::KeyCall::{self, Ask, Look};
+use super::calling::KeyCall::{Ask, Look};
 use super::calling::{answer, close};
 use super::parting::{joined, parted};
 use ell_ops::Op::{self, Delete, Find, Insert};

@@ -3,7 +3,7 @@ ghost use Rattle.ell_test_threads.specs.Sharing.{IsSharer};
 
 use super::calling::KeyCall::{self, Ask, Look};
 use super::calling::answer;
-use super::parting::{joined, parted};
+use super::parting::parted;
 use ell_ops::Op::{Delete, Find, Insert, Swap};
 use ell_ops::Reply;
 use ell_test_gates::{Counting, Weaving, two_threads_meet};
