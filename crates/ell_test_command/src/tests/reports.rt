@@ -1,7 +1,8 @@
 //! Reports of runs. `tests/texts` has those that need no gate.
 use ell_command::carry_out;
 use ell_run::{Exchange, Kind};
-use ell_test_gates::{Holding, two_threads_meet};
+use ell_test_gates::Until::{Comes, Ends};
+use ell_test_gates::{Turns, two_threads_meet};
 
 // Of two workers one has the inserts of 7 and 9, and meets at its first try what the other, which inserts 6, has begun. With one try
 // both are late.
@@ -20,7 +21,8 @@ fn a_report_tells_what_tries_were_too_few_for(rt: HostRuntime) {
         return;
     }
     for (words, late) in TRIES.iter() {
-        let gate = Holding::at(Kind::Exchange(Exchange::IChild));
+        let turns = [(0, Comes(Kind::Exchange(Exchange::IChild), 1)), (1, Ends)];
+        let gate = Turns::new(&turns);
         let (mut out, mut err) = (Vec::new(rt.alloc()), Vec::new(rt.alloc()));
         let mut input = THREE_INSERTS.as_bytes();
         let carried = carry_out(
@@ -32,7 +34,7 @@ fn a_report_tells_what_tries_were_too_few_for(rt: HostRuntime) {
             &mut err,
             &gate,
         );
-        assert!(rt; carried.is_ok() && gate.has_held(), "{late}");
+        assert!(rt; carried.is_ok() && gate.are_over(), "{late}");
         assert!(rt; out.as_slice() == THREE_KEYS.as_bytes(), "{late}");
         assert!(rt; err.as_slice() == late.as_bytes());
     }

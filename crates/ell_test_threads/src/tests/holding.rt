@@ -8,7 +8,7 @@ use super::telling::opened_for;
 use ell_ops::Op::{Delete, Find, Insert};
 use ell_ops::Reply;
 use ell_ops::Reply::{Found, No, Yes};
-use ell_test_gates::{Holding, Turns, Until, WorkerTurn, two_threads_meet};
+use ell_test_gates::{Turns, Until, WorkerTurn, two_threads_meet};
 use ell_tree::{Exchange, Kind, Pass, StepGate, Tree};
 use std::alloc::Global;
 use std::process::Abort;
@@ -64,6 +64,15 @@ pub fn meet_all<R: Threads + Abort + AllocGlobal + Sync>(rt: &R, rows: &[Meeting
     }
 }
 
+/// Turns in which worker 0 is held at its first step of a kind, until worker 1 has ended so many operations.
+pub fn held_at(rt: &(impl Abort + AllocGlobal), at: Kind, ends: u64) -> Vec<WorkerTurn> {
+    let mut turns = Vec::new(rt.alloc());
+    turns.push((0, Until::Comes(at, 1))).expect(rt, "memory");
+    let all = ends.saturating_add(1) as usize;
+    turns.resize(all, (1, Until::Ends)).expect(rt, "memory");
+    turns
+}
+
 fn meet_at_each<R: Threads + Abort + AllocGlobal + Sync>(
     rt: &R,
     kinds: &[Kind],
@@ -71,31 +80,8 @@ fn meet_at_each<R: Threads + Abort + AllocGlobal + Sync>(
     meeting: Meeting,
 ) {
     for at in kinds {
-        let gate = Holding::until(*at, ends);
-        meet_under(rt, &gate, meeting);
-        assert!(rt; gate.has_held(), "{at:?}");
+        meet_in_turns(rt, &held_at(rt, *at, ends), meeting);
     }
-}
-
-// Has the two make their calls under a gate.
-fn meet_under<R: Threads + Abort + AllocGlobal + Sync, G: StepGate + Sync>(
-    rt: &R,
-    gate: &G,
-    meeting: Meeting,
-) {
-    let (owned, held, rows) = (meeting.owned, meeting.held, meeting.rows);
-    let (tree, pass) = opened_for(rt, meeting.start, owned, 100);
-    let (zero, mut one) = parted(rt, &tree, pass, owned, meeting.by_zero);
-    one.relabel(1);
-    let shared = &tree;
-    let (zero, one) = join(
-        rt,
-        move || play(rt, shared, zero, owned, gate, held),
-        move || play(rt, shared, one, owned, gate, rows),
-    );
-    let pass = joined(rt, &tree, owned, zero, one);
-    let pairs = close(rt, tree, pass, owned);
-    assert!(rt; pairs.as_slice() == meeting.end);
 }
 
 /// Has the two make their calls in turns.
@@ -105,8 +91,20 @@ pub fn meet_in_turns<R: Threads + Abort + AllocGlobal + Sync>(
     meeting: Meeting,
 ) {
     let gate = Turns::new(turns);
-    meet_under(rt, &gate, meeting);
+    let (owned, held, rows) = (meeting.owned, meeting.held, meeting.rows);
+    let (tree, pass) = opened_for(rt, meeting.start, owned, 100);
+    let (zero, mut one) = parted(rt, &tree, pass, owned, meeting.by_zero);
+    one.relabel(1);
+    let (shared, told) = (&tree, &gate);
+    let (zero, one) = join(
+        rt,
+        move || play(rt, shared, zero, owned, told, held),
+        move || play(rt, shared, one, owned, told, rows),
+    );
     assert!(rt; gate.are_over());
+    let pass = joined(rt, &tree, owned, zero, one);
+    let pairs = close(rt, tree, pass, owned);
+    assert!(rt; pairs.as_slice() == meeting.end);
 }
 
 /// The kinds of the steps of an insert or a swap up to its flag, and of a delete: until then the key may change.

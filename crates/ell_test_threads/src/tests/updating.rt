@@ -3,13 +3,14 @@ ghost use Rattle.ell_test_threads.specs.Sharing.{IsSharer};
 
 use super::calling::KeyCall::{self, Add, Ask, Put, Update};
 use super::calling::{Ran, close, next_value, run, update};
+use super::holding::held_at;
 use super::parting::{joined, parted};
 use super::swapping::ONCE_FOUND;
 use super::telling::opened_for;
 use ell_ops::Op::{Delete, Swap};
 use ell_ops::Reply;
 use ell_ops::Reply::{Found, No, Yes};
-use ell_test_gates::{Holding, two_threads_meet};
+use ell_test_gates::{Turns, two_threads_meet};
 use ell_tree::{Exchange, Kind, NotDone, Pass, StepGate, Tree};
 use std::alloc::Global;
 use std::process::Abort;
@@ -46,7 +47,8 @@ fn meet_update<R: Threads + Abort + AllocGlobal + Sync>(
     want: Met,
     end: &[(u64, u64)],
 ) {
-    let (gate, called) = (Holding::until(at, ends), AtomicU64::new(0));
+    let (turns, called) = (held_at(rt, at, ends), AtomicU64::new(0));
+    let gate = Turns::new(&turns);
     let (tree, pass) = opened_for(rt, &[(5, 50)], &[], 100);
     let (zero, mut one) = parted(rt, &tree, pass, &[], &[]);
     one.relabel(1);
@@ -56,7 +58,7 @@ fn meet_update<R: Threads + Abort + AllocGlobal + Sync>(
         move || run_update(rt, shared, zero, count, told),
         move || run(rt, shared, one, call, 1, told),
     );
-    assert!(rt; gate.has_held());
+    assert!(rt; gate.are_over());
     let pass = joined(rt, &tree, &[], zero, one);
     let pairs = close(rt, tree, pass, &[]);
     let is_so = said == want.0 && also == want.1 && called.load(Ordering::SeqCst) == want.2;
