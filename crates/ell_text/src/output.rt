@@ -10,7 +10,7 @@ use std::io::Write;
 use thiserror::Error;
 
 // How many bytes wait at most, before they go to the writer together.
-const CAPACITY: usize = 8 * 1024;
+const CAPACITY: usize = 64 * 1024;
 
 /// The writer failed before the whole text was out.
 ///
