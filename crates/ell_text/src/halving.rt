@@ -62,7 +62,7 @@ fn read_in_turn<A: Allocator + Copy>(
     ensures follow { IfSome result (λ ops. Follow version before.now (lines text.now) ops.items) }
     ensures fits { IfSome result (λ ops. All Fits ops.items) }
 {
-    let mut ops = Vec::from_slice(alloc, before).ok()?;
+    let mut ops = with_room(alloc, before, most_lines(text))?;
     let mut rest = text;
     'lines: while !rest.is_empty() {
         let (read, behind) = read_first_line(version, Section::Operations, rest);
@@ -70,6 +70,21 @@ fn read_in_turn<A: Allocator + Copy>(
         rest = behind;
     }
     Some(ops)
+}
+
+// A list of operations, with room for this many more.
+fn with_room<A: Allocator + Copy>(alloc: A, before: &[Op], more: usize) -> Option<Vec<Op, A>>
+    ensures { IfSome result (λ ops. ops.items ≡ before.now) }
+{
+    let mut ops = Vec::with_capacity(alloc, before.len().saturating_add(more)).ok()?;
+    ops.extend_from_slice(before).ok()?;
+    Some(ops)
+}
+
+// How many lines a text has, but no more than operations may be read.
+fn most_lines(text: &[u8]) -> usize {
+    let ends = text.iter().filter(|byte| **byte == b'\n').count();
+    ends.saturating_add(1).min(OPERATIONS_MAX)
 }
 
 // Appends the operation that a line says, if it says one. `None` if the line is at fault, or says something else, there
