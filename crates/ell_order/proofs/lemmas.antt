@@ -4,14 +4,16 @@ pub mod Mixes
 pub mod OnKey
 -- Numbered elements that pass a test.
 pub mod Numbered
+-- Lists that have the same items of one key.
+pub mod Kept
 -- Orders that keep each key's operations change no answer.
 pub mod Reordered
 -- The rank of a key, one key after the other, or one list.
 pub mod Ranks
 -- The keys that a list leaves, and their ranks, one operation after the other.
 pub mod Leaving
--- Operations dealt to hands.
-pub mod Dealing
+-- Numbered operations put at places.
+pub mod Placing
 -- The turns of operations, one operation after the other.
 pub mod Turning
 -- Places sorted by their keys, and turns by their rounds.

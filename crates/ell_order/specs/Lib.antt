@@ -2,7 +2,7 @@
 pub mod Mixing
 -- The rounds in which the keys of a list are run.
 pub mod Rounds
--- A list of operations in another order that keeps each key's, and replies put back.
+-- Operations in another order that keeps each key's.
 pub mod Orders
 -- Where the operations of a list stand, in the order in which it is run.
 pub mod Places

@@ -1,5 +1,7 @@
 -- A list of operations parted among workers.
 pub mod PartedOps
+-- The parts of workers, as they are made.
+pub mod Made
 -- When a list of workers is no parting of a list of operations.
 pub mod Faults
 -- Replies with the positions that they are for, put back into the order of the positions.

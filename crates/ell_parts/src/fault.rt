@@ -1,7 +1,7 @@
 //! Why a list of operations is not parted.
 ghost use Rattle.std.specs.Prelude.{◌≡◌};
 
-use ell_ops::WORKERS_MAX;
+use ell_ops::{NoMemory, WORKERS_MAX};
 use std::alloc::{AllocError, AllocFailed};
 use thiserror::Error;
 
@@ -43,6 +43,16 @@ impl<T: Drop> From<AllocFailed<T>> for PartFault {
     ghost from_gives = { λ _ fault. fault ≡ NoMemory };
 
     fn from(_: AllocFailed<T>) -> PartFault {
+        PartFault::NoMemory
+    }
+}
+
+impl From<NoMemory> for PartFault {
+    ghost use Rattle.ell_parts.specs.declared.fault.PartFault.TheVariants.{NoMemory as no_memory};
+
+    ghost from_gives = { λ _ fault. fault ≡ no_memory };
+
+    fn from(_: NoMemory) -> PartFault {
         PartFault::NoMemory
     }
 }

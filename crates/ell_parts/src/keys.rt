@@ -14,7 +14,7 @@ pub(crate) fn keys_of_list<A: Allocator>(alloc: A, ops: &[Op]) -> Result<Vec<u64
     Ok(distinct_keys(keys))
 }
 
-// The distinct keys of a part. Those of a list that is put in hands and rounds stand in ascending runs, which the stable sort keeps and
+// The distinct keys of a part. Those of a part in rounds stand in ascending runs, which the stable sort keeps and
 // merges.
 pub(crate) fn keys_of_part<A: Allocator>(
     alloc: A,

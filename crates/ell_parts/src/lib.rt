@@ -6,6 +6,7 @@ mod fault;
 mod gathering;
 mod keys;
 mod owners;
+mod part;
 mod parts;
 
 pub use fault::PartFault;

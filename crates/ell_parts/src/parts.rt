@@ -1,36 +1,38 @@
 //! A list of operations, parted among workers.
-ghost use Rattle.std.specs.Prelude.{◌≡◌, ◌<◌, ◌↔◌, length, IfOk, IfErr, IsTrue, All, []};
+ghost use Rattle.std.specs.Prelude.{◌≡◌, ◌<◌, ◌↔◌, length, IfOk, IfErr, IsTrue};
 ghost use Rattle.ell_ops.specs.KeySet.{Lists};
-ghost use Rattle.ell_parts.specs.PartedOps.{PartedOps, IsLawful, IsPartedBy, IsRanged, part, parted, striped, keys_of_part, AreParts, AreKeys};
+ghost use Rattle.ell_parts.specs.PartedOps.{IsLawful, IsPartedBy, IsPartedToRun, IsRanged, part, parted, striped, keys_of_part};
 ghost use Rattle.ell_parts.specs.Faults.{IsFault, IsRefusedByCount};
 
 use crate::fault::PartFault;
-use crate::keys::{keys_of_list, keys_of_part};
+use crate::keys::keys_of_list;
 use crate::owners::{is_worker_count, keep_together, ranged_owners, striped_owners};
-use ell_ops::Op;
-use std::alloc::{AllocError, Allocator};
+use crate::part::{Part, parts_in_turn, parts_to_run};
+use ell_ops::{NoMemory, Op};
+use std::alloc::Allocator;
 use std::marker::Model;
+use std::thread::Threads;
 
 /// A list of operations, which is borrowed, and the worker of each position: equal keys have one worker. Each worker's
-/// operations stand together, with their positions in the list, and so do its keys.
+/// operations stand together, with their positions in the list, each key's in the order of the list, and so do its
+/// keys.
 #[derive(Drop)]
 pub struct Parts<'a, A: Allocator> {
     ops: &'a [Op],
     owners: Vec<u32, A>,
-    parts: Vec<Vec<(usize, Op), A>, A>,
-    keys: Vec<Vec<u64, A>, A>,
+    parts: Vec<Part<A>, A>,
 }
 
 impl<'a, A: Allocator> Model for Parts<'a, A> {
-    ghost use Rattle.std.specs.Prelude.{length};
-    ghost use Rattle.ell_parts.specs.PartedOps.{PartedOps, AreListsOf};
+    ghost use Rattle.std.specs.Prelude.{All};
+    ghost use Rattle.ell_parts.specs.PartedOps.{PartedOps, IsLawful, made};
+    ghost use Rattle.ell_parts.specs.Made.{HasItsKeys, items_of};
 
     ghost Value = { PartedOps };
 
-    ghost view = { λ p. record { ops = p.ops.now; owners = p.owners.items; workers = length p.parts.items } };
+    ghost view = { λ p. made p.ops.now p.owners.items (items_of p.parts.items) };
 
-    ghost invariant = { λ p. AreListsOf (λ part. part.items) (λ keys. keys.items)
-        (record { ops = p.ops.now; owners = p.owners.items; workers = length p.parts.items }) p.parts.items p.keys.items };
+    ghost invariant = { λ p. IsLawful (made p.ops.now p.owners.items (items_of p.parts.items)) × All HasItsKeys p.parts.items };
 }
 
 impl<A: Allocator> Parts<'_, A> {
@@ -60,13 +62,13 @@ impl<A: Allocator> Parts<'_, A> {
         self.len() == 0
     }
 
-    /// Returns the operations of a worker, with their positions in the list, ascending.
+    /// Returns the operations of a worker, with their positions in the list, each key's in the order of the list.
     pub fn part(&self, worker: u32) -> &[(usize, Op)]
         requires { worker < self.now.workers }
-        // Returns the worker's operations with their positions, in the order of the list.
+        // Returns the worker's operations with their positions, each key's in the order of the list.
         ensures { result.now ≡ part self.now worker }
     {
-        &self.parts[worker as usize]
+        &self.parts[worker as usize].items
     }
 
     /// Returns the keys of a worker's operations, strictly ascending.
@@ -75,7 +77,7 @@ impl<A: Allocator> Parts<'_, A> {
         // Returns the keys of the worker's part, each once, strictly ascending.
         ensures { Lists (keys_of_part (part self.now worker)) result.now }
     {
-        &self.keys[worker as usize]
+        &self.parts[worker as usize].keys
     }
 }
 
@@ -126,7 +128,7 @@ impl<'a, A: Allocator + Copy> Parts<'a, A> {
     /// `n / workers`, rounded up, so the last runs may be short or empty. The faults are `BadWorkers` and `NoMemory`.
     pub fn ranged(alloc: A, ops: &'a [Op], workers: u32) -> Result<Parts<'a, A>, PartFault>
         // Each position has one of the workers, and each key is with one.
-        ensures ok { IfOk result (λ parts. (parts.ops ≡ ops.now) × (parts.workers ≡ workers) × IsLawful parts) }
+        ensures ok { IfOk result (λ parts. IsPartedBy ops.now parts.owners workers parts) }
         // Of the distinct keys in ascending order, each worker has the next ones: their number divided by the number of
         // workers, rounded up.
         ensures ranged { IfOk result IsRanged }
@@ -141,92 +143,80 @@ impl<'a, A: Allocator + Copy> Parts<'a, A> {
         Ok(Parts::of(alloc, ops, owners, workers)?)
     }
 
-    // The parts of a list whose owners are lawful.
+    // The parting of a list by owners that are lawful: each part in the order of the list.
     fn of(
         alloc: A,
         ops: &'a [Op],
         owners: Vec<u32, A>,
         workers: u32,
-    ) -> Result<Parts<'a, A>, AllocError>
+    ) -> Result<Parts<'a, A>, NoMemory>
         requires { IsLawful (parted ops.now owners.items workers) }
         ensures { IfOk result (λ parts. parts ≡ parted ops.now owners.items workers) }
     {
-        let parts = parts_of(alloc, ops, &owners, workers)?;
-        let keys = keys_of_parts(alloc, &parts)?;
-        Ok(Parts {
-            ops,
-            owners,
-            parts,
-            keys,
-        })
+        let parts = parts_in_turn(alloc, ops, &owners, workers, false)?;
+        Ok(Parts { ops, owners, parts })
     }
 }
 
-// The part of each worker.
-fn parts_of<A: Allocator + Copy>(
-    alloc: A,
-    ops: &[Op],
-    owners: &[u32],
-    workers: u32,
-) -> Result<Vec<Vec<(usize, Op), A>, A>, AllocError>
-    requires { IsLawful (parted ops.now owners.now workers) }
-    ensures count { IfOk result (λ parts. length parts.items ≡ workers) }
-    ensures parts { IfOk result (λ parts.
-        AreParts (λ list. list.items) (parted ops.now owners.now workers) parts.items) }
-{
-    let sizes = part_sizes(alloc, owners, workers)?;
-    let mut parts = empty_parts(alloc, &sizes)?;
-    for (at, op) in ops.iter().enumerate() {
-        let part = &mut parts[owners[at] as usize];
-        part.push((at, *op))?;
+impl<'a, A: Allocator + Copy + Send + Sync> Parts<'a, A> {
+    /// The same as [`Parts::striped`], but each part is in the order in which it is run: in rounds, if the list is
+    /// reordered (`ell_order`). The parts of a long list are each made by a thread of its own, if one can be created.
+    pub fn striped_to_run<R: Threads + Sync>(
+        rt: &R,
+        alloc: A,
+        ops: &'a [Op],
+        workers: u32,
+    ) -> Result<Parts<'a, A>, PartFault>
+        // Each operation has the worker whose number is the remainder of its key by the number of workers. Each part is
+        // in rounds if the list is reordered, else in the order of the list.
+        ensures ok { IfOk result (IsPartedToRun ops.now (striped ops.now workers) workers) }
+        // `BadWorkers` is returned exactly if the number of workers is not 1 to 64; the only other fault is `NoMemory`.
+        ensures refused { IsRefusedByCount workers result }
+    {
+        if !is_worker_count(workers) {
+            return Err(PartFault::BadWorkers);
+        }
+        let stripes = striped_owners(alloc, ops, workers)?;
+        Ok(Parts::to_run(rt, alloc, ops, stripes, workers)?)
     }
-    Ok(parts)
-}
 
-// How many operations each worker has: what its part is reserved for.
-fn part_sizes<A: Allocator>(
-    alloc: A,
-    owners: &[u32],
-    workers: u32,
-) -> Result<Vec<usize, A>, AllocError>
-    requires { All (λ owner. owner < workers) owners.now }
-    ensures { IfOk result (λ sizes. length sizes.items ≡ workers) }
-{
-    let mut sizes = vec![in alloc; 0; workers as usize]?;
-    for owner in owners {
-        let size: &mut usize = &mut sizes[*owner as usize];
-        *size = size.saturating_add(1);
+    /// The same as [`Parts::ranged`], but each part is in the order in which it is run: in rounds, if the list is
+    /// reordered (`ell_order`). The parts of a long list are each made by a thread of its own, if one can be created.
+    pub fn ranged_to_run<R: Threads + Sync>(
+        rt: &R,
+        alloc: A,
+        ops: &'a [Op],
+        workers: u32,
+    ) -> Result<Parts<'a, A>, PartFault>
+        // Each position has one of the workers, and each key is with one. Each part is in rounds if the list is
+        // reordered, else in the order of the list.
+        ensures ok { IfOk result (λ parts. IsPartedToRun ops.now parts.owners workers parts) }
+        // Of the distinct keys in ascending order, each worker has the next ones: their number divided by the number of
+        // workers, rounded up.
+        ensures ranged { IfOk result IsRanged }
+        // `BadWorkers` is returned exactly if the number of workers is not 1 to 64; the only other fault is `NoMemory`.
+        ensures refused { IsRefusedByCount workers result }
+    {
+        if !is_worker_count(workers) {
+            return Err(PartFault::BadWorkers);
+        }
+        let keys = keys_of_list(alloc, ops)?;
+        let ranges = ranged_owners(alloc, ops, &keys, workers)?;
+        Ok(Parts::to_run(rt, alloc, ops, ranges, workers)?)
     }
-    Ok(sizes)
-}
 
-// Empty parts, with room for this many operations each.
-fn empty_parts<A: Allocator + Copy>(
-    alloc: A,
-    sizes: &[usize],
-) -> Result<Vec<Vec<(usize, Op), A>, A>, AllocError>
-    ensures count { IfOk result (λ parts. length parts.items ≡ length sizes.now) }
-    ensures empty { IfOk result (λ parts. All (λ part. part.items ≡ []) parts.items) }
-{
-    let mut parts = Vec::with_capacity(alloc, sizes.len())?;
-    for size in sizes {
-        parts.push(Vec::with_capacity(alloc, *size)?)?;
+    // The parting of a list by owners that are lawful: each part in the order in which it is run.
+    fn to_run<R: Threads + Sync>(
+        rt: &R,
+        alloc: A,
+        ops: &'a [Op],
+        owners: Vec<u32, A>,
+        workers: u32,
+    ) -> Result<Parts<'a, A>, NoMemory>
+        requires { IsLawful (parted ops.now owners.items workers) }
+        ensures { IfOk result (IsPartedToRun ops.now owners.items workers) }
+    {
+        let parts = parts_to_run(rt, alloc, ops, &owners, workers)?;
+        Ok(Parts { ops, owners, parts })
     }
-    Ok(parts)
-}
-
-// The keys of each part.
-fn keys_of_parts<A: Allocator + Copy>(
-    alloc: A,
-    parts: &[Vec<(usize, Op), A>],
-) -> Result<Vec<Vec<u64, A>, A>, AllocError>
-    ensures count { IfOk result (λ keys. length keys.items ≡ length parts.now) }
-    ensures keys { IfOk result (λ keys. (parting : PartedOps) → AreParts (λ list. list.items) parting parts.now →
-        AreKeys (λ list. list.items) parting keys.items) }
-{
-    let mut keys = Vec::with_capacity(alloc, parts.len())?;
-    for part in parts {
-        keys.push(keys_of_part(alloc, part)?)?;
-    }
-    Ok(keys)
 }

@@ -24,8 +24,6 @@ pub mod Leftovers
 pub mod Marks
 -- A tree as it opens: the keys that its first pass owns, which of them are present, and who can set to work with it.
 pub mod Opened
--- A list run in its order, and answered in its own.
-pub mod Reordering
 -- How many steps workers make.
 pub mod Paid
 -- Gathering items that have one reply of one thread for each position does not fail but for memory, and gives these.

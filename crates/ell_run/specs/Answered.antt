@@ -6,7 +6,6 @@ use Rattle.ell_ops.specs.Meaning.{replies, final}
 use Rattle.ell_text.specs.Limits.{most_bytes}
 use Rattle.ell_text.specs.Bulk.{BulkValue, bulk}
 use Rattle.ell_text.specs.Answer.{answer}
-use Rattle.ell_order.specs.Orders.{IsRunOrder, ops_in}
 use Rattle.ell_parts.specs.PartedOps.{PartedOps}
 use Rattle.ell_run.specs.Late.{IsLate}
 use Rattle.ell_run.specs.Settings.{IsPartedAs}
@@ -28,13 +27,11 @@ abbrev pub IsAnswered : Option (List ℕ) → Option (List ℕ) → Option (List
 IsAnswered input before after =
     IfSome input (λ bytes. (text : List ℕ) × IsAnswer bytes text × Appends before after text)
 
--- so many operations of a list are late, from a map, in the order in which the list is run and parted as the settings
--- ask
+-- so many operations of a list are late, from a map, where it is parted as the settings ask, each part in the order in
+-- which it is run
 pub record IsLateOf (settings : Settings) (start : Contents) (ops : List Op) (count : ℕ) : Type 0 where
-  pub order : List (ℕ × Op)
-  pub ordered : IsRunOrder ops order
   pub parting : PartedOps
-  pub parted : IsPartedAs settings (ops_in order) parting
+  pub parted : IsPartedAs settings ops parting
   pub few : count ≤ length ops
   pub late : IsLate start parting count
 

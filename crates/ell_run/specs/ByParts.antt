@@ -1,8 +1,8 @@
-use Rattle.std.specs.Prelude.{◌≡◌, ℕ, List, Some, filter, take, drop, slice_get, slice_index, ◌==◌}
+use Rattle.std.specs.Prelude.{◌≡◌, ℕ, List, Some, take, drop, slice_get, slice_index}
 use Rattle.ell_ops.specs.declared.Op.{Op}
 use Rattle.ell_ops.specs.Contents.{Contents}
 use Rattle.ell_ops.specs.Meaning.{key_of, final}
-pub use Rattle.ell_order.specs.Orders.{ops_in, ReplyAlike}
+pub use Rattle.ell_order.specs.Orders.{on_key, ops_in, ReplyAlike}
 use Rattle.ell_parts.specs.PartedOps.{PartedOps, IsLawful, part}
 
 -- each operation on the key is the worker's
@@ -14,10 +14,10 @@ WorkerHasKey parting worker key =
 abbrev pub done : PartedOps → (ℕ → ℕ) → ℕ → List (ℕ × Op)
 done parting counts worker = take (counts worker) (part parting worker)
 
--- the rest: each worker's operations in it are those that it has not done, in their order
+-- the rest: its operations on each key are those that the key's worker has not done, in their order
 abbrev pub IsRest : PartedOps → (ℕ → ℕ) → List (ℕ × Op) → Type 0
-IsRest parting counts rest = (worker : ℕ) →
-    filter (λ item. slice_index parting.owners item.0 == worker) rest ≡ drop (counts worker) (part parting worker)
+IsRest parting counts rest = (worker key : ℕ) → WorkerHasKey parting worker key →
+    on_key key rest ≡ on_key key (drop (counts worker) (part parting worker))
 
 -- each worker has done a front of its part, from the map: each key is as its worker left it
 abbrev pub AreDone : Contents → PartedOps → (ℕ → ℕ) → Contents → Type 0

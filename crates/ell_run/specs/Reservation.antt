@@ -1,4 +1,4 @@
-use Rattle.std.specs.Prelude.{ℕ, ◌+◌, ◌*◌, ◌/◌, nat_lt, Bool, true, false, List, count_by, if◌then◌else◌}
+use Rattle.std.specs.Prelude.{ℕ, ◌*◌, nat_lt, Bool, true, false, List, count_by, if◌then◌else◌}
 use Rattle.ell_ops.specs.declared.op.Op.{Op}
 use Rattle.ell_ops.specs.declared.op.Op.TheVariants.{Find, Insert, Delete, Swap}
 
@@ -8,11 +8,6 @@ is_change (Find key) = false
 is_change (Insert key value) = true
 is_change (Delete key) = true
 is_change (Swap key was value) = true
-
--- the cards of a run of operations for which no number of them is given: one for each that may take one, an eighth of
--- that for tries that are lost, and 64
-abbrev pub cards_by_default : List Op → ℕ
-cards_by_default ops = count_by is_change ops + count_by is_change ops / 8 + 64
 
 -- the tries of an operation in which it may take a card: where one worker alone is busy, nothing is in the way of its
 -- first

@@ -1,7 +1,7 @@
 use Rattle.std.specs.Prelude.{◌≡◌, ℕ, ◌≤◌, IfSome, List}
 use Rattle.ell_ops.specs.declared.op.Op.{Op}
 pub use Rattle.ell_ops.specs.Meaning.{most_workers}
-use Rattle.ell_parts.specs.PartedOps.{PartedOps, IsWorkerCount, striped, IsRanged}
+use Rattle.ell_parts.specs.PartedOps.{PartedOps, IsPartedToRun, IsWorkerCount, striped, IsRanged}
 use Rattle.ell_word.specs.Node.{most_cards}
 use Rattle.ell_run.specs.declared.settings.Parting.{Parting}
 use Rattle.ell_run.specs.declared.settings.Parting.TheVariants.{Stripe, Range}
@@ -27,8 +27,7 @@ abbrev pub HasOwners : Parting → PartedOps → Type 0
 HasOwners Stripe parting = parting.owners ≡ striped parting.ops parting.workers
 HasOwners Range parting = IsRanged parting
 
--- a parting is that of the operations which the settings ask for
+-- a parting is that of the operations which the settings ask for, with each part in the order in which it is run
 pub record IsPartedAs (settings : Settings) (ops : List Op) (parting : PartedOps) : Type 0 where
-  pub all : parting.ops ≡ ops
-  pub workers : parting.workers ≡ settings.workers
+  pub parted : IsPartedToRun ops parting.owners settings.workers parting
   pub owners : HasOwners settings.parting parting

@@ -7,7 +7,7 @@ ghost use Rattle.ell_run.specs.RunFault.{of_input, of_text, of_write};
 ghost use Rattle.ell_run.specs.Settings.{AreSettings};
 ghost use Rattle.ell_run.specs.declared.bytes.RunFault.TheVariants.{NoMemory as no_memory};
 
-use crate::ordered::run_in_order;
+use crate::asked::run_as_asked;
 use crate::settings::{Report, Settings};
 use ell_ops::NoMemory;
 use ell_text::{INPUT_MAX, InputFault, TextFault, WriteFault, read_all, read_bulk, write_answer};
@@ -79,11 +79,11 @@ impl From<WriteFault> for RunFault {
 }
 
 /// Runs a bulk text: reads all of it, runs its operations from the map of its start keys as the settings say, and
-/// writes the answer, as the text's version has it. 1,000 operations or more are run in rounds of ascending keys
-/// (`ell_order`), since a tree that keys enter in ascending order would become a list; replies are written in the order
-/// of the text. Nothing is written before the run has ended. The reader is then at its end; after an error it has given
-/// some of its bytes, from the first on. The gate sees each call of the tree, under the number of its worker; `NoGate`
-/// sees none.
+/// writes the answer, as the text's version has it. Of 1,000 operations or more each worker runs its own in rounds of
+/// ascending keys (`ell_order`), since a tree that keys enter in ascending order would become a list; replies are
+/// written in the order of the text. Nothing is written before the run has ended. The reader is then at its end; after
+/// an error it has given some of its bytes, from the first on. The gate sees each call of the tree, under the number of
+/// its worker; `NoGate` sees none.
 pub fn run_bytes<
     R: Threads + Sync,
     A: Allocator + Copy + Send + Sync,
@@ -115,7 +115,7 @@ pub fn run_bytes<
     let bytes = read_all(alloc, reader)?;
     let bulk = read_bulk(rt, alloc, &bytes)?;
     drop(bytes);
-    let outcome = run_in_order(rt, alloc, &bulk.start, &bulk.ops, settings, gate)?;
+    let outcome = run_as_asked(rt, alloc, &bulk.start, &bulk.ops, settings, gate)?;
     write_answer(writer, bulk.version, &outcome.replies, &outcome.pairs)?;
     Ok(Report { late: outcome.late })
 }

@@ -2,11 +2,11 @@
 //! text, from bytes to bytes.
 #![tactic(auto)]
 
+mod asked;
 mod bytes;
 mod faults;
 mod late;
 mod laws;
-mod ordered;
 mod pieces;
 mod reservation;
 mod runs;

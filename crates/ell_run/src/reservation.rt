@@ -1,23 +1,78 @@
 //! How many cards a run reserves.
-ghost use Rattle.std.specs.Prelude.{◌≡◌, ◌≤◌, count_by, length, max, min};
-ghost use Rattle.ell_text.specs.Limits.{most_operations};
+ghost use Rattle.std.specs.Prelude.{◌≡◌, count_by, max, min};
 ghost use Rattle.ell_word.specs.Node.{most_cards};
 ghost use Rattle.ell_run.specs.Limits.{AreLimits};
-ghost use Rattle.ell_run.specs.Reservation.{cards_by_default, is_change, most_taken};
+ghost use Rattle.ell_run.specs.Reservation.{is_change, most_taken};
 ghost use Rattle.ell_run.specs.Settings.{IsAllowed};
 
 use crate::runs::Limits;
 use ell_ops::Op;
+use ell_order::is_reordered;
+use ell_parts::Parts;
+use ell_word::CARDS_MAX;
+use std::alloc::Allocator;
 
-// The cards for a list of operations, if no number of cards is given: one for each insert, delete and swap, an eighth
-// of that for tries that are lost, and 64.
-pub(crate) fn cards_by_default(ops: &[Op]) -> u64
-    requires few { length ops.now ≤ most_operations }
-    ensures value { result ≡ cards_by_default ops.now }
-    ensures allowed { IsAllowed most_cards result }
+// The cards for a list of operations and its parts, if no number of cards is given: one for each operation that may
+// change the map, an eighth of that for tries that are lost, and 64.
+pub(crate) fn cards_by_default<A: Allocator>(
+    start: &[(u64, u64)],
+    ops: &[Op],
+    parts: &Parts<'_, A>,
+) -> u64
+    ensures { IsAllowed most_cards result }
 {
-    let changes = count_changes(ops);
-    changes + changes / 8 + 64
+    let changes = if is_reordered(ops) {
+        changes_in_rounds(start, parts)
+    } else {
+        count_changes(ops)
+    };
+    let changes = changes.min(CARDS_MAX / 2);
+    (changes + changes / 8 + 64).min(CARDS_MAX)
+}
+
+// How many operations of parts in rounds may change the map.
+fn changes_in_rounds<A: Allocator>(start: &[(u64, u64)], parts: &Parts<'_, A>) -> u64 {
+    let mut changes: u64 = 0;
+    for worker in 0..parts.workers() {
+        changes = changes.saturating_add(changes_in(start, parts.part(worker)));
+    }
+    changes
+}
+
+// How many operations of a part in rounds may change the map. Those on a key stand side by side, so each goes by the
+// one before it, and the first by whether the key can be there at the start.
+fn changes_in(start: &[(u64, u64)], part: &[(usize, Op)]) -> u64 {
+    let at_start = if start.is_empty() { Some(false) } else { None };
+    let mut last = None;
+    let mut there = at_start;
+    let mut changes: u64 = 0;
+    for (_, op) in part {
+        if last != Some(op.key()) {
+            last = Some(op.key());
+            there = at_start;
+        }
+        changes = changes.saturating_add(u64::from(may_change(*op, there)));
+        there = there_after(*op, there);
+    }
+    changes
+}
+
+// Whether an operation may change the map, if this is known of whether its key is there.
+fn may_change(op: Op, there: Option<bool>) -> bool {
+    match op {
+        Op::Find(_) => false,
+        Op::Insert(_, _) => there != Some(true),
+        Op::Delete(_) | Op::Swap(_, _, _) => there != Some(false),
+    }
+}
+
+// What is known after an operation of whether its key is there.
+fn there_after(op: Op, there: Option<bool>) -> Option<bool> {
+    match op {
+        Op::Find(_) | Op::Swap(_, _, _) => there,
+        Op::Insert(_, _) => Some(true),
+        Op::Delete(_) => Some(false),
+    }
 }
 
 // The cards to reserve if this many workers are busy: those asked for, but no more than the operations can take, and at

@@ -1,8 +1,6 @@
 //! How a bulk text is run, and what a run reports.
-ghost use Rattle.std.specs.Prelude.{◌≡◌, ◌≤◌, IfOk, length, unwrap_or};
-ghost use Rattle.ell_text.specs.Limits.{most_operations};
+ghost use Rattle.std.specs.Prelude.{◌≡◌, IfOk, IfSome};
 ghost use Rattle.ell_run.specs.Limits.{AreLimits};
-ghost use Rattle.ell_run.specs.Reservation.{cards_by_default};
 ghost use Rattle.ell_run.specs.Settings.{AreSettings, IsPartedAs};
 
 use crate::faults::only_memory;
@@ -11,6 +9,7 @@ use crate::runs::Limits;
 use ell_ops::{NoMemory, Op};
 use ell_parts::{PartFault, Parts};
 use std::alloc::Allocator;
+use std::thread::Threads;
 
 /// The greatest number of tries that an insert or a delete may have.
 pub const TRIES_MAX: u32 = 1_000_000;
@@ -30,8 +29,8 @@ pub struct Settings {
     /// How many workers there are, 1 to `WORKERS_MAX`.
     pub workers: u32,
     pub parting: Parting,
-    /// The cards of the tree, 1 to `CARDS_MAX`; if no number is given, 9 for every 8 inserts, deletes and swaps,
-    /// rounded down, plus 64.
+    /// The cards of the tree, 1 to `CARDS_MAX`; if no number is given, 9 for every 8 operations that may change the
+    /// map, rounded down, plus 64.
     pub cards: Option<u64>,
     /// The tries that an insert or a delete has, 1 to `TRIES_MAX`.
     pub tries: u32,
@@ -44,19 +43,22 @@ pub struct Report {
     pub late: usize,
 }
 
-/// The parting of the operations that the settings ask for: among their workers, in stripes or in ranges.
-pub fn parts_for<A: Allocator + Copy>(
+/// The parting of the operations that the settings ask for: among their workers, in stripes or in ranges, each part in
+/// the order in which it is run.
+pub fn parts_for<'a, R: Threads + Sync, A: Allocator + Copy + Send + Sync>(
+    rt: &R,
     alloc: A,
-    ops: &[Op],
+    ops: &'a [Op],
     settings: Settings,
-) -> Result<Parts<'_, A>, NoMemory>
+) -> Result<Parts<'a, A>, NoMemory>
     requires { AreSettings settings }
-    // The operations are parted among the workers that the settings ask for, in stripes or in ranges.
+    // The operations are parted among the workers that the settings ask for, in stripes or in ranges. Each part is in
+    // rounds if the list is reordered, else in the order of the list.
     ensures { IfOk result (IsPartedAs settings ops.now) }
 {
     let parts = match settings.parting {
-        Parting::Stripe => Parts::striped(alloc, ops, settings.workers),
-        Parting::Range => Parts::ranged(alloc, ops, settings.workers),
+        Parting::Stripe => Parts::striped_to_run(rt, alloc, ops, settings.workers),
+        Parting::Range => Parts::ranged_to_run(rt, alloc, ops, settings.workers),
     };
     match parts {
         Ok(parts) => Ok(parts),
@@ -64,18 +66,24 @@ pub fn parts_for<A: Allocator + Copy>(
     }
 }
 
-// The limits that the settings ask for.
-pub(crate) fn limits_for(ops: &[Op], settings: Settings) -> Limits
-    requires settings { AreSettings settings }
-    requires few { length ops.now ≤ most_operations }
-    // Cards and tries are those of the settings. If these give no number of cards, there are 9 for every 8 changes,
-    // plus 64.
+// The limits that the settings ask for, for a list and its parts.
+pub(crate) fn limits_for<A: Allocator>(
+    start: &[(u64, u64)],
+    ops: &[Op],
+    parts: &Parts<'_, A>,
+    settings: Settings,
+) -> Limits
+    requires { AreSettings settings }
+    // Cards and tries are those of the settings. If these give no number of cards, there are some.
     ensures limits { AreLimits result }
-    ensures cards { result.cards ≡ unwrap_or settings.cards (cards_by_default ops.now) }
+    ensures cards { IfSome settings.cards (λ cards. result.cards ≡ cards) }
     ensures tries { result.tries ≡ settings.tries }
 {
     Limits {
-        cards: settings.cards.unwrap_or(cards_by_default(ops)),
+        cards: match settings.cards {
+            Some(cards) => cards,
+            None => cards_by_default(start, ops, parts),
+        },
         tries: settings.tries,
     }
 }

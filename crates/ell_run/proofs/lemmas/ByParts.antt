@@ -1,15 +1,18 @@
-use Rattle.std.proofs.Common.{◌≡◌, ℕ, zero, suc, ◌+◌, Bool, true, cond, List, [], ◌∷◌, ◌++◌, Some, eqb, take, drop, length, arith, refl, ap, sym, subst, ◌∙◌, ◌⊎◌, inl, inr, ⊎_elim}
+use Rattle.std.proofs.Common.{◌≡◌, ℕ, zero, suc, ◌+◌, ◌≤◌, Bool, true, cond, List, [], ◌∷◌, ◌++◌, Some, eqb, take, drop, length, arith, refl, ap, sym, subst, ◌∙◌, ◌⊎◌, inl, inr, ⊎_elim}
 use Rattle.std.specs.Prelude.{filter, slice_get, slice_index, ◌==◌}
 use Rattle.std.specs.List.{enumerate_from}
 use Rattle.std.proofs.Math.Seq.{take-add}
-use Rattle.std.proofs.lemmas.List.{map-append, take-append-drop, take-map, take-take}
-use Rattle.std.proofs.lemmas.Bool.{cases_Bool, cases_eq, eqb-true, eq-eqb, ne_eqb, cond-true, cond-false}
+use Rattle.std.proofs.lemmas.List.{get_or_past, map-append, take-append-drop, take-map, take-take}
+use Rattle.std.proofs.lemmas.Bool.{cases_Bool, cases_eq, cases_lt, eqb-true, eq-eqb, ne_eqb, cond-true, cond-false}
+use Rattle.std.proofs.lemmas.Option.{slice_get_within}
 use Rattle.ell_ops.specs.declared.Op.{Op}
 use Rattle.ell_ops.specs.Contents.{Contents}
-use Rattle.ell_ops.specs.Meaning.{key_of, after, replies, final}
+use Rattle.ell_ops.specs.Meaning.{key_of, replies, final}
+use Rattle.ell_order.specs.Orders.{KeepsKeys, on_key as items_on_key}
 use Rattle.ell_parts.specs.PartedOps.{PartedOps, IsLawful, part}
 use Rattle.ell_run.specs.ByParts.{ops_in, WorkerHasKey, done, IsRest, AreDone, ReplyAlike, PartsServe}
 use Rattle.ell_ops.proofs.lemmas.Places.{slice_get-drop, slice_get_from_take, slice_get_within_take}
+use Rattle.ell_order.proofs.lemmas.Kept.{Moved, moved, on_key_in}
 use Rattle.ell_order.proofs.lemmas.Numbered.{filter_at, front_numbered, numbered_at, passes_at}
 use Rattle.ell_order.proofs.lemmas.OnKey.{on_key, final_alike, final-append}
 use Rattle.ell_order.proofs.lemmas.Reordered.{op_at, same_reply}
@@ -45,13 +48,53 @@ stands_at owner s ops worker j i op e =
 abbrev pub owner_in : PartedOps → ℕ → ℕ
 owner_in parting position = slice_index parting.owners position
 
--- an item of a part stands at its position in the list, which is its worker's
-pub part_item : (parting : PartedOps) (worker k position : ℕ) (op : Op) → slice_get (part parting worker) k ≡ Some (position, op) →
+-- an item of a worker's operations in the order of the list stands at its position there, which is the worker's
+dealt_item : (parting : PartedOps) (worker k position : ℕ) (op : Op) → slice_get (part_from (owner_in parting) 0 parting.ops worker) k ≡ Some (position, op) →
     (owner_in parting position ≡ worker) × (slice_get parting.ops position ≡ Some op)
-part_item parting worker k position op e =
+dealt_item parting worker k position op e =
     let h = stands_at (owner_in parting) 0 parting.ops worker k position op e in
     let same : h.behind ≡ position = (let place = h.place in omega arith) in
     (h.owned, subst (λ n. slice_get parting.ops n ≡ Some op) same h.there)
+
+pub no_item : {X : Type 0} (xs : List X) → ((x : X) → slice_get xs 0 ≡ Some x → ⊥) → xs ≡ []
+no_item [] none = refl
+no_item (x ∷ xs) none = absurd (none x refl)
+
+-- who is no worker has nothing
+none_past : (parting : PartedOps) → IsLawful parting → (worker : ℕ) → parting.workers ≤ worker → part_from (owner_in parting) 0 parting.ops worker ≡ []
+none_past parting lawful worker past = no_item (part_from (owner_in parting) 0 parting.ops worker)
+    (λ item e.
+    let h = dealt_item parting worker 0 item.0 item.1 e in
+    let within = slice_get_within parting.ops item.0 item.1 h.1 in
+    let each = lawful.each in
+    let known = lawful.known item.0 (omega arith) in
+    let own = h.0 in
+    let no : ⊥ = omega arith in no)
+
+-- a part has its worker's operations, each key's in the order of the list
+pub part_keeps : (parting : PartedOps) → IsLawful parting → (worker : ℕ) → KeepsKeys (part_from (owner_in parting) 0 parting.ops worker) (part parting worker)
+part_keeps parting lawful worker =
+    ⊎_elim
+    (λ below. lawful.keeps worker below)
+    (λ past.
+    let none : part parting worker ≡ [] = get_or_past parting.parts worker [] (let count = lawful.parts in omega arith) in
+    let nothing = none_past parting lawful worker past in
+    record { count = ap length none ∙ sym (ap length nothing); each = λ key. ap (items_on_key key) none ∙ sym (ap (items_on_key key) nothing) })
+    (cases_lt worker parting.workers)
+
+-- an item of a part: its position is the worker's, and the list has its operation there; and where it stands among the
+-- worker's operations in the order of the list
+pub record InPart (parting : PartedOps) (worker k position : ℕ) (op : Op) : Type 0 where
+  pub owned : owner_in parting position ≡ worker
+  pub there : slice_get parting.ops position ≡ Some op
+  pub moved : Moved (part_from (owner_in parting) 0 parting.ops worker) (part parting worker) k position op
+
+pub in_part : (parting : PartedOps) → IsLawful parting → (worker k position : ℕ) (op : Op) → slice_get (part parting worker) k ≡ Some (position, op) →
+    InPart parting worker k position op
+in_part parting lawful worker k position op e =
+    let m = moved (part_from (owner_in parting) 0 parting.ops worker) (part parting worker) k position op ((part_keeps parting lawful worker).each (key_of op)) e in
+    let h = dealt_item parting worker m.place position op m.there in
+    record { owned = h.0; there = h.1; moved = m }
 
 -- the operations on an owned key are those of its worker's part
 part_on_key : (owner : ℕ → ℕ) (s : ℕ) (ops : List Op) (worker key : ℕ) →
@@ -72,25 +115,6 @@ part_on_key owner s (o ∷ ops) worker key owns =
     let own : eqb (owner s) worker ≡ true = eq-eqb (owner s) worker here in
     let no : ⊥ = cc in no))))
     (cases_Bool (eqb (owner s) worker))
-
--- where all items on a key are a worker's, the others do not matter to the key
-others_off_key : (owner : ℕ → ℕ) (items : List (ℕ × Op)) (worker key : ℕ) →
-    ((k i : ℕ) (op : Op) → slice_get items k ≡ Some (i, op) → key_of op ≡ key → owner i ≡ worker) →
-    on_key key (ops_in items) ≡ on_key key (ops_in (filter (λ item. owner item.0 == worker) items))
-others_off_key owner [] worker key owned = refl
-others_off_key owner (item ∷ items) worker key owned =
-    let rest : on_key key (ops_in items) ≡ on_key key (ops_in (filter (λ item. owner item.0 == worker) items)) =
-    others_off_key owner items worker key (λ k i op e on. owned (suc k) i op e on) in
-    ⊎_elim
-    (λ own. ap (λ l. cond (eqb (key_of item.1) key) (item.1 ∷ l) l) rest
-    ∙ sym (ap (λ l. on_key key (ops_in l)) (cond-true (eqb (owner item.0) worker) (item ∷ filter (λ item. owner item.0 == worker) items) _ own)))
-    (λ not_own. cond-false (eqb (key_of item.1) key) (item.1 ∷ on_key key (ops_in items)) (on_key key (ops_in items))
-    (ne_eqb (key_of item.1) key (λ on.
-    let own : eqb (owner item.0) worker ≡ true = eq-eqb (owner item.0) worker (owned 0 item.0 item.1 refl on) in
-    let no : ⊥ = cc in no))
-    ∙ rest
-    ∙ sym (ap (λ l. on_key key (ops_in l)) (cond-false (eqb (owner item.0) worker) (item ∷ filter (λ item. owner item.0 == worker) items) _ not_own)))
-    (cases_Bool (eqb (owner item.0) worker))
 
 -- some operation is on the key, or none is
 pub find_key : (ops : List Op) (key : ℕ) →
@@ -133,61 +157,38 @@ before_alike set parting worker d op owns =
     (part_on_key (λ i. slice_index parting.owners i) 0 (take d parting.ops) worker (key_of op)
     (λ k other e on. subst (λ n. slice_index parting.owners n ≡ worker) (omega arith) (owns k other (slice_get_from_take d parting.ops k other e) on)))
 
--- the same for the whole list
-pub whole_alike : (set : Contents) (parting : PartedOps) (worker key : ℕ) → WorkerHasKey parting worker key →
-    final set (ops_in (part parting worker)) key ≡ final set parting.ops key
-whole_alike set parting worker key owns =
-    final_alike (ops_in (part parting worker)) parting.ops set set key refl
-    (part_on_key (λ i. slice_index parting.owners i) 0 parting.ops worker key
-    (λ k other e on. subst (λ n. slice_index parting.owners n ≡ worker) (omega arith) (owns k other e on)))
+-- what stands before an operation in its part leaves its key as what stands before it in the list does
+part_before : (set : Contents) (parting : PartedOps) → IsLawful parting → (worker k position : ℕ) (op : Op) → slice_get (part parting worker) k ≡ Some (position, op) →
+    final set (ops_in (take k (part parting worker))) (key_of op) ≡ final set (take position parting.ops) (key_of op)
+part_before set parting lawful worker k position op e =
+    let key = key_of op in
+    let dealt = part_from (owner_in parting) 0 parting.ops worker in
+    let h = in_part parting lawful worker k position op e in
+    let s = stands_at (owner_in parting) 0 parting.ops worker h.moved.place position op h.moved.there in
+    let same : s.behind ≡ position = (let place = s.place in omega arith) in
+    final_alike (ops_in (take k (part parting worker))) (ops_in (take h.moved.place dealt)) set set key refl
+    (sym (on_key_in key (take k (part parting worker))) ∙ ap ops_in h.moved.prior ∙ on_key_in key (take h.moved.place dealt))
+    ∙ ap (λ items. final set (ops_in items) key) (s.before ∙ ap (λ n. part_from (owner_in parting) 0 (take n parting.ops) worker) same)
+    ∙ before_alike set parting worker position op (owns_key parting lawful worker position op h.there h.owned)
+
+-- the operations on a key of a part whose worker has the key are those of the list
+pub part_on_owned : (parting : PartedOps) → IsLawful parting → (worker key : ℕ) → WorkerHasKey parting worker key →
+    on_key key (ops_in (part parting worker)) ≡ on_key key parting.ops
+part_on_owned parting lawful worker key owns =
+    sym (on_key_in key (part parting worker)) ∙ ap ops_in ((part_keeps parting lawful worker).each key)
+    ∙ on_key_in key (part_from (owner_in parting) 0 parting.ops worker)
+    ∙ part_on_key (owner_in parting) 0 parting.ops worker key (λ k other e on. subst (λ n. owner_in parting n ≡ worker) (omega arith) (owns k other e on))
 
 -- a reply in a part is that in the list
 pub part_reply : (set : Contents) (parting : PartedOps) → IsLawful parting → (worker n : ℕ) → ReplyAlike set (take n (part parting worker)) set parting.ops
 part_reply set parting lawful worker n j i op e =
     let front : take j (take n (part parting worker)) ≡ take j (part parting worker) =
     take-take j n (part parting worker) (omega (arith, slice_get_within_take n (part parting worker) j (i, op) e)) in
-    let h = stands_at (λ i. slice_index parting.owners i) 0 parting.ops worker j i op (slice_get_from_take n (part parting worker) j (i, op) e) in
-    let here : h.behind ≡ i = (let place = h.place in omega arith) in
-    let own : slice_index parting.owners h.behind ≡ worker = subst (λ k. slice_index parting.owners k ≡ worker) (sym here) h.owned in
-    let owns = owns_key parting lawful worker h.behind op h.there own in
-    same_reply set set (ops_in (take n (part parting worker))) parting.ops j h.behind op (op_at (take n (part parting worker)) j i op e) h.there
-    (ap (λ xs. final set xs (key_of op)) (take-map (λ (item : ℕ × Op). item.1) j (take n (part parting worker)) ∙ ap ops_in (front ∙ h.before))
-    ∙ before_alike set parting worker h.behind op owns)
-    ∙ ap (slice_get (replies set parting.ops)) here
-
--- an operation of the rest, in its worker's part
-record IsLeft (parting : PartedOps) (counts : ℕ → ℕ) (rest : List (ℕ × Op)) (j i : ℕ) (op : Op) : Type 0 where
-  place : ℕ
-  there : slice_get (part parting (slice_index parting.owners i)) (counts (slice_index parting.owners i) + place) ≡ Some (i, op)
-  before : filter (λ item. slice_index parting.owners item.0 == slice_index parting.owners i) (take j rest)
-      ≡ take place (drop (counts (slice_index parting.owners i)) (part parting (slice_index parting.owners i)))
-  front : take (counts (slice_index parting.owners i) + place) (part parting (slice_index parting.owners i))
-      ≡ take (counts (slice_index parting.owners i)) (part parting (slice_index parting.owners i))
-      ++ take place (drop (counts (slice_index parting.owners i)) (part parting (slice_index parting.owners i)))
-
-is_left : (parting : PartedOps) (counts : ℕ → ℕ) (rest : List (ℕ × Op)) → IsRest parting counts rest → (j i : ℕ) (op : Op) → slice_get rest j ≡ Some (i, op) →
-    IsLeft parting counts rest j i op
-is_left parting counts rest remains j i op e =
-    let worker = slice_index parting.owners i in
-    let test : ℕ × Op → Bool = λ item. slice_index parting.owners item.0 == worker in
-    let n = length (filter test (take j rest)) in
-    let found = filter_at test rest j (i, op) e (eq-eqb worker worker refl) in
-    let there : slice_get (drop (counts worker) (part parting worker)) n ≡ Some (i, op) = ap (λ l. slice_get l n) (sym (remains worker)) ∙ found.0 in
-    record {
-      place = n;
-      there = sym (slice_get-drop (counts worker) (part parting worker) n) ∙ there;
-      before = sym found.1 ∙ ap (take n) (remains worker);
-      front = take-add (counts worker) n (part parting worker);
-    }
-
--- each item of the rest is an operation of the list at its position, and where it is on an owned key the owner's
-rest_owned : (parting : PartedOps) (counts : ℕ → ℕ) (rest : List (ℕ × Op)) → IsRest parting counts rest → (worker key : ℕ) → WorkerHasKey parting worker key →
-    (j i : ℕ) (op : Op) → slice_get rest j ≡ Some (i, op) → key_of op ≡ key → slice_index parting.owners i ≡ worker
-rest_owned parting counts rest remains worker key owns j i op e on =
-    let l = is_left parting counts rest remains j i op e in
-    let h = stands_at (λ i. slice_index parting.owners i) 0 parting.ops (slice_index parting.owners i) (counts (slice_index parting.owners i) + l.place) i op l.there in
-    let here : h.behind ≡ i = (let place = h.place in omega arith) in
-    subst (λ k. slice_index parting.owners k ≡ worker) here (owns h.behind op h.there on)
+    let there = slice_get_from_take n (part parting worker) j (i, op) e in
+    same_reply set set (ops_in (take n (part parting worker))) parting.ops j i op (op_at (take n (part parting worker)) j i op e)
+    (in_part parting lawful worker j i op there).there
+    (ap (λ xs. final set xs (key_of op)) (take-map (λ (item : ℕ × Op). item.1) j (take n (part parting worker)) ∙ ap ops_in front)
+    ∙ part_before set parting lawful worker j i op there)
 
 -- a front of the done part and what follows it, one after the other
 done_then : (set : Contents) (xs ys : List (ℕ × Op)) → final (final set (ops_in xs)) (ops_in ys) ≡ final set (ops_in (xs ++ ys))
@@ -196,23 +197,20 @@ done_then set xs ys = sym (final-append (ops_in xs) (ops_in ys) set) ∙ ap (fin
 rest_reply : (set : Contents) (parting : PartedOps) (counts : ℕ → ℕ) (after : Contents) (rest : List (ℕ × Op)) →
     IsLawful parting → AreDone set parting counts after → IsRest parting counts rest → ReplyAlike after rest set parting.ops
 rest_reply set parting counts after rest lawful did remains j i op e =
-    let worker = slice_index parting.owners i in
-    let l = is_left parting counts rest remains j i op e in
-    let h = stands_at (λ i. slice_index parting.owners i) 0 parting.ops worker (counts worker + l.place) i op l.there in
-    let here : h.behind ≡ i = (let place = h.place in omega arith) in
-    let own : slice_index parting.owners h.behind ≡ worker = ap (slice_index parting.owners) here in
-    let owns = owns_key parting lawful worker h.behind op h.there own in
-    let alike = others_off_key (λ i. slice_index parting.owners i) (take j rest) worker (key_of op)
-    (λ k other_i other found on. rest_owned parting counts rest remains worker (key_of op) owns k other_i other (slice_get_from_take j rest k (other_i, other) found) on)
-    ∙ ap (λ items. on_key (key_of op) (ops_in items)) l.before in
+    let key = key_of op in
+    let owner = some_owner parting lawful key in
+    let worker = owner.0 in
+    let left = drop (counts worker) (part parting worker) in
+    let m = moved left rest j i op (remains worker key owner.1) e in
+    let there : slice_get (part parting worker) (counts worker + m.place) ≡ Some (i, op) = sym (slice_get-drop (counts worker) (part parting worker) m.place) ∙ m.there in
     let front = done parting counts worker in
-    let next = take l.place (drop (counts worker) (part parting worker)) in
-    same_reply after set (ops_in rest) parting.ops j h.behind op (op_at rest j i op e) h.there
-    (ap (λ xs. final after xs (key_of op)) (take-map (λ (item : ℕ × Op). item.1) j rest)
-    ∙ final_alike (ops_in (take j rest)) (ops_in next) after (final set (ops_in front)) (key_of op) (did worker (key_of op) owns) alike
-    ∙ ap (λ s. s (key_of op)) (done_then set front next ∙ ap (λ items. final set (ops_in items)) (sym l.front ∙ h.before))
-    ∙ before_alike set parting worker h.behind op owns)
-    ∙ ap (slice_get (replies set parting.ops)) here
+    let next = take m.place left in
+    same_reply after set (ops_in rest) parting.ops j i op (op_at rest j i op e) (in_part parting lawful worker (counts worker + m.place) i op there).there
+    (ap (λ xs. final after xs key) (take-map (λ (item : ℕ × Op). item.1) j rest)
+    ∙ final_alike (ops_in (take j rest)) (ops_in next) after (final set (ops_in front)) key (did worker key owner.1)
+    (sym (on_key_in key (take j rest)) ∙ ap ops_in m.prior ∙ on_key_in key next)
+    ∙ ap (λ s. s key) (done_then set front next ∙ ap (λ items. final set (ops_in items)) (sym (take-add (counts worker) m.place (part parting worker))))
+    ∙ part_before set parting lawful worker (counts worker + m.place) i op there)
 
 rest_final : (set : Contents) (parting : PartedOps) (counts : ℕ → ℕ) (after : Contents) (rest : List (ℕ × Op)) →
     IsLawful parting → AreDone set parting counts after → IsRest parting counts rest → (key : ℕ) → final after (ops_in rest) key ≡ final set parting.ops key
@@ -221,11 +219,10 @@ rest_final set parting counts after rest lawful did remains key =
     let worker = owner.0 in
     let front = done parting counts worker in
     let next = drop (counts worker) (part parting worker) in
-    let alike = others_off_key (λ i. slice_index parting.owners i) rest worker key (rest_owned parting counts rest remains worker key owner.1)
-    ∙ ap (λ items. on_key key (ops_in items)) (remains worker) in
-    final_alike (ops_in rest) (ops_in next) after (final set (ops_in front)) key (did worker key owner.1) alike
+    final_alike (ops_in rest) (ops_in next) after (final set (ops_in front)) key (did worker key owner.1)
+    (sym (on_key_in key rest) ∙ ap ops_in (remains worker key owner.1) ∙ on_key_in key next)
     ∙ ap (λ s. s key) (done_then set front next ∙ ap (λ items. final set (ops_in items)) (take-append-drop (counts worker) (part parting worker)))
-    ∙ whole_alike set parting worker key owner.1
+    ∙ final_alike (ops_in (part parting worker)) parting.ops set set key refl (part_on_owned parting lawful worker key owner.1)
 
 pub parts_serve : PartsServe
 parts_serve set parting counts after rest lawful did remains = record {

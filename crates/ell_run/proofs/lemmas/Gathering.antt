@@ -1,12 +1,13 @@
-use Rattle.std.proofs.Common.{◌≡◌, ℕ, zero, suc, ◌+◌, ◌<◌, eqb, true, List, [], ◌∷◌, ◌++◌, Some, length, take, arith, ap, sym, subst, ◌∙◌, ⊎_elim}
-use Rattle.std.specs.Prelude.{slice_get}
+use Rattle.std.proofs.Common.{◌≡◌, ℕ, zero, suc, ◌+◌, ◌<◌, Bool, eqb, true, List, [], ◌∷◌, ◌++◌, Some, length, take, arith, refl, ap, sym, subst, ◌∙◌, ⊎_elim}
+use Rattle.std.specs.Prelude.{filter, slice_get, ◌==◌}
 use Rattle.std.specs.List.{flat_map, range_with_len}
 use Rattle.std.proofs.lemmas.List.{flat_map_more}
 use Rattle.std.proofs.lemmas.Option.{slice_get_within}
-use Rattle.std.proofs.lemmas.Bool.{cases_Bool, cases_eq, eq-eqb, cond-true, cond-false}
+use Rattle.std.proofs.lemmas.Bool.{cases_Bool, cases_eq, cases_lt, eq-eqb, cond-true, cond-false}
 use Rattle.ell_ops.specs.declared.op.Op.{Op}
 use Rattle.ell_ops.specs.Contents.{Contents}
-use Rattle.ell_ops.specs.Meaning.{reply_of, final, replies}
+use Rattle.ell_ops.specs.Meaning.{key_of, reply_of, final, replies}
+use Rattle.ell_order.specs.Orders.{on_key}
 use Rattle.ell_parts.specs.Gathering.{IsFor, AreSound}
 use Rattle.ell_parts.specs.PartedOps.{PartedOps, IsLawful, part}
 use Rattle.ell_ops.proofs.lemmas.Places.{slice_get-append, slice_get-append_behind, slice_get-append_cases, slice_get-take, slice_get_from_take, slice_get_within_take}
@@ -14,7 +15,9 @@ use Rattle.ell_ops.proofs.lemmas.Presence.{reply_at}
 use Rattle.ell_run.specs.ByParts.{done, ops_in}
 use Rattle.ell_run.specs.Pieces.{numbered, piece_from}
 use Rattle.ell_run.proofs.lemmas.Busy.{counted}
-use Rattle.ell_run.proofs.lemmas.ByParts.{owner_in, part_from, part_item, part_reply, stands_at}
+use Rattle.ell_run.proofs.lemmas.ByParts.{in_part, owner_in, part_from, part_keeps, part_reply, stands_at}
+use Rattle.ell_order.proofs.lemmas.Kept.{moved}
+use Rattle.ell_order.proofs.lemmas.Numbered.{fewer_before}
 use Rattle.ell_order.proofs.lemmas.Reordered.{op_at}
 use Rattle.ell_ops.specs.declared.reply.Reply.{Reply}
 
@@ -75,6 +78,41 @@ part_has owner s (o ∷ ops) worker (suc d) op e own =
     (λ other. (rest.0, ap (λ l. slice_get l rest.0) (cond-false (eqb (owner s) worker) ((s, o) ∷ part_from owner (s + 1) ops worker) _ other) ∙ found))
     (cases_Bool (eqb (owner s) worker))
 
+-- no two items of a part are of one position
+pub part_distinct : (parting : PartedOps) → IsLawful parting → (worker j k position : ℕ) (op other : Op) → slice_get (part parting worker) j ≡ Some (position, op) →
+    slice_get (part parting worker) k ≡ Some (position, other) → j < k → ⊥
+part_distinct parting lawful worker j k position op other ej ek below =
+    let dealt = part_from (owner_in parting) 0 parting.ops worker in
+    let test : ℕ × Op → Bool = λ item. key_of item.1 == key_of op in
+    let one = in_part parting lawful worker j position op ej in
+    let two = in_part parting lawful worker k position other ek in
+    let same : other ≡ op = (let a = one.there in let b = two.there in cc) in
+    let less = fewer_before test (part parting worker) j k (position, op) ej (eq-eqb (key_of op) (key_of op) refl) below in
+    let second : on_key (key_of op) (take k (part parting worker)) ≡ on_key (key_of op) (take two.moved.place dealt) =
+    subst (λ o. on_key (key_of o) (take k (part parting worker)) ≡ on_key (key_of o) (take two.moved.place dealt)) same two.moved.prior in
+    let place : one.moved.place ≡ two.moved.place =
+    ⊎_elim
+    (λ e. e)
+    (λ ne. ⊎_elim
+    (λ lower. let order = part_ascends (owner_in parting) parting.ops worker two.moved.place one.moved.place position position op other two.moved.there one.moved.there lower in absurd (omega arith))
+    (λ upper. let order = part_ascends (owner_in parting) parting.ops worker one.moved.place two.moved.place position position other op one.moved.there two.moved.there (omega arith) in absurd (omega arith))
+    (cases_lt one.moved.place two.moved.place))
+    (cases_eq one.moved.place two.moved.place) in
+    let equal : length (on_key (key_of op) (take j (part parting worker))) ≡ length (on_key (key_of op) (take k (part parting worker))) =
+    ap length (one.moved.prior ∙ ap (λ n. on_key (key_of op) (take n dealt)) place ∙ sym second) in
+    let no : ⊥ = omega arith in no
+
+-- each operation of the list stands in its worker's part
+pub part_covers : (parting : PartedOps) → IsLawful parting → (position : ℕ) (op : Op) → slice_get parting.ops position ≡ Some op →
+    (k : ℕ) × (slice_get (part parting (owner_in parting position)) k ≡ Some (position, op))
+part_covers parting lawful position op e =
+    let worker = owner_in parting position in
+    let same : 0 + position ≡ position = omega arith in
+    let found = part_has (owner_in parting) 0 parting.ops worker position op e (ap (owner_in parting) same) in
+    let m = moved (part parting worker) (part_from (owner_in parting) 0 parting.ops worker) found.0 position op
+    (sym ((part_keeps parting lawful worker).each (key_of op))) (found.1 ∙ ap (λ n. Some (n, op)) same) in
+    (m.place, m.there)
+
 -- lists that are sound and have no position in common are sound together
 pub together_sound : (n : ℕ) (xs ys : List (ℕ × Reply)) → AreSound n xs (length xs) → AreSound n ys (length ys) →
     ((i j position : ℕ) → IsFor xs i position → IsFor ys j position → ⊥) → AreSound n (xs ++ ys) (length (xs ++ ys))
@@ -122,13 +160,13 @@ item_tells start parting lawful counts worker k position reply e =
     let items = done parting counts worker in
     let t = tagged items (replies start (ops_in items)) k position reply e in
     let item = slice_get_from_take (counts worker) (part parting worker) k (position, t.0) t.1 in
-    let p = part_item parting worker k position t.0 item in
+    let p = in_part parting lawful worker k position t.0 item in
     record {
       op = t.0;
       early = slice_get_within_take (counts worker) (part parting worker) k (position, t.0) t.1;
       item = item;
-      owned = p.0;
-      there = p.1;
+      owned = p.owned;
+      there = p.there;
       told = sym (part_reply start parting lawful worker (counts worker) k position t.0 t.1) ∙ t.2;
     }
 
@@ -140,8 +178,7 @@ piece_sound start parting lawful counts worker k position below is_for =
       slice_get_within parting.ops position t.op t.there,
       λ i earlier again.
           let s = item_tells start parting lawful counts worker i position again.0 again.1 in
-          let before = part_ascends (owner_in parting) parting.ops worker k i position position s.op t.op t.item s.item earlier in
-          omega arith,
+          part_distinct parting lawful worker i k position s.op t.op s.item t.item earlier,
     )
 
 -- one worker's piece behind those of the workers before it
@@ -231,9 +268,9 @@ pub done_has : (start : Contents) (parting : PartedOps) → IsLawful parting →
     slice_get (part parting worker) k ≡ Some (position, op) → k < counts worker →
     (j : ℕ) × IsFor (pieces_of start parting counts parting.workers) j position
 done_has start parting lawful counts worker k position op e early =
-    let here = part_item parting worker k position op e in
+    let here = in_part parting lawful worker k position op e in
     let each = lawful.each in
-    let within = slice_get_within parting.ops position op here.1 in
-    let own = here.0 in
+    let within = slice_get_within parting.ops position op here.there in
+    let own = here.owned in
     let known = lawful.known position (omega arith) in
     pieces_have start parting counts parting.workers worker k position (omega arith) (piece_has start parting counts worker k position op e early)

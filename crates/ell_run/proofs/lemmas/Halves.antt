@@ -19,7 +19,7 @@ use Rattle.ell_tree.specs.Ledgers.{PassModel, TreeModel, Owns, ledger, present_i
 use Rattle.ell_tree.specs.PassParts.{IsUnion, or_else}
 use Rattle.ell_run.specs.Pieces.{all_not_done, ops_done}
 use Rattle.ell_run.specs.Work.{AreHalves, AreNotDone, AreReady, IsWorked, OwnsKeysOf, keys_for}
-use Rattle.ell_run.proofs.lemmas.ByParts.{part_item}
+use Rattle.ell_run.proofs.lemmas.ByParts.{in_part}
 use Rattle.ell_run.proofs.lemmas.NotDone.{all_not_done-append, both_not_done}
 use Rattle.ell_order.proofs.lemmas.OnKey.{on_key, on_key-append, final_alike}
 use Rattle.ell_run.proofs.lemmas.Rows.{IsOffKey, all_at, done-append, done_off_key, pieces-append, pieces_alike}
@@ -72,9 +72,9 @@ has_key parting workers key some =
 pub same_worker : (parting : PartedOps) → IsLawful parting → (w v j k : ℕ) (x y : ℕ × Op) → slice_get (part parting w) j ≡ Some x → slice_get (part parting v) k ≡ Some y →
     key_of x.1 ≡ key_of y.1 → w ≡ v
 same_worker parting lawful w v j k x y ex ey same =
-    let p = part_item parting w j x.0 x.1 ex in
-    let q = part_item parting v k y.0 y.1 ey in
-    sym p.0 ∙ lawful.together x.0 y.0 x.1 y.1 p.1 q.1 same ∙ q.0
+    let p = in_part parting lawful w j x.0 x.1 ex in
+    let q = in_part parting lawful v k y.0 y.1 ey in
+    sym p.owned ∙ lawful.together x.0 y.0 x.1 y.1 p.there q.there same ∙ q.owned
 
 get_or_first : (xs ys : List ℕ) (k d : ℕ) → k < length xs → get_or (xs ++ ys) k d ≡ get_or xs k d
 get_or_first [] ys k d below = absurd (omega arith)

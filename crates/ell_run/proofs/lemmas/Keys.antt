@@ -13,9 +13,9 @@ use Rattle.ell_parts.specs.PartedOps.{PartedOps, IsLawful, part, keys_of_part, k
 use Rattle.ell_run.specs.Pieces.{all_workers, busy}
 use Rattle.ell_run.specs.Work.{keys_for}
 use Rattle.ell_run.proofs.lemmas.Busy.{is_busy}
-use Rattle.ell_run.proofs.lemmas.ByParts.{owner_in, part_item}
+use Rattle.ell_run.proofs.lemmas.ByParts.{in_part, owner_in}
 use Rattle.ell_order.proofs.lemmas.Numbered.{filter_at}
-use Rattle.ell_run.proofs.lemmas.Gathering.{part_has}
+use Rattle.ell_run.proofs.lemmas.Gathering.{part_covers}
 use Rattle.ell_run.proofs.lemmas.Halves.{has_key}
 
 -- the keys of one worker
@@ -82,23 +82,23 @@ has_worker : (parting : PartedOps) → IsLawful parting → (key : ℕ) → keys
 has_worker parting lawful key some =
     let it = key_item parting.ops key some in
     let worker = owner_in parting it.0 in
-    let there = part_has (owner_in parting) 0 parting.ops worker it.0 it.1 it.2 (ap (owner_in parting) (omega arith)) in
-    let within = slice_get_within (part parting worker) there.0 (0 + it.0, it.1) there.1 in
+    let there = part_covers parting lawful it.0 it.1 it.2 in
+    let within = slice_get_within (part parting worker) there.0 (it.0, it.1) there.1 in
     record {
       worker = worker;
       known = lawful.known it.0 (omega (arith, lawful.each, slice_get_within parting.ops it.0 it.1 it.2));
       some = omega (arith, within);
       among =
           any_there (eqb key) (map (λ (item : ℕ × Op). key_of item.1) (part parting worker)) there.0 (key_of it.1)
-          (map_there (λ (item : ℕ × Op). key_of item.1) (part parting worker) there.0 (0 + it.0, it.1) there.1) (eq-eqb key (key_of it.1) it.3);
+          (map_there (λ (item : ℕ × Op). key_of item.1) (part parting worker) there.0 (it.0, it.1) there.1) (eq-eqb key (key_of it.1) it.3);
     }
 
 -- and each key of workers is on the list
-listed_key : (parting : PartedOps) (workers : List ℕ) (key : ℕ) → keys_for parting workers key ≡ true → keys_of_ops parting.ops key ≡ true
-listed_key parting workers key some =
+listed_key : (parting : PartedOps) → IsLawful parting → (workers : List ℕ) (key : ℕ) → keys_for parting workers key ≡ true → keys_of_ops parting.ops key ≡ true
+listed_key parting lawful workers key some =
     let has = has_key parting workers key some in
-    let here = part_item parting has.worker has.place has.item.0 has.item.1 has.there in
-    any_there (eqb key) (map key_of parting.ops) has.item.0 (key_of has.item.1) (map_there key_of parting.ops has.item.0 has.item.1 here.1)
+    let here = in_part parting lawful has.worker has.place has.item.0 has.item.1 has.there in
+    any_there (eqb key) (map key_of parting.ops) has.item.0 (key_of has.item.1) (map_there key_of parting.ops has.item.0 has.item.1 here.there)
     (eq-eqb key (key_of has.item.1) (sym has.on))
 
 -- a worker stands at its own place among all
@@ -109,7 +109,7 @@ stands_there parting worker known =
 
 -- the keys of all workers are those of the list
 pub all_keys : (parting : PartedOps) → IsLawful parting → keys_for parting (all_workers parting) ≡ keys_of_ops parting.ops
-all_keys parting lawful = λ i key. alike (keys_for parting (all_workers parting) key) (keys_of_ops parting.ops key) (listed_key parting (all_workers parting) key) (parted key) i
+all_keys parting lawful = λ i key. alike (keys_for parting (all_workers parting) key) (keys_of_ops parting.ops key) (listed_key parting lawful (all_workers parting) key) (parted key) i
   where
     parted : (key : ℕ) → keys_of_ops parting.ops key ≡ true → keys_for parting (all_workers parting) key ≡ true
     parted key some =
@@ -118,7 +118,7 @@ all_keys parting lawful = λ i key. alike (keys_for parting (all_workers parting
 
 -- and so are those of the busy ones
 pub busy_keys : (parting : PartedOps) → IsLawful parting → keys_for parting (busy parting) ≡ keys_of_ops parting.ops
-busy_keys parting lawful = λ i key. alike (keys_for parting (busy parting) key) (keys_of_ops parting.ops key) (listed_key parting (busy parting) key) (parted key) i
+busy_keys parting lawful = λ i key. alike (keys_for parting (busy parting) key) (keys_of_ops parting.ops key) (listed_key parting lawful (busy parting) key) (parted key) i
   where
     parted : (key : ℕ) → keys_of_ops parting.ops key ≡ true → keys_for parting (busy parting) key ≡ true
     parted key some =

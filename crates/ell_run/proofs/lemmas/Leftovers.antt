@@ -13,7 +13,7 @@ use Rattle.std.proofs.lemmas.Option.{slice_get-get_or, slice_get_within}
 use Rattle.ell_ops.specs.declared.op.Op.{Op}
 use Rattle.ell_ops.specs.Contents.{ListsPairs, contents_of}
 use Rattle.ell_ops.specs.Contents.{Contents}
-use Rattle.ell_ops.specs.Meaning.{final, replies, reply_of}
+use Rattle.ell_ops.specs.Meaning.{final, key_of, replies, reply_of}
 use Rattle.ell_ops.proofs.lemmas.Places.{slice_get_below, slice_get-append, slice_get-append_behind, slice_get-append_cases, slice_get-drop, slice_get_from_take, slice_get_within_take}
 use Rattle.ell_ops.proofs.lemmas.Presence.{reply_at}
 use Rattle.ell_parts.specs.Gathering.{AreSound, IsFor}
@@ -21,9 +21,11 @@ use Rattle.ell_parts.specs.PartedOps.{PartedOps, IsLawful, part}
 use Rattle.ell_run.specs.ByParts.{AreDone, IsAsOneThread, IsRest, WorkerHasKey, done, ops_in}
 use Rattle.ell_run.specs.Late.{is_answered, late_ops}
 use Rattle.ell_run.specs.Pieces.{ArePieces, IsPiece, all_workers, count_of, front, ops_done, piece_from}
-use Rattle.ell_run.proofs.lemmas.ByParts.{owner_in, part_from, part_item, parts_serve, stands_at}
+use Rattle.ell_run.proofs.lemmas.ByParts.{in_part, no_item, owner_in, part_from, part_keeps, parts_serve, stands_at}
+use Rattle.ell_order.proofs.lemmas.Numbered.{numbered_at}
 use Rattle.ell_order.proofs.lemmas.Reordered.{op_at}
-use Rattle.ell_run.proofs.lemmas.Gathering.{any_tells, done_has, part_ascends, part_has, pieces_of, pieces_sound, tagged, together_sound, untagged}
+use Rattle.ell_order.proofs.lemmas.Sorting.{filter_within}
+use Rattle.ell_run.proofs.lemmas.Gathering.{any_tells, done_has, part_ascends, part_covers, part_distinct, part_has, pieces_of, pieces_sound, tagged, together_sound, untagged}
 use Rattle.ell_order.proofs.lemmas.OnKey.{final_alike, on_key, on_key-append}
 use Rattle.ell_run.proofs.lemmas.Replies.{AreAnswers}
 use Rattle.ell_run.proofs.lemmas.Rows.{IsOffKey, done_off_key, front_off_key, length-pieces}
@@ -68,10 +70,6 @@ filter_fail : {X : Type 0} (p : X → Bool) (xs : List X) → ((k : ℕ) (x : X)
 filter_fail p [] fail = refl
 filter_fail p (x ∷ xs) fail =
     cond-false (p x) (x ∷ filter p xs) (filter p xs) (fail 0 x refl) ∙ filter_fail p xs (λ k y e. fail (suc k) y e)
-
-no_item : {X : Type 0} (xs : List X) → ((x : X) → slice_get xs 0 ≡ Some x → ⊥) → xs ≡ []
-no_item [] none = refl
-no_item (x ∷ xs) none = absurd (none x refl)
 
 -- two filters in either order
 filter_swap : {X : Type 0} (p q : X → Bool) (xs : List X) → filter q (filter p xs) ≡ filter p (filter q xs)
@@ -170,11 +168,11 @@ module _ (start : Contents) (parting : PartedOps) (pieces : List (List (ℕ × R
       ∙ flat_map-agree (λ k. get_or pieces k []) (λ k. piece_from start (done parting (count_of pieces) k)) piece_is (all_workers parting)
 
   -- each item is for a position of the list
-  pub within_list : (j position : ℕ) → j < length pieces → (k : ℕ) (reply : Reply) → slice_get (get_or pieces j []) k ≡ Some (position, reply) → position < length parting.ops
-  within_list j position below k reply e =
+  pub within_list : IsLawful parting → (j position : ℕ) → j < length pieces → (k : ℕ) (reply : Reply) → slice_get (get_or pieces j []) k ≡ Some (position, reply) → position < length parting.ops
+  within_list lawful j position below k reply e =
       let t = tagged (done parting (count_of pieces) j) (replies start (ops_in (done parting (count_of pieces) j))) k position reply (ap (λ l. slice_get l k) (sym (piece_is j)) ∙ e) in
-      let p = part_item parting j k position t.0 (slice_get_from_take (count_of pieces j) (part parting j) k (position, t.0) t.1) in
-      slice_get_within parting.ops position t.0 p.1
+      let p = in_part parting lawful j k position t.0 (slice_get_from_take (count_of pieces j) (part parting j) k (position, t.0) t.1) in
+      slice_get_within parting.ops position t.0 p.there
 
 module _ (start : Contents) (parting : PartedOps) (lawful : IsLawful parting) (pieces : List (List (ℕ × Reply))) (told : ArePieces start parting (all_workers parting) pieces) where
   abbrev counts : ℕ → ℕ
@@ -198,12 +196,11 @@ module _ (start : Contents) (parting : PartedOps) (lawful : IsLawful parting) (p
       let by = answered_by early position some in
       let t = any_tells start parting lawful counts parting.workers by.0 position by.1.0 by.1.1 in
       let here : slice_get (part parting worker) (counts worker + k) ≡ Some (position, op) = sym (slice_get-drop (counts worker) (part parting worker) k) ∙ e in
-      let own = (part_item parting worker (counts worker + k) position op here).0 in
+      let own = (in_part parting lawful worker (counts worker + k) position op here).owned in
       let same : t.worker ≡ worker = sym t.tells.owned ∙ own in
       let there : slice_get (part parting worker) t.place ≡ Some (position, t.tells.op) = ap (λ w. slice_get (part parting w) t.place) (sym same) ∙ t.tells.item in
       let before : t.place < counts worker = subst (λ w. t.place < counts w) same t.tells.early in
-      let order = part_ascends (owner_in parting) parting.ops worker (counts worker + k) t.place position position t.tells.op op here there (omega arith) in
-      absurd (omega arith))
+      absurd (part_distinct parting lawful worker t.place (counts worker + k) position t.tells.op op there here (omega arith)))
       (λ none. none)
       (cases_Bool (is_answered early position))
 
@@ -214,9 +211,8 @@ module _ (start : Contents) (parting : PartedOps) (lawful : IsLawful parting) (p
       let worker = owner_in parting item.0 in
       let within = slice_get_within parting.ops item.0 item.1 here.0 in
       let each = lawful.each in
-      let same : 0 + item.0 ≡ item.0 = omega arith in
-      let found = part_has (owner_in parting) 0 parting.ops worker item.0 item.1 here.0 (ap (owner_in parting) same) in
-      let there : slice_get (part parting worker) found.0 ≡ Some (item.0, item.1) = found.1 ∙ ap (λ n. Some (n, item.1)) same in
+      let found = part_covers parting lawful item.0 item.1 here.0 in
+      let there : slice_get (part parting worker) found.0 ≡ Some (item.0, item.1) = found.1 in
       let place = slice_get_within (part parting worker) found.0 (item.0, item.1) there in
       let long = all worker (lawful.known item.0 (omega arith)) in
       let has = done_has start parting lawful counts worker found.0 item.0 item.1 there (omega arith) in
@@ -226,23 +222,38 @@ module _ (start : Contents) (parting : PartedOps) (lawful : IsLawful parting) (p
 
   -- so what is late is the rest
   pub is_rest : IsRest parting counts (late_ops parting.ops early)
-  is_rest worker =
+  is_rest worker key owns =
       let unanswered : ℕ × Op → Bool = λ item. not (is_answered early item.0) in
-      filter_swap unanswered (λ item. slice_index parting.owners item.0 == worker) (enumerate_from 0 parting.ops)
-      ∙ ap (filter unanswered) (sym (take-append-drop (counts worker) (part parting worker)))
+      let on : ℕ × Op → Bool = λ item. key_of item.1 == key in
+      let own : ℕ × Op → Bool = λ item. slice_index parting.owners item.0 == worker in
+      let all = enumerate_from 0 parting.ops in
+      let of_part : filter on all ≡ filter on (part parting worker) =
+      sym ((part_keeps parting lawful worker).each key
+      ∙ filter_within on own all
+      (λ k d below t.
+      let item = get_or all k d in
+      let at = numbered_at 0 parting.ops k item.0 item.1 (slice_get-get_or all k d below) in
+      let place = at.0 in
+      let same : k ≡ item.0 = omega arith in
+      eq-eqb (slice_index parting.owners item.0) worker
+      (owns item.0 item.1 (subst (λ n. slice_get parting.ops n ≡ Some item.1) same at.1) (eqb-true (key_of item.1) key t)))) in
+      filter_swap unanswered on all
+      ∙ ap (filter unanswered) of_part
+      ∙ sym (filter_swap unanswered on (part parting worker))
+      ∙ ap (filter on) (ap (filter unanswered) (sym (take-append-drop (counts worker) (part parting worker)))
       ∙ filter-append unanswered (take (counts worker) (part parting worker)) (drop (counts worker) (part parting worker))
       ∙ ap₂ ◌++◌
       (filter_fail unanswered (take (counts worker) (part parting worker))
       (λ k item e. not_true (is_answered early item.0) (done_answered worker k item.0 item.1 e)))
       (filter_pass unanswered (drop (counts worker) (part parting worker))
-      (λ k item e. not_false (is_answered early item.0) (left_unanswered worker k item.0 item.1 e)))
+      (λ k item e. not_false (is_answered early item.0) (left_unanswered worker k item.0 item.1 e))))
 
   -- the other workers have nothing on a key that one owns
   others_off : (worker key other : ℕ) → WorkerHasKey parting worker key → other ≢ worker → IsOffKey parting key other
   others_off worker key other owns apart k d below on =
       let item = get_or (part parting other) k d in
-      let here = part_item parting other k item.0 item.1 (slice_get-get_or (part parting other) k d below) in
-      apart (sym here.0 ∙ owns item.0 item.1 here.1 on)
+      let here = in_part parting lawful other k item.0 item.1 (slice_get-get_or (part parting other) k d below) in
+      apart (sym here.owned ∙ owns item.0 item.1 here.there on)
 
   others_off_from : (worker key a n : ℕ) → WorkerHasKey parting worker key → worker < a → All (IsOffKey parting key) (range_with_len a n)
   others_off_from worker key a n owns before j d below =
@@ -373,11 +384,11 @@ module _ {V : Type 0} (seen : V → List (ℕ × Reply)) (start : Contents) (par
   pub all_pieces : flat_map seen pieces ≡ pieces_of start parting (count_of (map seen pieces)) parting.workers
   all_pieces = flat_map-seen seen pieces ∙ flat_is start parting (map seen pieces) told
 
-  pub all_within : All (λ piece. All (λ item. item.0 < length parting.ops) (seen piece)) pieces
-  all_within j d below k e within =
+  pub all_within : IsLawful parting → All (λ piece. All (λ item. item.0 < length parting.ops) (seen piece)) pieces
+  all_within lawful j d below k e within =
       let item = get_or (seen (get_or pieces j d)) k e in
       let piece : get_or (map seen pieces) j [] ≡ seen (get_or pieces j d) = get_or-map seen pieces j d [] below in
-      within_list start parting (map seen pieces) told j item.0 (omega (arith, length-map pieces seen)) k item.1
+      within_list start parting (map seen pieces) told lawful j item.0 (omega (arith, length-map pieces seen)) k item.1
       (ap (λ l. slice_get l k) piece ∙ slice_get-get_or (seen (get_or pieces j d)) k e within)
 
   pub nothing_late : IsLawful parting →

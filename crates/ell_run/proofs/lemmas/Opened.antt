@@ -22,7 +22,7 @@ use Rattle.ell_run.specs.WorkFault.{StopsWork}
 use Rattle.ell_run.specs.declared.faults.WorkFault.{WorkFault}
 use Rattle.ell_run.specs.declared.faults.WorkFault.TheVariants.{TooManyPasses, NoMemory}
 use Rattle.ell_run.proofs.lemmas.Busy.{all_ascend, all_known, busy_known, is_busy}
-use Rattle.ell_run.proofs.lemmas.ByParts.{part_item}
+use Rattle.ell_run.proofs.lemmas.ByParts.{in_part}
 use Rattle.ell_run.proofs.lemmas.Rows.{all_at}
 
 -- workers can set to work with a pass that owns all keys of the operations
@@ -38,8 +38,8 @@ ready_with tree parting workers pass lawful known ascending own idle owned = rec
   owned = λ j d below k e within.
       let worker = get_or workers j d in
       let item = get_or (part parting worker) k e in
-      let here = part_item parting worker k item.0 item.1 (slice_get-get_or (part parting worker) k e within) in
-      all_at (λ op. Owns pass (key_of op)) parting.ops item.0 item.1 owned here.1;
+      let here = in_part parting lawful worker k item.0 item.1 (slice_get-get_or (part parting worker) k e within) in
+      all_at (λ op. Owns pass (key_of op)) parting.ops item.0 item.1 owned here.there;
 }
 
 -- the busy ones can

@@ -69,6 +69,13 @@ fn a_list_is_parted_in_three_ways(rt: HostRuntime) {
     assert!(rt; is_parted(Parts::ranged(alloc, &[], 3), &EMPTY));
 }
 
+#[test]
+fn a_short_list_is_parted_alike_to_run(rt: HostRuntime) {
+    let alloc = rt.alloc();
+    assert!(rt; is_parted(Parts::striped_to_run(&rt, alloc, &FIVE, 2), &STRIPES));
+    assert!(rt; is_parted(Parts::ranged_to_run(&rt, alloc, &FIVE, 3), &RANGES));
+}
+
 // Each value has its text.
 fn have_texts<T: Display>(rt: &(impl Abort + AllocGlobal), rows: &[(T, &str)]) {
     for (value, text) in rows {

@@ -38,7 +38,7 @@ returns-then-is_all_done g c =
 pub answered-requires : goal.answered-requires
 answered-requires g c =
     subst (λ ops. All (λ piece. All (λ item. item.0 < length ops) piece.items) c.args.pieces.now) c.requires.parted
-    (all_within (λ piece. piece.items) c.requires.pieces.0 c.args.parts.now c.args.pieces.now c.requires.pieces.1)
+    (all_within (λ piece. piece.items) c.requires.pieces.0 c.args.parts.now c.args.pieces.now c.requires.pieces.1 c.is_all_done.ensures.lawful)
 
 pub returns : goal.returns
 returns g c = c.loop-at.invariant ∙ late_whole c.args.ops.now (flat_map (λ piece. piece.items) c.args.pieces.now) c.loop-at.at c.loop-at-test.false
