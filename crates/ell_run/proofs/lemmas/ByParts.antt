@@ -7,7 +7,7 @@ use Rattle.std.proofs.lemmas.Bool.{cases_Bool, cases_eq, cases_lt, eqb-true, eq-
 use Rattle.std.proofs.lemmas.Option.{slice_get_within}
 use Rattle.ell_ops.specs.declared.Op.{Op}
 use Rattle.ell_ops.specs.Contents.{Contents}
-use Rattle.ell_ops.specs.Meaning.{key_of, replies, final}
+use Rattle.ell_ops.specs.Meaning.{key_of, final}
 use Rattle.ell_order.specs.Orders.{KeepsKeys, on_key as items_on_key}
 use Rattle.ell_parts.specs.PartedOps.{PartedOps, IsLawful, part}
 use Rattle.ell_run.specs.ByParts.{ops_in, WorkerHasKey, done, IsRest, AreDone, ReplyAlike, PartsServe}

@@ -1,5 +1,5 @@
 use Rattle.std.proofs.Common.{◌≡◌, ℕ, zero, suc, ◌+◌, ◌<◌, Bool, eqb, true, List, [], ◌∷◌, ◌++◌, Some, length, take, arith, refl, ap, sym, subst, ◌∙◌, ⊎_elim}
-use Rattle.std.specs.Prelude.{filter, slice_get, ◌==◌}
+use Rattle.std.specs.Prelude.{slice_get, ◌==◌}
 use Rattle.std.specs.List.{flat_map, range_with_len}
 use Rattle.std.proofs.lemmas.List.{flat_map_more}
 use Rattle.std.proofs.lemmas.Option.{slice_get_within}

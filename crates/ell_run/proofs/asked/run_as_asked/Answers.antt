@@ -1,4 +1,4 @@
-use Rattle.std.proofs.Common.{◌≡◌, rules, subst, sym, ◌∙◌}
+use Rattle.std.proofs.Common.{rules}
 use Rattle.ell_run.specs.Settings.{IsPartedAs}
 use Rattle.ell_run.proofs.asked.run_as_asked.Goals as goal
 
