@@ -91,17 +91,26 @@ pub fn meet_in_turns<R: Threads + Abort + AllocGlobal + Sync>(
     meeting: Meeting,
 ) {
     let gate = Turns::new(turns);
+    meet_under(rt, &gate, meeting);
+    assert!(rt; gate.are_over());
+}
+
+// Has the two make their calls under a gate.
+fn meet_under<R: Threads + Abort + AllocGlobal + Sync, G: StepGate + Sync>(
+    rt: &R,
+    gate: &G,
+    meeting: Meeting,
+) {
     let (owned, held, rows) = (meeting.owned, meeting.held, meeting.rows);
     let (tree, pass) = opened_for(rt, meeting.start, owned, 100);
     let (zero, mut one) = parted(rt, &tree, pass, owned, meeting.by_zero);
     one.relabel(1);
-    let (shared, told) = (&tree, &gate);
+    let shared = &tree;
     let (zero, one) = join(
         rt,
-        move || play(rt, shared, zero, owned, told, held),
-        move || play(rt, shared, one, owned, told, rows),
+        move || play(rt, shared, zero, owned, gate, held),
+        move || play(rt, shared, one, owned, gate, rows),
     );
-    assert!(rt; gate.are_over());
     let pass = joined(rt, &tree, owned, zero, one);
     let pairs = close(rt, tree, pass, owned);
     assert!(rt; pairs.as_slice() == meeting.end);

@@ -47,18 +47,30 @@ fn meet_update<R: Threads + Abort + AllocGlobal + Sync>(
     want: Met,
     end: &[(u64, u64)],
 ) {
-    let (turns, called) = (held_at(rt, at, ends), AtomicU64::new(0));
+    let turns = held_at(rt, at, ends);
     let gate = Turns::new(&turns);
+    meet_under(rt, &gate, call, want, end);
+    assert!(rt; gate.are_over());
+}
+
+// The same under a gate, which holds worker 0.
+fn meet_under<R: Threads + Abort + AllocGlobal + Sync, G: StepGate + Sync>(
+    rt: &R,
+    gate: &G,
+    call: KeyCall,
+    want: Met,
+    end: &[(u64, u64)],
+) {
+    let called = AtomicU64::new(0);
     let (tree, pass) = opened_for(rt, &[(5, 50)], &[], 100);
     let (zero, mut one) = parted(rt, &tree, pass, &[], &[]);
     one.relabel(1);
-    let (shared, told, count) = (&tree, &gate, &called);
+    let (shared, count) = (&tree, &called);
     let ((zero, said), (one, also)) = join(
         rt,
-        move || run_update(rt, shared, zero, count, told),
-        move || run(rt, shared, one, call, 1, told),
+        move || run_update(rt, shared, zero, count, gate),
+        move || run(rt, shared, one, call, 1, gate),
     );
-    assert!(rt; gate.are_over());
     let pass = joined(rt, &tree, &[], zero, one);
     let pairs = close(rt, tree, pass, &[]);
     let is_so = said == want.0 && also == want.1 && called.load(Ordering::SeqCst) == want.2;
