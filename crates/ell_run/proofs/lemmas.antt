@@ -30,5 +30,7 @@ pub mod Paid
 pub mod Replies
 -- What a row of workers leaves, worker by worker.
 pub mod Rows
+-- In rounds the operations on a key stand side by side, so what is known of the key before each goes by the one before it.
+pub mod SideBySide
 -- What a run of a text tells of it, where its answer went out and where the write was cut short.
 pub mod Told

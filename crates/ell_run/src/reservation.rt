@@ -1,8 +1,9 @@
 //! How many cards a run reserves.
-ghost use Rattle.std.specs.Prelude.{◌≡◌, count_by, max, min};
+ghost use Rattle.std.specs.Prelude.{◌≡◌, ◌-◌, ◌^◌, All, count_by, max, min, sum_by};
+ghost use Rattle.ell_parts.specs.PartedOps.{IsPartedToRun};
 ghost use Rattle.ell_word.specs.Node.{most_cards};
 ghost use Rattle.ell_run.specs.Limits.{AreLimits};
-ghost use Rattle.ell_run.specs.Reservation.{is_change, most_taken};
+ghost use Rattle.ell_run.specs.Reservation.{HasRounds, cards_by_default, changes_in, is_change, known_at_start, may_change, most_taken, there_after};
 ghost use Rattle.ell_run.specs.Settings.{IsAllowed};
 
 use crate::runs::Limits;
@@ -19,19 +20,24 @@ pub(crate) fn cards_by_default<A: Allocator>(
     ops: &[Op],
     parts: &Parts<'_, A>,
 ) -> u64
-    ensures { IsAllowed most_cards result }
+    requires { IsPartedToRun ops.now parts.now.owners parts.now.workers parts.now }
+    ensures value { result ≡ cards_by_default start.now ops.now parts.now }
+    ensures allowed { IsAllowed most_cards result }
 {
     let changes = if is_reordered(ops) {
         changes_in_rounds(start, parts)
     } else {
         count_changes(ops)
     };
-    let changes = changes.min(CARDS_MAX / 2);
+    let changes = changes.min(CARDS_MAX);
     (changes + changes / 8 + 64).min(CARDS_MAX)
 }
 
 // How many operations of parts in rounds may change the map.
-fn changes_in_rounds<A: Allocator>(start: &[(u64, u64)], parts: &Parts<'_, A>) -> u64 {
+fn changes_in_rounds<A: Allocator>(start: &[(u64, u64)], parts: &Parts<'_, A>) -> u64
+    requires { All HasRounds parts.now.parts }
+    ensures { result ≡ min (2 ^ 64 - 1) (sum_by (changes_in (known_at_start start.now)) parts.now.parts) }
+{
     let mut changes: u64 = 0;
     for worker in 0..parts.workers() {
         changes = changes.saturating_add(changes_in(start, parts.part(worker)));
@@ -41,33 +47,49 @@ fn changes_in_rounds<A: Allocator>(start: &[(u64, u64)], parts: &Parts<'_, A>) -
 
 // How many operations of a part in rounds may change the map. Those on a key stand side by side, so each goes by the
 // one before it, and the first by whether the key can be there at the start.
-fn changes_in(start: &[(u64, u64)], part: &[(usize, Op)]) -> u64 {
-    let at_start = if start.is_empty() { Some(false) } else { None };
+fn changes_in(start: &[(u64, u64)], part: &[(usize, Op)]) -> u64
+    requires { HasRounds part.now }
+    ensures { result ≡ changes_in (known_at_start start.now) part.now }
+{
+    let at_start = known_at_start(start);
     let mut last = None;
     let mut there = at_start;
     let mut changes: u64 = 0;
     for (_, op) in part {
-        if last != Some(op.key()) {
-            last = Some(op.key());
-            there = at_start;
-        }
-        changes = changes.saturating_add(u64::from(may_change(*op, there)));
-        there = there_after(*op, there);
+        let known = if last == Some(op.key()) {
+            there
+        } else {
+            at_start
+        };
+        changes = changes.saturating_add(u64::from(may_change(*op, known)));
+        last = Some(op.key());
+        there = there_after(*op, known);
     }
     changes
 }
 
+// What is known at the start of whether a key is there: none is, if there are no pairs.
+fn known_at_start(start: &[(u64, u64)]) -> Option<bool>
+    ensures { result ≡ known_at_start start.now }
+{
+    if start.is_empty() { Some(false) } else { None }
+}
+
 // Whether an operation may change the map, if this is known of whether its key is there.
-fn may_change(op: Op, there: Option<bool>) -> bool {
+fn may_change(op: Op, there: Option<bool>) -> bool
+    ensures { result ≡ may_change op there }
+{
     match op {
         Op::Find(_) => false,
-        Op::Insert(_, _) => there != Some(true),
-        Op::Delete(_) | Op::Swap(_, _, _) => there != Some(false),
+        Op::Insert(_, _) => !there.unwrap_or(false),
+        Op::Delete(_) | Op::Swap(_, _, _) => there.unwrap_or(true),
     }
 }
 
 // What is known after an operation of whether its key is there.
-fn there_after(op: Op, there: Option<bool>) -> Option<bool> {
+fn there_after(op: Op, there: Option<bool>) -> Option<bool>
+    ensures { result ≡ there_after op there }
+{
     match op {
         Op::Find(_) | Op::Swap(_, _, _) => there,
         Op::Insert(_, _) => Some(true),

@@ -1,6 +1,7 @@
 //! How a bulk text is run, and what a run reports.
-ghost use Rattle.std.specs.Prelude.{◌≡◌, IfOk, IfSome};
+ghost use Rattle.std.specs.Prelude.{◌≡◌, IfOk, unwrap_or};
 ghost use Rattle.ell_run.specs.Limits.{AreLimits};
+ghost use Rattle.ell_run.specs.Reservation.{cards_by_default};
 ghost use Rattle.ell_run.specs.Settings.{AreSettings, IsPartedAs};
 
 use crate::faults::only_memory;
@@ -73,10 +74,11 @@ pub(crate) fn limits_for<A: Allocator>(
     parts: &Parts<'_, A>,
     settings: Settings,
 ) -> Limits
-    requires { AreSettings settings }
-    // Cards and tries are those of the settings. If these give no number of cards, there are some.
+    requires settings { AreSettings settings }
+    requires parted { IsPartedAs settings ops.now parts.now }
+    // Cards and tries are those of the settings. If these give no number of cards, it is that for the list.
     ensures limits { AreLimits result }
-    ensures cards { IfSome settings.cards (λ cards. result.cards ≡ cards) }
+    ensures cards { result.cards ≡ unwrap_or settings.cards (cards_by_default start.now ops.now parts.now) }
     ensures tries { result.tries ≡ settings.tries }
 {
     Limits {

@@ -78,10 +78,14 @@ all_known parting k d below =
 pub busy_known : (parting : PartedOps) → All (λ worker. worker < parting.workers) (busy parting)
 busy_known parting = All-filter (is_busy parting) (λ worker. worker < parting.workers) (all_workers parting) (all_known parting)
 
--- all workers stand in their order
-pub all_ascend : (parting : PartedOps) → IsStrictlyIncreasing (all_workers parting)
-all_ascend parting k below =
-    let within : k + 1 < parting.workers = omega (arith, length-range_with_len 0 parting.workers) in
-    let here = get_or-range_with_len 0 parting.workers k 0 (omega arith) in
-    let next = get_or-range_with_len 0 parting.workers (k + 1) 0 within in
+-- numbers counted from 0 ascend
+pub counted_ascend : (n : ℕ) → IsStrictlyIncreasing (range_with_len 0 n)
+counted_ascend n k below =
+    let within : k + 1 < n = omega (arith, length-range_with_len 0 n) in
+    let here = get_or-range_with_len 0 n k 0 (omega arith) in
+    let next = get_or-range_with_len 0 n (k + 1) 0 within in
     omega arith
+
+-- so all workers stand in their order
+pub all_ascend : (parting : PartedOps) → IsStrictlyIncreasing (all_workers parting)
+all_ascend parting = counted_ascend parting.workers

@@ -66,7 +66,7 @@ filter_pass p [] pass = refl
 filter_pass p (x ∷ xs) pass =
     cond-true (p x) (x ∷ filter p xs) (filter p xs) (pass 0 x refl) ∙ ap (λ l. x ∷ l) (filter_pass p xs (λ k y e. pass (suc k) y e))
 
-filter_fail : {X : Type 0} (p : X → Bool) (xs : List X) → ((k : ℕ) (x : X) → slice_get xs k ≡ Some x → p x ≡ false) → filter p xs ≡ []
+pub filter_fail : {X : Type 0} (p : X → Bool) (xs : List X) → ((k : ℕ) (x : X) → slice_get xs k ≡ Some x → p x ≡ false) → filter p xs ≡ []
 filter_fail p [] fail = refl
 filter_fail p (x ∷ xs) fail =
     cond-false (p x) (x ∷ filter p xs) (filter p xs) (fail 0 x refl) ∙ filter_fail p xs (λ k y e. fail (suc k) y e)

@@ -1,0 +1,261 @@
+use mir.Val.{bool_byte}
+use Rattle.std.proofs.Common.{◌≡◌, ◌≢◌, ℕ, zero, suc, ◌+◌, ◌-◌, ◌/◌, ◌^◌, ◌<◌, ◌≤◌, ◌&&◌, Bool, true, false, cond, Option, Some, None, All, eqb, List, [], ◌∷◌, ◌++◌, get_or, length, take, take_all, filter, count_by, sum_by, min, arith, refl, ap, sym, subst, ◌∙◌, ⊎_elim}
+use Rattle.std.specs.Prelude.{slice_get, is_some, ◌==◌}
+use Rattle.std.specs.List.{enumerate_from, range_with_len}
+use Rattle.std.specs.Option.{option_eq}
+use Rattle.std.proofs.lemmas.Bool.{cases_lt, cond-true, eq-eqb, eqb-true, ne_eqb}
+use Rattle.std.proofs.lemmas.List.{get_or_default, get_or-take, length-take-le, map-append}
+use Rattle.std.proofs.lemmas.List.Elements.{filter_more}
+use Rattle.std.proofs.lemmas.List.FromFn.{get_or-enumerate_from, get_or-range_with_len, length-enumerate_from, length-range_with_len}
+use Rattle.std.proofs.lemmas.List.Kept.{IsStrictlyIncreasing-filter}
+use Rattle.std.proofs.lemmas.List.Sums.{count_by-le-length, sum_by_more}
+use Rattle.std.proofs.lemmas.Map.Keys.{any_passes_from_place}
+use Rattle.std.proofs.lemmas.Map.Views.{any-filter_same}
+use Rattle.std.proofs.lemmas.Option.{get_or_from_slice_get, slice_get-get_or, slice_get_within}
+use Rattle.ell_ops.specs.declared.op.Op.{Op}
+use Rattle.ell_ops.specs.Contents.{nothing}
+use Rattle.ell_ops.specs.KeySet.{Lists, set_of}
+use Rattle.ell_ops.specs.Meaning.{key_of}
+use Rattle.ell_order.specs.Orders.{is_reordered, on_key, ops_in}
+use Rattle.ell_order.specs.Rounds.{AreInRounds, keys_left, round}
+use Rattle.ell_order.proofs.lemmas.Numbered.{fewer_before, filter_at}
+use Rattle.ell_order.proofs.lemmas.OnKey.{final_alike, none_on_key}
+use Rattle.ell_parts.specs.PartedOps.{IsPartedToRun, PartedOps, dealt, part}
+use Rattle.ell_run.specs.Reservation.{HasRounds, changes_in, known_after, may_change, may_change_behind, there_after}
+use Rattle.ell_run.proofs.lemmas.Busy.{counted_ascend}
+use Rattle.ell_run.proofs.lemmas.Leftovers.{filter_fail}
+
+-- more than any key of a list
+abbrev above : List Op → ℕ
+above [] = 0
+above (op ∷ ops) = key_of op + 1 + above ops
+
+others_above : (ops : List Op) (key : ℕ) → above ops ≤ key → All (λ op. key_of op ≢ key) ops
+others_above [] key high i d below = absurd (omega arith)
+others_above (op ∷ ops) key high zero d below = λ same. let own : key_of op ≡ key = same in absurd (omega arith)
+others_above (op ∷ ops) key high (suc i) d below = others_above ops key (omega arith) i d (omega arith)
+
+none_left_above : (ops : List Op) (key : ℕ) → above ops ≤ key → keys_left ops key ≡ false
+none_left_above ops key high =
+    ap is_some (final_alike ops [] nothing nothing key refl (none_on_key ops key (others_above ops key high)))
+
+number_counted : (n key : ℕ) → key < n → set_of (range_with_len 0 n) key ≡ true
+number_counted n key below =
+    let long : key < length (range_with_len 0 n) = omega (arith, length-range_with_len 0 n) in
+    let here = get_or-range_with_len 0 n key 0 below in
+    let same : get_or (range_with_len 0 n) key 0 ≡ key = omega arith in
+    any_passes_from_place (eqb key) (range_with_len 0 n) key key
+    (slice_get-get_or (range_with_len 0 n) key 0 long ∙ ap Some same) (eq-eqb key key refl)
+
+-- the keys that a list leaves can be listed
+pub left_of : (ops : List Op) → (left : List ℕ) × Lists (keys_left ops) left
+left_of ops = (filter (keys_left ops) numbers, record { ascending = IsStrictlyIncreasing-filter (keys_left ops) numbers (counted_ascend (above ops)); each = λ i q. each q i }) where
+  numbers : List ℕ
+  numbers = range_with_len 0 (above ops)
+
+  kept : (q : ℕ) → set_of (filter (keys_left ops) numbers) q ≡ (keys_left ops q && set_of numbers q)
+  kept q = any-filter_same (eqb q) (keys_left ops) (keys_left ops q) (λ k same. ap (keys_left ops) (sym (eqb-true q k same))) numbers
+
+  with_all : (b : Bool) → (b && true) ≡ b
+  with_all true = refl
+  with_all false = refl
+
+  each : (q : ℕ) → set_of (filter (keys_left ops) numbers) q ≡ keys_left ops q
+  each q = kept q ∙ ⊎_elim
+      (λ below. ap (λ b. keys_left ops q && b) (number_counted (above ops) q below) ∙ with_all (keys_left ops q))
+      (λ high. ap (λ b. b && set_of numbers q) (none_left_above ops q high) ∙ sym (none_left_above ops q high))
+      (cases_lt q (above ops))
+
+-- in rounds, a key that is not the one before it has not stood before
+module _ (left : List ℕ) (part : List (ℕ × Op)) (rounds : AreInRounds left (λ item. key_of item.1) part) (d : ℕ × Op) where
+  abbrev key_at : ℕ → ℕ
+  key_at i = key_of (get_or part i d).1
+
+  -- what stands in one round keeps its place there
+  module _ (k : ℕ) where
+    abbrev in_round : ℕ × Op → Bool
+    in_round item = round left (key_of item.1) == round left k
+
+    abbrev place : ℕ → ℕ
+    place i = length (filter in_round (take i part))
+
+    there : (i : ℕ) → i < length part → round left (key_at i) ≡ round left k →
+        slice_get (filter in_round part) (place i) ≡ Some (get_or part i d)
+    there i below same =
+        (filter_at in_round part i (get_or part i d) (slice_get-get_or part i d below) (eq-eqb (round left (key_at i)) (round left k) same)).0
+
+    ascend : (i j : ℕ) → i < j → j < length part → round left (key_at i) ≡ round left k → round left (key_at j) ≡ round left k →
+        key_at i ≤ key_at j
+    ascend i j before below first second =
+        let here = there i (omega arith) first in
+        let later = there j below second in
+        let fewer = fewer_before in_round part i j (get_or part i d) (slice_get-get_or part i d (omega arith)) (eq-eqb (round left (key_at i)) (round left k) first) before in
+        let within = slice_get_within (filter in_round part) (place j) (get_or part j d) later in
+        let rises = rounds.keys k (place i) (place j) d (omega arith) within in
+        let one = get_or_from_slice_get (filter in_round part) (place i) (get_or part i d) d here in
+        let other = get_or_from_slice_get (filter in_round part) (place j) (get_or part j d) d later in
+        subst (λ (item : ℕ × Op). key_of item.1 ≤ key_at j) one
+        (subst (λ (item : ℕ × Op). key_of (get_or (filter in_round part) (place i) d).1 ≤ key_of item.1) other rises)
+
+  never_before : (i j : ℕ) → j < i → i < length part → key_at (i - 1) ≢ key_at i → key_at j ≢ key_at i
+  never_before i j before below turns same =
+      ⊎_elim
+      (λ early.
+      let up : round left (key_at j) ≤ round left (key_at (i - 1)) = rounds.rounds j (i - 1) d (omega arith) (omega arith) in
+      let on : round left (key_at (i - 1)) ≤ round left (key_at i) = rounds.rounds (i - 1) i d (omega arith) below in
+      let alike : round left (key_at j) ≡ round left (key_at i) = ap (round left) same in
+      let between : round left (key_at (i - 1)) ≡ round left (key_at i) = omega arith in
+      let low = ascend (key_at i) j (i - 1) early (omega arith) alike between in
+      let high = ascend (key_at i) (i - 1) i (omega arith) below between refl in
+      turns (omega arith))
+      (λ late.
+      let at : j ≡ i - 1 = omega arith in
+      turns (ap key_at (sym at) ∙ same))
+      (cases_lt j (i - 1))
+
+-- with no operation before it that is on a key
+pub none_before : (left : List ℕ) (part : List (ℕ × Op)) → AreInRounds left (λ item. key_of item.1) part → (i : ℕ) (d : ℕ × Op) → i + 1 < length part →
+    key_of (get_or part i d).1 ≢ key_of (get_or part (i + 1) d).1 → on_key (key_of (get_or part (i + 1) d).1) (take (i + 1) part) ≡ []
+none_before left part rounds i d below turns =
+    let key = key_of (get_or part (i + 1) d).1 in
+    filter_fail (λ item. key_of item.1 == key) (take (i + 1) part) (λ j item found.
+    let within = slice_get_within (take (i + 1) part) j item found in
+    let short : j < i + 1 = omega (arith, length-take-le (i + 1) part (omega arith)) in
+    let here : item ≡ get_or part j d = sym (get_or_from_slice_get (take (i + 1) part) j item d found) ∙ get_or-take (i + 1) part j d short in
+    let same : i + 1 - 1 ≡ i = omega arith in
+    let other = never_before left part rounds d (i + 1) j short below (subst (λ n. key_of (get_or part n d).1 ≢ key) (sym same) turns) in
+    ap (λ (it : ℕ × Op). key_of it.1 == key) here ∙ ne_eqb (key_of (get_or part j d).1) key other)
+
+-- whether a numbered operation of a part may change the map behind those before it
+abbrev pub changes_at : Option Bool → List (ℕ × Op) → ℕ × (ℕ × Op) → Bool
+changes_at at_start part place = may_change_behind at_start (take place.0 part) place.1.1
+
+abbrev pub known_of : Option Bool → List (ℕ × Op) → ℕ → Option Bool
+known_of at_start items key = known_after at_start (ops_in (on_key key items))
+
+-- the first operations of a part are counted: what is known of the key of the last of them is what they say, and the next is the
+-- first on its key, unless it is on that one
+pub record AreCounted (at_start : Option Bool) (part : List (ℕ × Op)) (i : ℕ) (last : Option ℕ) (there : Option Bool) (changes : ℕ) : Type 0 where
+  pub count : changes ≡ count_by (changes_at at_start part) (take i (enumerate_from 0 part))
+  pub known : (key : ℕ) → last ≡ Some key → there ≡ known_of at_start (take i part) key
+  pub first : (d : ℕ × Op) → i < length part → last ≢ Some (key_of (get_or part i d).1) → on_key (key_of (get_or part i d).1) (take i part) ≡ []
+
+pub few_counted : (at_start : Option Bool) (part : List (ℕ × Op)) (i : ℕ) (last : Option ℕ) (there : Option Bool) (changes : ℕ) → i ≤ length part →
+    AreCounted at_start part i last there changes → changes ≤ i
+few_counted at_start part i last there changes within are =
+    let numbered = length-enumerate_from 0 part in
+    let fewer = count_by-le-length (changes_at at_start part) (take i (enumerate_from 0 part)) in
+    let long = length-take-le i (enumerate_from 0 part) (omega arith) in
+    let same = are.count in
+    omega arith
+
+pub all_counted : (at_start : Option Bool) (part : List (ℕ × Op)) (i : ℕ) (last : Option ℕ) (there : Option Bool) (changes : ℕ) → length part ≤ i →
+    AreCounted at_start part i last there changes → changes ≡ changes_in at_start part
+all_counted at_start part i last there changes end are =
+    are.count ∙ ap (count_by (changes_at at_start part)) (take_all i (enumerate_from 0 part) (omega (arith, length-enumerate_from 0 part)))
+
+known_after-append : (xs : List Op) (op : Op) (there : Option Bool) → known_after there (xs ++ op ∷ []) ≡ there_after op (known_after there xs)
+known_after-append [] op there = refl
+known_after-append (x ∷ xs) op there = known_after-append xs op (there_after x there)
+
+last_is : (last : Option ℕ) (key : ℕ) → option_eq eqb last (Some key) ≡ true → last ≡ Some key
+last_is None key e = let no : ⊥ = cc in absurd no
+last_is (Some k) key e = ap Some (eqb-true k key e)
+
+last_other : (last : Option ℕ) (key : ℕ) → option_eq eqb last (Some key) ≡ false → last ≢ Some key
+last_other last key e same =
+    let own : option_eq eqb last (Some key) ≡ true = ap (λ o. option_eq eqb o (Some key)) same ∙ eq-eqb key key refl in
+    let no : ⊥ = cc in absurd no
+
+-- what is known of the next one's key: that which is known of the last one's, where this is the same, and else that which is
+-- known at the start
+pub known_here : (at_start : Option Bool) (part : List (ℕ × Op)) (i : ℕ) (last : Option ℕ) (there known : Option Bool) (changes key : ℕ) (d : ℕ × Op) → i < length part →
+    AreCounted at_start part i last there changes → key ≡ key_of (get_or part i d).1 →
+    (same : Bool) → option_eq eqb last (Some key) ≡ same → known ≡ cond same there at_start →
+    known ≡ known_of at_start (take i part) (key_of (get_or part i d).1)
+known_here at_start part i last there known changes key d below are is_key true e is =
+    is ∙ are.known (key_of (get_or part i d).1) (last_is last key e ∙ ap Some is_key)
+known_here at_start part i last there known changes key d below are is_key false e is =
+    is ∙ sym (ap (λ l. known_after at_start (ops_in l)) (are.first d below (λ same. last_other last key e (same ∙ ap Some (sym is_key)))))
+
+-- one more, where there is room for it
+pub one_added : (more : Bool) (changes byte sum : ℕ) → changes < 18446744073709551615 → byte ≡ bool_byte more →
+    sum ≡ min (changes + byte) 18446744073709551615 → sum ≡ changes + cond more 1 0
+one_added true changes byte sum room is all = let one : byte ≡ 1 = is in omega arith
+one_added false changes byte sum room is all = let none : byte ≡ 0 = is in omega arith
+
+-- so one operation more is counted
+pub one_counted : (at_start : Option Bool) (part : List (ℕ × Op)) (i : ℕ) (last : Option ℕ) (there known after : Option Bool) (changes sum key : ℕ) (d : ℕ × Op) →
+    HasRounds part → i < length part → AreCounted at_start part i last there changes →
+    known ≡ known_of at_start (take i part) (key_of (get_or part i d).1) → key ≡ key_of (get_or part i d).1 →
+    after ≡ there_after (get_or part i d).1 known → sum ≡ changes + cond (may_change (get_or part i d).1 known) 1 0 →
+    AreCounted at_start part (i + 1) (Some key) after sum
+one_counted at_start part i last there known after changes sum key d rounds below are is_known is_key is_after is_sum = record {
+  count = is_sum ∙ ap (λ n. n + cond (may_change op known) 1 0) are.count
+      ∙ ap (λ b. count_by test (take i (enumerate_from 0 part)) + cond b 1 0) (ap (may_change op) is_known ∙ sym (ap test here))
+      ∙ sym (sum_by_more (λ place. cond (test place) 1 0) (enumerate_from 0 part) i (0, d) numbered);
+  known = λ k last_is.
+      let now : key_of op ≡ k = sym is_key ∙ (let same : key ≡ k = cc in same) in
+      let all : on_key (key_of op) (take (i + 1) part) ≡ on_key (key_of op) (take i part) ++ item ∷ [] =
+      filter_more (λ item. key_of item.1 == key_of op) part i d below
+      ∙ ap (λ l. on_key (key_of op) (take i part) ++ l) (cond-true (eqb (key_of op) (key_of op)) (item ∷ []) [] (eq-eqb (key_of op) (key_of op) refl)) in
+      is_after ∙ ap (there_after op) is_known ∙ sym (known_after-append (ops_in (on_key (key_of op) (take i part))) op at_start)
+      ∙ ap (known_after at_start) (sym (map-append (λ (it : ℕ × Op). it.1) (on_key (key_of op) (take i part)) (item ∷ [])))
+      ∙ ap (λ l. known_after at_start (ops_in l)) (sym all)
+      ∙ ap (known_of at_start (take (i + 1) part)) now;
+  first = λ e next turns.
+      let same_next : get_or part (i + 1) e ≡ get_or part (i + 1) d = get_or_default part (i + 1) e d next in
+      subst (λ (it : ℕ × Op). on_key (key_of it.1) (take (i + 1) part) ≡ []) (sym same_next)
+      (none_before rounds.0 part rounds.1 i d next (λ alike. turns (ap Some (is_key ∙ alike ∙ ap (λ (it : ℕ × Op). key_of it.1) (sym same_next)))));
+} where
+  item : ℕ × Op
+  item = get_or part i d
+
+  op : Op
+  op = item.1
+
+  test : ℕ × (ℕ × Op) → Bool
+  test = changes_at at_start part
+
+  numbered : i < length (enumerate_from 0 part)
+  numbered = omega (arith, length-enumerate_from 0 part)
+
+  here : get_or (enumerate_from 0 part) i (0, d) ≡ (i, item)
+  here = get_or-enumerate_from 0 part i (0, d) below ∙ (let same : 0 + i ≡ i = omega arith in ap {B = ℕ × (ℕ × Op)} (λ n. (n, item)) same)
+
+-- the parts of a list that is reordered are in rounds
+pub all_in_rounds : (ops : List Op) (parting : PartedOps) → IsPartedToRun ops parting.owners parting.workers parting → is_reordered ops ≡ true →
+    All HasRounds parting.parts
+all_in_rounds ops parting parted reordered worker d below =
+    let within : worker < parting.workers = omega (arith, parted.lawful.parts) in
+    let put = (parted.order worker within).rounds reordered in
+    let left = left_of (ops_in (dealt ops parting.owners worker)) in
+    let same : get_or parting.parts worker d ≡ part parting worker = get_or_default parting.parts worker d [] below in
+    subst HasRounds (sym same) (left.0, put.rounds left.0 left.1)
+
+-- the parts of the first workers are summed, as far as the sum fits
+abbrev pub summed : (List (ℕ × Op) → ℕ) → PartedOps → ℕ → ℕ
+summed changes parting workers = min (2 ^ 64 - 1) (sum_by changes (take workers parting.parts))
+
+pub none_summed : (changes : List (ℕ × Op) → ℕ) (parting : PartedOps) → 0 ≡ summed changes parting 0
+none_summed changes parting = let none : sum_by changes [] ≡ 0 = refl in omega arith
+
+pub one_summed : (changes : List (ℕ × Op) → ℕ) (parting : PartedOps) (worker so_far here sum : ℕ) → worker < length parting.parts →
+    so_far ≡ summed changes parting worker → here ≡ changes (part parting worker) → sum ≡ min (so_far + here) 18446744073709551615 →
+    sum ≡ summed changes parting (worker + 1)
+one_summed changes parting worker so_far here sum below before is all =
+    let more : sum_by changes (take (worker + 1) parting.parts) ≡ sum_by changes (take worker parting.parts) + changes (part parting worker) =
+    sum_by_more changes parting.parts worker [] below in
+    omega arith
+
+pub all_summed : (changes : List (ℕ × Op) → ℕ) (parting : PartedOps) (workers : ℕ) → length parting.parts ≤ workers →
+    summed changes parting workers ≡ min (2 ^ 64 - 1) (sum_by changes parting.parts)
+all_summed changes parting workers end = ap (λ parts. min (2 ^ 64 - 1) (sum_by changes parts)) (take_all workers parting.parts end)
+
+-- a count that is cut off where no more cards may be gives as many
+pub with_spare : (count : ℕ) → min (min count 1000000 + min count 1000000 / 8 + 64) 1000000 ≡ min 1000000 (count + count / 8 + 64)
+with_spare count = omega arith
+
+-- where the count is cut off far above that
+pub cut_off : (count : ℕ) → min (min (2 ^ 64 - 1) count) 1000000 ≡ min count 1000000
+cut_off count = omega arith
