@@ -13,7 +13,7 @@ int main() {
     for (auto &handle : handles)
         threads.emplace_back([&handle] {
             for (int i = 0; i < 1000; i++)
-                handle.fetch_add(7, 1);
+                handle.fetch_add(7, 1, 100000); // a try is lost only where another thread gets ahead
         });
     for (auto &thread : threads)
         thread.join();
