@@ -1,5 +1,6 @@
-//! Numbers mixed, and their rounds, as another program has them.
-use ell_order::{mixed, round_of};
+//! Numbers mixed, and their rounds, as another program has them, and operations in rounds.
+use ell_ops::Op;
+use ell_order::{in_rounds, mixed, round_of};
 
 #[test]
 fn numbers_are_mixed_as_another_program_mixes_them(rt: HostRuntime) {
@@ -21,4 +22,25 @@ fn the_round_of_a_number_is_how_many_digits_it_has_scrambled(rt: HostRuntime) {
     for (number, round) in rows {
         assert!(rt; round_of(number) == round, "number {number}");
     }
+}
+
+// The keys 3, 5 and 7 are left, of the ranks 0, 1 and 2, and so of the rounds 0, 64 and 62.
+const AS_THEY_STAND: [(usize, Op); 4] = [
+    (0, Op::Insert(7, 70)),
+    (1, Op::Insert(5, 50)),
+    (2, Op::Find(7)),
+    (3, Op::Insert(3, 30)),
+];
+
+const IN_ROUNDS: [(usize, Op); 4] = [
+    (3, Op::Insert(3, 30)),
+    (0, Op::Insert(7, 70)),
+    (2, Op::Find(7)),
+    (1, Op::Insert(5, 50)),
+];
+
+#[test]
+fn operations_are_put_in_rounds(rt: HostRuntime) {
+    let put = in_rounds(rt.alloc(), &AS_THEY_STAND);
+    assert!(rt; put.is_ok_and(|put| put.as_slice() == IN_ROUNDS.as_slice()));
 }
