@@ -1,5 +1,5 @@
 //! The worker of each position of a list.
-ghost use Rattle.std.specs.Prelude.{◌≡◌, ◌<◌, ◌↔◌, IsTrue, length, vec_len, IfOk, IfErr, OnOk};
+ghost use Rattle.std.specs.Prelude.{◌≡◌, ◌<◌, ◌↔◌, ◌%◌, IsTrue, length, vec_len, IfOk, IfErr, OnOk};
 ghost use Rattle.std.specs.Int.{div_ceil};
 ghost use Rattle.ell_ops.specs.KeySet.{Lists};
 ghost use Rattle.ell_ops.specs.Meaning.{most_workers};
@@ -50,8 +50,20 @@ pub(crate) fn striped_owners<A: Allocator>(
 {
     let count = u64::from(workers);
     ops.iter()
-        .map(|op| (op.key() % count) as u32)
+        .map(|op| stripe_of(op.key(), count) as u32)
         .collect(alloc)
+}
+
+// The remainder of a key by a number of workers: if that is a power of two, the low bits, which take no division.
+fn stripe_of(key: u64, count: u64) -> u64
+    requires { 0 < count }
+    ensures { result ≡ key % count }
+{
+    if count == 1 << count.ilog2() {
+        key & (count - 1)
+    } else {
+        key % count
+    }
 }
 
 // The owners in ranges, where `keys` are the distinct keys.

@@ -170,7 +170,7 @@ impl<A: Allocator + Copy + Send + Sync> Bulk<A> {
             return false;
         }
         let version = self.version();
-        match read_operations(rt, alloc, version, &self.ops, rest, HALVINGS) {
+        match read_operations(rt, alloc, version, &self.ops, rest, 1, HALVINGS) {
             Some(ops) if self.start.len() + ops.len() <= OPERATIONS_MAX => {
                 self.ops = ops;
                 true

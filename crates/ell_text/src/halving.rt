@@ -14,9 +14,10 @@ use ell_ops::Op;
 use std::alloc::Allocator;
 use std::thread::{Threads, join};
 
-/// Reads a text that stands behind operations, and returns those before it and then its own. The text is halved as many
-/// times as `halvings` says, and its parts are read by threads of their own, if they can be created. Returns `None` if
-/// a line is at fault, a part has more than `OPERATIONS_MAX` operations, or an allocation fails: then no fault is told.
+/// Reads a text that stands behind operations, and returns those before it and then its own, in a list that has room
+/// for those of so many `parts` of this length. The text is halved as many times as `halvings` says, and its parts are
+/// read by threads of their own, if they can be created. Returns `None` if a line is at fault, a part has more than
+/// `OPERATIONS_MAX` operations, or an allocation fails: then no fault is told.
 #[cycle(halving)]
 pub(crate) fn read_operations<R: Threads + Sync, A: Allocator + Copy + Send + Sync>(
     rt: &R,
@@ -24,6 +25,7 @@ pub(crate) fn read_operations<R: Threads + Sync, A: Allocator + Copy + Send + Sy
     version: Version,
     before: &[Op],
     text: &[u8],
+    parts: usize,
     halvings: u32,
 ) -> Option<Vec<Op, A>>
     requires fits { All Fits before.now }
@@ -31,20 +33,22 @@ pub(crate) fn read_operations<R: Threads + Sync, A: Allocator + Copy + Send + Sy
     ensures fits { IfSome result (λ ops. All Fits ops.items) }
 {
     if halvings == 0 {
-        return read_in_turn(alloc, version, before, text);
+        return read_in_turn(alloc, version, before, text, parts);
     }
     let (front, back) = cut_behind_line(text, text.len() / 2);
     let fewer = halvings - 1;
+    // The list of the front has room for both halves, so that it is not moved when the back is joined to it.
+    let halves = parts.saturating_mul(2);
     let first = move || -> Option<Vec<Op, A>>
         requires { IsSync R.row × IsSend A.row × IsSync A.row × Frees A.Allocator A.dealloc_token × (All Fits before.now) }
         ensures follow { IfSome result (λ ops. Follow version before.entry.now (lines front.entry.now) ops.items) }
         ensures fits { IfSome result (λ ops. All Fits ops.items) }
-    { read_operations(rt, alloc, version, before, front, fewer) };
+    { read_operations(rt, alloc, version, before, front, halves, fewer) };
     let second = move || -> Option<Vec<Op, A>>
         requires { IsSync R.row × IsSend A.row × IsSync A.row × Frees A.Allocator A.dealloc_token }
         ensures follow { IfSome result (λ ops. Follow version [] (lines back.entry.now) ops.items) }
         ensures fits { IfSome result (λ ops. All Fits ops.items) }
-    { read_operations(rt, alloc, version, &[], back, fewer) };
+    { read_operations(rt, alloc, version, &[], back, 1, fewer) };
     let (first, second) = join(rt, first, second);
     let mut ops = first?;
     ops.extend_from_slice(&second?).ok()?;
@@ -57,12 +61,13 @@ fn read_in_turn<A: Allocator + Copy>(
     version: Version,
     before: &[Op],
     text: &[u8],
+    parts: usize,
 ) -> Option<Vec<Op, A>>
     requires fits { All Fits before.now }
     ensures follow { IfSome result (λ ops. Follow version before.now (lines text.now) ops.items) }
     ensures fits { IfSome result (λ ops. All Fits ops.items) }
 {
-    let mut ops = with_room(alloc, before, most_lines(text))?;
+    let mut ops = with_room(alloc, before, room_for(text, parts))?;
     let mut rest = text;
     'lines: while !rest.is_empty() {
         let (read, behind) = read_first_line(version, Section::Operations, rest);
@@ -79,6 +84,16 @@ fn with_room<A: Allocator + Copy>(alloc: A, before: &[Op], more: usize) -> Optio
     let mut ops = Vec::with_capacity(alloc, before.len().saturating_add(more)).ok()?;
     ops.extend_from_slice(before).ok()?;
     Some(ops)
+}
+
+// How many operations to have room for, if so many parts of a text have about as many lines as this one: an eighth of
+// one more, but no more than may be read.
+fn room_for(text: &[u8], parts: usize) -> usize {
+    let lines = most_lines(text);
+    lines
+        .saturating_mul(parts)
+        .saturating_add(lines / 8)
+        .min(OPERATIONS_MAX)
 }
 
 // How many lines a text has, but no more than operations may be read.
