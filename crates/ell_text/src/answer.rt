@@ -49,7 +49,9 @@ impl Listed for Reply {
                 output.put(out, b"yes ")?;
                 value.put_line(version, output, out)
             }
-            (_, reply) => output.put(out, line_of(reply)),
+            // Each arm copies a text of a fixed size, which takes no call.
+            (_, Reply::No) => output.put(out, b"no\n"),
+            (_, Reply::Yes | Reply::Found(_)) => output.put(out, b"yes\n"),
         }
     }
 }

@@ -84,6 +84,7 @@ impl Output {
 
     /// Puts the text behind what waits. Each time that the buffer is full and more is to come, it
     /// goes to the writer.
+    #[inline(always)]
     pub(crate) fn put<W: Write>(&mut self, out: &mut W, text: &[u8]) -> Result<(), WriteFault>
         ensures { HasPut (W.contents out.old) (W.contents out.new) self.old self.new
             text.now result }
@@ -124,6 +125,7 @@ impl Output {
     }
 
     /// Copies the text behind what waits. Condition: there is room for it.
+    #[inline(always)]
     fn keep(&mut self, text: &[u8])
         requires { self.old.filled + length text.now ≤ CAPACITY }
         ensures waiting { waiting_bytes self.new ≡ waiting_bytes self.old ++ text.now }
