@@ -8,4 +8,5 @@ pub mod Orders
 pub mod Places
 -- what its public clauses cite of the crate below
 pub use Rattle.ell_ops.specs.Contents
+pub use Rattle.ell_ops.specs.KeySet
 pub use Rattle.ell_ops.specs.Meaning

@@ -10,9 +10,8 @@ mod mixing;
 mod order;
 mod places;
 mod rounds;
-mod turns;
 
 pub use laws::{constants_are_as_defined, mixing_can_be_undone, orders_serve};
 pub use mixing::mixed;
-pub use order::{REORDERED_MIN, in_rounds, is_reordered};
+pub use order::{Part, REORDERED_MIN, in_rounds, is_reordered};
 pub use rounds::round_of;

@@ -10,5 +10,3 @@ pub mod Splits
 pub mod Placings
 -- The first keys of the workers' ranges, and the worker that a key falls to by them.
 pub mod Ranges
--- The keys of operations in turn, of which one that is the last already is left out.
-pub mod Turns

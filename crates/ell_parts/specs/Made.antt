@@ -1,13 +1,8 @@
 use Rattle.std.specs.Prelude.{◌≡◌, ℕ, Bool, List, Some, length, map, slice_get}
 use Rattle.ell_ops.specs.declared.op.Op.{Op}
-use Rattle.ell_ops.specs.KeySet.{Lists}
-use Rattle.ell_order.specs.Orders.{IsRunOrder}
-use Rattle.ell_parts.specs.declared.part.Part.{Part}
-use Rattle.ell_parts.specs.PartedOps.{dealt, keys_of_part}
-
--- a part has the keys of its operations, each once, ascending
-abbrev pub HasItsKeys : {Z : Type 0} → Part Z → Type 0
-HasItsKeys part = Lists (keys_of_part part.items.items) part.keys.items
+use Rattle.ell_order.specs.Orders.{HasItsKeys, IsRunOrder}
+use Rattle.ell_order.specs.declared.order.Part.{Part}
+use Rattle.ell_parts.specs.PartedOps.{dealt}
 
 -- the operations of parts, with their positions
 abbrev pub items_of : {Z : Type 0} → List (Part Z) → List (List (ℕ × Op))

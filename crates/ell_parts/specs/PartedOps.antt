@@ -6,6 +6,7 @@ use Rattle.ell_ops.specs.KeySet.{KeySet, set_of, Lists}
 use Rattle.ell_ops.specs.Meaning.{key_of, most_workers}
 use Rattle.ell_order.specs.Orders.{IsRunOrder, KeepsKeys, is_reordered}
 use Rattle.ell_order.specs.Rounds.{rank}
+pub use Rattle.ell_order.specs.Orders.{keys_of_part}
 
 -- a list, the worker of each of its positions, how many workers there are, and the part of each: its operations with
 -- their positions
@@ -69,10 +70,6 @@ pub record IsPartedToRun (ops : List Op) (owners : List ℕ) (workers : ℕ) (pa
 -- the set of the keys in a list of operations
 abbrev pub keys_of_ops : List Op → KeySet
 keys_of_ops ops = set_of (map key_of ops)
-
--- the set of the keys in a part
-abbrev pub keys_of_part : List (ℕ × Op) → KeySet
-keys_of_part items = set_of (map (λ item. key_of item.1) items)
 
 -- in stripes: a key goes to the worker whose number is its remainder by the number of workers
 abbrev pub striped : List Op → ℕ → List ℕ

@@ -1,22 +1,15 @@
 //! The part of one worker.
 ghost use Rattle.std.specs.Prelude.{◌≡◌, ◌<◌, IfOk, Ok, length, map};
 ghost use denote.Param.Send.{Frees, IsSend, IsSync};
-ghost use Rattle.ell_order.specs.Orders.{IsRunOrder, is_reordered};
+ghost use Rattle.ell_order.specs.Orders.{is_reordered};
 ghost use Rattle.ell_parts.specs.Made.{AreParts, IsPartOf};
 ghost use Rattle.ell_parts.specs.PartedOps.{IsWorkerCount, dealt};
 
 use crate::keys::keys_of_part;
 use ell_ops::{NoMemory, Op};
-use ell_order::{in_rounds, is_reordered};
+use ell_order::{Part, in_rounds, is_reordered};
 use std::alloc::Allocator;
 use std::thread::{Threads, map_indices};
-
-// The operations of a worker, with their positions in the list, and their keys.
-#[derive(Drop)]
-pub(crate) struct Part<A: Allocator> {
-    pub(crate) items: Vec<(usize, Op), A>,
-    pub(crate) keys: Vec<u64, A>,
-}
 
 // The fewest operations of a long list, whose parts take longer to make than threads take to begin.
 const LONG: usize = 16_384;
@@ -105,25 +98,12 @@ pub(crate) fn part_of<A: Allocator + Copy>(
     requires { length owners.now ≡ length ops.now }
     ensures { IfOk result (IsPartOf rounds ops.now owners.now worker) }
 {
-    let dealt = dealt(alloc, ops, owners, worker)?;
-    let items = put_in_order(alloc, dealt, rounds)?;
+    let items = dealt(alloc, ops, owners, worker)?;
+    if rounds {
+        return in_rounds(alloc, &items);
+    }
     let keys = keys_of_part(alloc, &items)?;
     Ok(Part { items, keys })
-}
-
-// Operations in the order in which they are run: in rounds, or else as they stand.
-fn put_in_order<A: Allocator + Copy>(
-    alloc: A,
-    dealt: Vec<(usize, Op), A>,
-    rounds: bool,
-) -> Result<Vec<(usize, Op), A>, NoMemory>
-    ensures { IfOk result (λ items. IsRunOrder rounds dealt.items items.items) }
-{
-    if rounds {
-        in_rounds(alloc, &dealt)
-    } else {
-        Ok(dealt)
-    }
 }
 
 // The operations of a worker, with their positions, in the order of the list.

@@ -1,14 +1,16 @@
 //! A list of operations, parted among workers.
 ghost use Rattle.std.specs.Prelude.{◌≡◌, ◌<◌, ◌↔◌, length, IfOk, IfErr, IsTrue};
 ghost use Rattle.ell_ops.specs.KeySet.{Lists};
-ghost use Rattle.ell_parts.specs.PartedOps.{IsLawful, IsPartedBy, IsPartedToRun, IsRanged, part, parted, striped, keys_of_part};
+ghost use Rattle.ell_order.specs.Orders.{keys_of_part};
+ghost use Rattle.ell_parts.specs.PartedOps.{IsLawful, IsPartedBy, IsPartedToRun, IsRanged, part, parted, striped};
 ghost use Rattle.ell_parts.specs.Faults.{IsFault, IsRefusedByCount};
 
 use crate::fault::PartFault;
 use crate::keys::keys_of_list;
 use crate::owners::{is_worker_count, keep_together, ranged_owners, striped_owners};
-use crate::part::{Part, parts_in_turn, parts_to_run};
+use crate::part::{parts_in_turn, parts_to_run};
 use ell_ops::{NoMemory, Op};
+use ell_order::Part;
 use std::alloc::Allocator;
 use std::marker::Model;
 use std::thread::Threads;
@@ -26,7 +28,8 @@ pub struct Parts<'a, A: Allocator> {
 impl<'a, A: Allocator> Model for Parts<'a, A> {
     ghost use Rattle.std.specs.Prelude.{All};
     ghost use Rattle.ell_parts.specs.PartedOps.{PartedOps, IsLawful, made};
-    ghost use Rattle.ell_parts.specs.Made.{HasItsKeys, items_of};
+    ghost use Rattle.ell_order.specs.Orders.{HasItsKeys};
+    ghost use Rattle.ell_parts.specs.Made.{items_of};
 
     ghost Value = { PartedOps };
 

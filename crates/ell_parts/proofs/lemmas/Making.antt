@@ -9,10 +9,10 @@ use Rattle.std.proofs.lemmas.Option.{get_or_from_slice_get, slice_get-get_or, sl
 use Rattle.ell_ops.specs.declared.no_memory.NoMemory.{NoMemory}
 use Rattle.ell_ops.specs.declared.op.Op.{Op}
 use Rattle.ell_ops.proofs.lemmas.Places.{slice_get_below, slice_get-push_cases}
-use Rattle.ell_order.specs.Orders.{IsRunOrder, is_reordered}
+use Rattle.ell_order.specs.Orders.{HasItsKeys, IsRunOrder, is_reordered}
 use Rattle.ell_order.proofs.lemmas.Reordered.{lists_alike}
-use Rattle.ell_parts.specs.declared.part.Part.{Part}
-use Rattle.ell_parts.specs.Made.{AreParts, HasItsKeys, IsPartOf, items_of}
+use Rattle.ell_order.specs.declared.order.Part.{Part}
+use Rattle.ell_parts.specs.Made.{AreParts, IsPartOf, items_of}
 use Rattle.ell_parts.specs.PartedOps.{IsLawful, IsPartedToRun, IsWorkerCount, dealt, made, parted}
 
 -- the operations of a worker so far

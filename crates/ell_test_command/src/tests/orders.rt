@@ -42,5 +42,11 @@ const IN_ROUNDS: [(usize, Op); 4] = [
 #[test]
 fn operations_are_put_in_rounds(rt: HostRuntime) {
     let put = in_rounds(rt.alloc(), &AS_THEY_STAND);
-    assert!(rt; put.is_ok_and(|put| put.as_slice() == IN_ROUNDS.as_slice()));
+    assert!(rt; put.is_ok_and(|part| part.items.as_slice() == IN_ROUNDS.as_slice()));
+}
+
+#[test]
+fn operations_in_rounds_have_their_keys(rt: HostRuntime) {
+    let put = in_rounds(rt.alloc(), &AS_THEY_STAND);
+    assert!(rt; put.is_ok_and(|part| part.keys.as_slice() == [3, 5, 7].as_slice()));
 }

@@ -1,9 +1,10 @@
 use Rattle.std.proofs.Common.{◌≡◌, ◌<◌, [], length, arith, ap, sym, subst, ◌∙◌}
 use Rattle.std.proofs.lemmas.List.{get_or-map, length-map}
 use Rattle.ell_ops.specs.KeySet.{Lists}
-use Rattle.ell_parts.specs.declared.part.Part.{Part}
-use Rattle.ell_parts.specs.Made.{HasItsKeys, items_of}
-use Rattle.ell_parts.specs.PartedOps.{keys_of_part, part}
+use Rattle.ell_order.specs.declared.order.Part.{Part}
+use Rattle.ell_order.specs.Orders.{HasItsKeys, keys_of_part}
+use Rattle.ell_parts.specs.Made.{items_of}
+use Rattle.ell_parts.specs.PartedOps.{part}
 use Rattle.ell_parts.proofs.parts.Parts.keys.Goals as goal
 
 pub returns : goal.returns
