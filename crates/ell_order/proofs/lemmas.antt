@@ -12,8 +12,6 @@ pub mod Reordered
 pub mod Ranks
 -- The keys that a list leaves, and their ranks, one operation after the other.
 pub mod Leaving
--- Numbered operations put at places.
-pub mod Placing
 -- The turns of operations, one operation after the other.
 pub mod Turning
 -- Places sorted by their keys, and turns by their rounds.

@@ -13,5 +13,5 @@ mod rounds;
 
 pub use laws::{constants_are_as_defined, mixing_can_be_undone, orders_serve};
 pub use mixing::mixed;
-pub use order::{Part, REORDERED_MIN, in_rounds, is_reordered};
+pub use order::{Part, REORDERED_MIN, in_rounds, in_turn, is_reordered};
 pub use rounds::round_of;

@@ -4,6 +4,10 @@ use Rattle.ell_order.specs.Orders.{HasItsKeys, IsRunOrder}
 use Rattle.ell_order.specs.declared.order.Part.{Part}
 use Rattle.ell_parts.specs.PartedOps.{dealt}
 
+-- the positions of numbered operations
+abbrev pub positions_in : List (ℕ × Op) → List ℕ
+positions_in items = map (λ item. item.0) items
+
 -- the operations of parts, with their positions
 abbrev pub items_of : {Z : Type 0} → List (Part Z) → List (List (ℕ × Op))
 items_of parts = map (λ part. part.items.items) parts

@@ -1,7 +1,6 @@
 //! The distinct keys of operations, ascending.
 ghost use Rattle.std.specs.Prelude.{IfOk};
 ghost use Rattle.ell_ops.specs.KeySet.{Lists};
-ghost use Rattle.ell_order.specs.Orders.{keys_of_part};
 ghost use Rattle.ell_parts.specs.PartedOps.{keys_of_ops};
 
 use ell_ops::{Op, distinct_keys};
@@ -12,16 +11,5 @@ pub(crate) fn keys_of_list<A: Allocator>(alloc: A, ops: &[Op]) -> Result<Vec<u64
     ensures { IfOk result (λ keys. Lists (keys_of_ops ops.now) keys.items) }
 {
     let keys = ops.iter().map(|op| op.key()).collect(alloc)?;
-    Ok(distinct_keys(keys))
-}
-
-// The distinct keys of a part.
-pub(crate) fn keys_of_part<A: Allocator>(
-    alloc: A,
-    part: &[(usize, Op)],
-) -> Result<Vec<u64, A>, AllocError>
-    ensures { IfOk result (λ keys. Lists (keys_of_part part.now) keys.items) }
-{
-    let keys = part.iter().map(|item| item.1.key()).collect(alloc)?;
     Ok(distinct_keys(keys))
 }

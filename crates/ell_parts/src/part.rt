@@ -1,13 +1,13 @@
 //! The part of one worker.
-ghost use Rattle.std.specs.Prelude.{◌≡◌, ◌<◌, IfOk, Ok, length, map};
+ghost use Rattle.std.specs.Prelude.{◌≡◌, ◌<◌, List, IfOk, Ok, length, map};
 ghost use denote.Param.Send.{Frees, IsSend, IsSync};
+ghost use Rattle.ell_ops.specs.declared.op.Op.{Op};
 ghost use Rattle.ell_order.specs.Orders.{is_reordered};
-ghost use Rattle.ell_parts.specs.Made.{AreParts, IsPartOf};
+ghost use Rattle.ell_parts.specs.Made.{AreParts, IsPartOf, positions_in};
 ghost use Rattle.ell_parts.specs.PartedOps.{IsWorkerCount, dealt};
 
-use crate::keys::keys_of_part;
 use ell_ops::{NoMemory, Op};
-use ell_order::{Part, in_rounds, is_reordered};
+use ell_order::{Part, in_rounds, in_turn, is_reordered};
 use std::alloc::Allocator;
 use std::thread::{Threads, map_indices};
 
@@ -98,31 +98,30 @@ pub(crate) fn part_of<A: Allocator + Copy>(
     requires { length owners.now ≡ length ops.now }
     ensures { IfOk result (IsPartOf rounds ops.now owners.now worker) }
 {
-    let items = dealt(alloc, ops, owners, worker)?;
+    let positions = positions_of(alloc, owners, worker)?;
     if rounds {
-        return in_rounds(alloc, &items);
+        in_rounds(alloc, ops, &positions)
+    } else {
+        in_turn(alloc, ops, &positions)
     }
-    let keys = keys_of_part(alloc, &items)?;
-    Ok(Part { items, keys })
 }
 
-// The operations of a worker, with their positions, in the order of the list.
-fn dealt<A: Allocator>(
+// The positions of a worker's operations, ascending.
+fn positions_of<A: Allocator>(
     alloc: A,
-    ops: &[Op],
     owners: &[u32],
     worker: u32,
-) -> Result<Vec<(usize, Op), A>, NoMemory>
-    requires { length owners.now ≡ length ops.now }
-    ensures { IfOk result (λ items. items.items ≡ dealt ops.now owners.now worker) }
+) -> Result<Vec<usize, A>, NoMemory>
+    ensures { (ops : List Op) → length owners.now ≡ length ops →
+        IfOk result (λ positions. positions.items ≡ positions_in (dealt ops owners.now worker)) }
 {
-    let mut items = Vec::with_capacity(alloc, count_of(owners, worker))?;
-    for (at, op) in ops.iter().enumerate() {
-        if owners[at] == worker {
-            items.push((at, *op))?;
+    let mut positions = Vec::with_capacity(alloc, count_of(owners, worker))?;
+    for (at, owner) in owners.iter().enumerate() {
+        if *owner == worker {
+            positions.push(at)?;
         }
     }
-    Ok(items)
+    Ok(positions)
 }
 
 // How many operations a worker has.

@@ -1,19 +1,28 @@
-use Rattle.std.proofs.Common.{◌≡◌, ℕ, ◌+◌, ◌<◌, ◌≤◌, Bool, false, cond, All, List, [], ◌∷◌, ◌++◌, Some, Result, Ok, IfOk, eqb, length, get_or, map, filter, take, arith, refl, ap, ap₂, sym, subst, zero-add, ◌∙◌, ⊎_elim}
-use Rattle.std.specs.Prelude.{◌==◌}
+use Rattle.std.proofs.Common.{◌≡◌, ℕ, ◌+◌, ◌<◌, ◌≤◌, Bool, true, false, cond, All, List, [], ◌∷◌, ◌++◌, Some, Result, Ok, Err, IfOk, eqb, length, get_or, map, filter, take, arith, refl, ap, ap₂, sym, subst, zero-add, ◌∙◌, ⊎_elim}
+use Rattle.std.specs.Prelude.{◌==◌, slice_get, unwrap_or}
 use Rattle.std.specs.List.{enumerate_from, range_with_len}
 use Rattle.std.proofs.lemmas.Bool.{eq-eqb, ne_eqb}
 use Rattle.std.proofs.lemmas.List.{append-nil, get_or-map, length-map, length_push, take_all}
-use Rattle.std.proofs.lemmas.List.Elements.{filter_more}
+use Rattle.std.proofs.lemmas.List.Elements.{All-map, filter_more}
 use Rattle.std.proofs.lemmas.List.FromFn.{get_or-enumerate_from, get_or-map-range_with_len, length-enumerate_from, length-map-range_with_len}
 use Rattle.std.proofs.lemmas.Option.{get_or_from_slice_get, slice_get-get_or, slice_get_within}
 use Rattle.ell_ops.specs.declared.no_memory.NoMemory.{NoMemory}
 use Rattle.ell_ops.specs.declared.op.Op.{Op}
+use Rattle.ell_ops.specs.declared.op.Op.TheVariants.{Find}
 use Rattle.ell_ops.proofs.lemmas.Places.{slice_get_below, slice_get-push_cases}
-use Rattle.ell_order.specs.Orders.{HasItsKeys, IsRunOrder, is_reordered}
+use Rattle.ell_order.specs.Orders.{HasItsKeys, IsInRounds, IsRunOrder, is_reordered, on_key}
+use Rattle.ell_order.specs.Places.{item_at, items_at}
+use Rattle.ell_order.proofs.lemmas.Numbered.{numbered_at, passes_at}
 use Rattle.ell_order.proofs.lemmas.Reordered.{lists_alike}
+use Rattle.ell_order.proofs.lemmas.Sorting.{map_same, map_twice}
 use Rattle.ell_order.specs.declared.order.Part.{Part}
-use Rattle.ell_parts.specs.Made.{AreParts, IsPartOf, items_of}
+use Rattle.ell_parts.specs.Made.{AreParts, IsPartOf, items_of, positions_in}
 use Rattle.ell_parts.specs.PartedOps.{IsLawful, IsPartedToRun, IsWorkerCount, dealt, made, parted}
+
+-- what follows from two facts of a result
+pub if_ok_both : {X Y : Type 0} (r : Result X Y) (P Q R : X → Type 0) → ((x : X) → P x → Q x → R x) → IfOk r P → IfOk r Q → IfOk r R
+if_ok_both (Ok x) P Q R from p q = from x p q
+if_ok_both (Err e) P Q R from p q = tt
 
 -- the operations of a worker so far
 module _ (ops : List Op) (owners : List ℕ) (worker : ℕ) where
@@ -37,6 +46,48 @@ module _ (ops : List Op) (owners : List ℕ) (worker : ℕ) where
 
   pub all_dealt : (i : ℕ) → length ops ≤ i → dealt_so_far i ≡ dealt ops owners worker
   all_dealt i past = ap (filter (λ item. get_or owners item.0 0 == worker)) (take_all i (enumerate_from 0 ops) (let long = length-enumerate_from 0 ops in omega arith))
+
+  -- each stands in the list at its position
+  stands : (k : ℕ) (item : ℕ × Op) → slice_get (dealt ops owners worker) k ≡ Some item → slice_get ops item.0 ≡ Some item.1
+  stands k item e =
+      let origin = passes_at (λ (item : ℕ × Op). get_or owners item.0 0 == worker) (enumerate_from 0 ops) k item e in
+      let place = numbered_at 0 ops origin.place item.0 item.1 origin.there in
+      let same : origin.place ≡ item.0 = (let at = place.0 in omega arith) in
+      subst (λ n. slice_get ops n ≡ Some item.1) same place.1
+
+  pub within : All (λ position. position < length ops) (positions_in (dealt ops owners worker))
+  within = All-map (λ position. position < length ops) (λ (item : ℕ × Op). item.0) (dealt ops owners worker)
+      (λ k d below.
+      let item = get_or (dealt ops owners worker) k d in
+      slice_get_within ops item.0 item.1 (stands k item (slice_get-get_or (dealt ops owners worker) k d below)))
+
+  -- so they are what the list has at their positions
+  at_positions : items_at ops (positions_in (dealt ops owners worker)) ≡ dealt ops owners worker
+  at_positions =
+      map_twice (λ (item : ℕ × Op). item.0) (item_at ops) (dealt ops owners worker)
+      ∙ map_same (λ (item : ℕ × Op). item_at ops item.0) (dealt ops owners worker) (λ k item e. ap (λ o. (item.0, unwrap_or o (Find 0))) (stands k item e))
+
+  -- a part of them, in rounds or in their order
+  module _ {Z : Type 0} (positions : List ℕ) (own : positions ≡ positions_in (dealt ops owners worker)) (part : Part Z) (keys : HasItsKeys part) where
+    there : items_at ops positions ≡ dealt ops owners worker
+    there = ap (items_at ops) own ∙ at_positions
+
+    pub part_in_rounds : IsInRounds (items_at ops positions) part.items.items → (reordered : Bool) → reordered ≡ true → IsPartOf reordered ops owners worker part
+    part_in_rounds is reordered so =
+        let rounds : IsInRounds (dealt ops owners worker) part.items.items = subst (λ before. IsInRounds before part.items.items) there is in
+        record { order = record { keeps = rounds.keeps; stays = λ no. let never : false ≡ true = sym no ∙ so in absurd cc; rounds = λ _. rounds }; keys = keys }
+
+    pub part_in_turn : part.items.items ≡ items_at ops positions → (reordered : Bool) → reordered ≡ false → IsPartOf reordered ops owners worker part
+    part_in_turn is reordered so =
+        let same : part.items.items ≡ dealt ops owners worker = is ∙ there in
+        record {
+          order = record {
+            keeps = record { count = ap length same; each = λ key. ap (on_key key) same };
+            stays = λ _. same;
+            rounds = λ yes. let never : false ≡ true = sym so ∙ yes in absurd cc;
+          };
+          keys = keys;
+        }
 
 module _ {Z : Type 0} (reordered : Bool) (ops : List Op) (owners : List ℕ) where
   -- one part more

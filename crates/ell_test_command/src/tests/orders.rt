@@ -25,28 +25,32 @@ fn the_round_of_a_number_is_how_many_digits_it_has_scrambled(rt: HostRuntime) {
 }
 
 // The keys 3, 5 and 7 are left, of the ranks 0, 1 and 2, and so of the rounds 0, 64 and 62.
-const AS_THEY_STAND: [(usize, Op); 4] = [
-    (0, Op::Insert(7, 70)),
-    (1, Op::Insert(5, 50)),
-    (2, Op::Find(7)),
-    (3, Op::Insert(3, 30)),
+const AS_THEY_STAND: [Op; 5] = [
+    Op::Insert(7, 70),
+    Op::Insert(5, 50),
+    Op::Insert(9, 90),
+    Op::Find(7),
+    Op::Insert(3, 30),
 ];
 
+// All but that of key 9.
+const POSITIONS: [usize; 4] = [0, 1, 3, 4];
+
 const IN_ROUNDS: [(usize, Op); 4] = [
-    (3, Op::Insert(3, 30)),
+    (4, Op::Insert(3, 30)),
     (0, Op::Insert(7, 70)),
-    (2, Op::Find(7)),
+    (3, Op::Find(7)),
     (1, Op::Insert(5, 50)),
 ];
 
 #[test]
 fn operations_are_put_in_rounds(rt: HostRuntime) {
-    let put = in_rounds(rt.alloc(), &AS_THEY_STAND);
+    let put = in_rounds(rt.alloc(), &AS_THEY_STAND, &POSITIONS);
     assert!(rt; put.is_ok_and(|part| part.items.as_slice() == IN_ROUNDS.as_slice()));
 }
 
 #[test]
 fn operations_in_rounds_have_their_keys(rt: HostRuntime) {
-    let put = in_rounds(rt.alloc(), &AS_THEY_STAND);
+    let put = in_rounds(rt.alloc(), &AS_THEY_STAND, &POSITIONS);
     assert!(rt; put.is_ok_and(|part| part.keys.as_slice() == [3, 5, 7].as_slice()));
 }
