@@ -32,5 +32,7 @@ pub mod Replies
 pub mod Rows
 -- In rounds the operations on a key stand side by side, so what is known of the key before each goes by the one before it.
 pub mod SideBySide
+-- A search among start keys, which ascend.
+pub mod StartKeys
 -- What a run of a text tells of it, where its answer went out and where the write was cut short.
 pub mod Told

@@ -1,9 +1,10 @@
-use Rattle.std.specs.Prelude.{ℕ, ◌+◌, ◌*◌, ◌/◌, nat_lt, min, Bool, true, false, not, Option, Some, None, unwrap_or, List, [], ◌∷◌, take, count_by, sum_by, if◌then◌else◌}
+use Rattle.std.specs.Prelude.{ℕ, ◌+◌, ◌*◌, ◌/◌, nat_lt, min, Bool, true, false, not, List, take, count_by, sum_by, if◌then◌else◌}
 use Rattle.std.specs.List.{enumerate_from}
 use Rattle.ell_ops.specs.declared.op.Op.{Op}
 use Rattle.ell_ops.specs.declared.op.Op.TheVariants.{Find, Insert, Delete, Swap}
-use Rattle.ell_ops.specs.Meaning.{key_of}
-use Rattle.ell_order.specs.Orders.{is_reordered, on_key, ops_in}
+use Rattle.ell_ops.specs.Contents.{Contents, contents_of, keys_in}
+use Rattle.ell_ops.specs.Meaning.{final, key_of}
+use Rattle.ell_order.specs.Orders.{is_reordered, ops_in}
 use Rattle.ell_order.specs.Rounds.{AreInRounds}
 use Rattle.ell_parts.specs.PartedOps.{PartedOps}
 use Rattle.ell_word.specs.Node.{most_cards}
@@ -24,43 +25,33 @@ tries_needed busy tries = if nat_lt busy 2 then 1 else tries
 abbrev pub most_taken : List Op → ℕ → ℕ → ℕ
 most_taken ops busy tries = count_by is_change ops * tries_needed busy tries
 
--- whether an operation may change the map, if this is known of whether its key is there
-abbrev pub may_change : Op → Option Bool → Bool
+-- whether an operation may change the map, by whether its key is there
+abbrev pub may_change : Op → Bool → Bool
 may_change (Find key) there = false
-may_change (Insert key value) there = not (unwrap_or there false)
-may_change (Delete key) there = unwrap_or there true
-may_change (Swap key was value) there = unwrap_or there true
+may_change (Insert key value) there = not there
+may_change (Delete key) there = there
+may_change (Swap key was value) there = there
 
--- what is known after an operation of whether its key is there
-abbrev pub there_after : Op → Option Bool → Option Bool
+-- whether the key is there after an operation on it
+abbrev pub there_after : Op → Bool → Bool
 there_after (Find key) there = there
-there_after (Insert key value) there = Some true
-there_after (Delete key) there = Some false
+there_after (Insert key value) there = true
+there_after (Delete key) there = false
 there_after (Swap key was value) there = there
 
--- what is known after operations on one key of whether it is there
-abbrev pub known_after : Option Bool → List Op → Option Bool
-known_after there [] = there
-known_after there (op ∷ ops) = known_after (there_after op there) ops
-
--- what is known at the start of whether a key is there: none is, if there are no pairs
-abbrev pub known_at_start : List (ℕ × ℕ) → Option Bool
-known_at_start [] = Some false
-known_at_start (pair ∷ pairs) = None
-
--- whether an operation may change the map behind others, by those of them that are on its key
-abbrev pub may_change_behind : Option Bool → List (ℕ × Op) → Op → Bool
-may_change_behind at_start items op = may_change op (known_after at_start (ops_in (on_key (key_of op) items)))
+-- whether an operation may change the map that others leave
+abbrev pub may_change_behind : Contents → List (ℕ × Op) → Op → Bool
+may_change_behind start items op = may_change op (keys_in (final start (ops_in items)) (key_of op))
 
 -- how many operations of a part may change the map, each behind those before it
-abbrev pub changes_in : Option Bool → List (ℕ × Op) → ℕ
-changes_in at_start part =
-    count_by (λ place. may_change_behind at_start (take place.0 part) place.1.1) (enumerate_from 0 part)
+abbrev pub changes_in : Contents → List (ℕ × Op) → ℕ
+changes_in start part =
+    count_by (λ place. may_change_behind start (take place.0 part) place.1.1) (enumerate_from 0 part)
 
 -- how many operations may change the map: of a list that is not reordered, all but its finds
 abbrev pub most_changes : List (ℕ × ℕ) → List Op → PartedOps → ℕ
 most_changes start ops parting =
-    if is_reordered ops then sum_by (changes_in (known_at_start start)) parting.parts else count_by is_change ops
+    if is_reordered ops then sum_by (changes_in (contents_of start)) parting.parts else count_by is_change ops
 
 -- the cards of a run for which no number of them is given: one for each operation that may change the map, an eighth of
 -- that for tries that are lost, and 64, as far as there may be so many

@@ -1,9 +1,12 @@
 //! How many cards a run reserves.
 ghost use Rattle.std.specs.Prelude.{◌≡◌, ◌-◌, ◌^◌, All, count_by, max, min, sum_by};
+ghost use Rattle.std.specs.List.Sorted.{IsStrictlyIncreasing};
+ghost use Rattle.std.specs.Map.{keys_of};
+ghost use Rattle.ell_ops.specs.Contents.{contents_of, keys_in};
 ghost use Rattle.ell_parts.specs.PartedOps.{IsPartedToRun};
 ghost use Rattle.ell_word.specs.Node.{most_cards};
 ghost use Rattle.ell_run.specs.Limits.{AreLimits};
-ghost use Rattle.ell_run.specs.Reservation.{HasRounds, cards_by_default, changes_in, is_change, known_at_start, may_change, most_taken, there_after};
+ghost use Rattle.ell_run.specs.Reservation.{HasRounds, cards_by_default, changes_in, is_change, may_change, most_taken, there_after};
 ghost use Rattle.ell_run.specs.Settings.{IsAllowed};
 
 use crate::runs::Limits;
@@ -20,7 +23,8 @@ pub(crate) fn cards_by_default<A: Allocator>(
     ops: &[Op],
     parts: &Parts<'_, A>,
 ) -> u64
-    requires { IsPartedToRun ops.now parts.now.owners parts.now.workers parts.now }
+    requires start { IsStrictlyIncreasing (keys_of start.now) }
+    requires parted { IsPartedToRun ops.now parts.now.owners parts.now.workers parts.now }
     ensures value { result ≡ cards_by_default start.now ops.now parts.now }
     ensures allowed { IsAllowed most_cards result }
 {
@@ -35,8 +39,9 @@ pub(crate) fn cards_by_default<A: Allocator>(
 
 // How many operations of parts in rounds may change the map.
 fn changes_in_rounds<A: Allocator>(start: &[(u64, u64)], parts: &Parts<'_, A>) -> u64
-    requires { All HasRounds parts.now.parts }
-    ensures { result ≡ min (2 ^ 64 - 1) (sum_by (changes_in (known_at_start start.now)) parts.now.parts) }
+    requires start { IsStrictlyIncreasing (keys_of start.now) }
+    requires rounds { All HasRounds parts.now.parts }
+    ensures { result ≡ min (2 ^ 64 - 1) (sum_by (changes_in (contents_of start.now)) parts.now.parts) }
 {
     let mut changes: u64 = 0;
     for worker in 0..parts.workers() {
@@ -46,54 +51,53 @@ fn changes_in_rounds<A: Allocator>(start: &[(u64, u64)], parts: &Parts<'_, A>) -
 }
 
 // How many operations of a part in rounds may change the map. Those on a key stand side by side, so each goes by the
-// one before it, and the first by whether the key can be there at the start.
+// one before it, and the first by whether the key is there at the start.
 fn changes_in(start: &[(u64, u64)], part: &[(usize, Op)]) -> u64
-    requires { HasRounds part.now }
-    ensures { result ≡ changes_in (known_at_start start.now) part.now }
+    requires start { IsStrictlyIncreasing (keys_of start.now) }
+    requires rounds { HasRounds part.now }
+    ensures { result ≡ changes_in (contents_of start.now) part.now }
 {
-    let at_start = known_at_start(start);
     let mut last = None;
-    let mut there = at_start;
+    let mut there = false;
     let mut changes: u64 = 0;
     for (_, op) in part {
-        let known = if last == Some(op.key()) {
-            there
-        } else {
-            at_start
-        };
-        changes = changes.saturating_add(u64::from(may_change(*op, known)));
+        if last != Some(op.key()) {
+            there = is_there(start, op.key());
+        }
+        changes = changes.saturating_add(u64::from(may_change(*op, there)));
         last = Some(op.key());
-        there = there_after(*op, known);
+        there = there_after(*op, there);
     }
     changes
 }
 
-// What is known at the start of whether a key is there: none is, if there are no pairs.
-fn known_at_start(start: &[(u64, u64)]) -> Option<bool>
-    ensures { result ≡ known_at_start start.now }
+// Whether a key is one of start keys, which ascend.
+fn is_there(start: &[(u64, u64)], key: u64) -> bool
+    requires { IsStrictlyIncreasing (keys_of start.now) }
+    ensures { result ≡ keys_in (contents_of start.now) key }
 {
-    if start.is_empty() { Some(false) } else { None }
+    start.binary_search_by(|pair| pair.0.cmp(&key)).is_ok()
 }
 
-// Whether an operation may change the map, if this is known of whether its key is there.
-fn may_change(op: Op, there: Option<bool>) -> bool
+// Whether an operation may change the map, by whether its key is there.
+fn may_change(op: Op, there: bool) -> bool
     ensures { result ≡ may_change op there }
 {
     match op {
         Op::Find(_) => false,
-        Op::Insert(_, _) => !there.unwrap_or(false),
-        Op::Delete(_) | Op::Swap(_, _, _) => there.unwrap_or(true),
+        Op::Insert(_, _) => !there,
+        Op::Delete(_) | Op::Swap(_, _, _) => there,
     }
 }
 
-// What is known after an operation of whether its key is there.
-fn there_after(op: Op, there: Option<bool>) -> Option<bool>
+// Whether the key of an operation is there after it.
+fn there_after(op: Op, there: bool) -> bool
     ensures { result ≡ there_after op there }
 {
     match op {
         Op::Find(_) | Op::Swap(_, _, _) => there,
-        Op::Insert(_, _) => Some(true),
-        Op::Delete(_) => Some(false),
+        Op::Insert(_, _) => true,
+        Op::Delete(_) => false,
     }
 }
 

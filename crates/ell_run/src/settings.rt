@@ -1,5 +1,7 @@
 //! How a bulk text is run, and what a run reports.
 ghost use Rattle.std.specs.Prelude.{◌≡◌, IfOk, unwrap_or};
+ghost use Rattle.std.specs.List.Sorted.{IsStrictlyIncreasing};
+ghost use Rattle.std.specs.Map.{keys_of};
 ghost use Rattle.ell_run.specs.Limits.{AreLimits};
 ghost use Rattle.ell_run.specs.Reservation.{cards_by_default};
 ghost use Rattle.ell_run.specs.Settings.{AreSettings, IsPartedAs};
@@ -74,6 +76,7 @@ pub(crate) fn limits_for<A: Allocator>(
     parts: &Parts<'_, A>,
     settings: Settings,
 ) -> Limits
+    requires start { IsStrictlyIncreasing (keys_of start.now) }
     requires settings { AreSettings settings }
     requires parted { IsPartedAs settings ops.now parts.now }
     // Cards and tries are those of the settings. If these give no number of cards, it is that for the list.

@@ -1,10 +1,10 @@
 use mir.Val.{bool_byte}
-use Rattle.std.proofs.Common.{◌≡◌, ◌≢◌, ℕ, zero, suc, ◌+◌, ◌-◌, ◌/◌, ◌^◌, ◌<◌, ◌≤◌, ◌&&◌, Bool, true, false, cond, Option, Some, None, All, eqb, List, [], ◌∷◌, ◌++◌, get_or, length, take, take_all, filter, count_by, sum_by, min, arith, refl, ap, sym, subst, ◌∙◌, ⊎_elim}
-use Rattle.std.specs.Prelude.{slice_get, is_some, ◌==◌}
+use Rattle.std.proofs.Common.{◌≡◌, ◌≢◌, ℕ, zero, suc, ◌+◌, ◌-◌, ◌/◌, ◌^◌, ◌<◌, ◌≤◌, ◌&&◌, Bool, true, false, cond, not, Option, Some, None, All, eqb, List, [], ◌∷◌, ◌++◌, get_or, length, take, take_all, filter, count_by, sum_by, min, arith, refl, ap, sym, subst, ◌∙◌, ⊎_elim}
+use Rattle.std.specs.Prelude.{slice_get, is_some, unwrap_or, ◌==◌}
 use Rattle.std.specs.List.{enumerate_from, range_with_len}
 use Rattle.std.specs.Option.{option_eq}
 use Rattle.std.proofs.lemmas.Bool.{cases_lt, cond-true, eq-eqb, eqb-true, ne_eqb}
-use Rattle.std.proofs.lemmas.List.{get_or_default, get_or-take, length-take-le, map-append}
+use Rattle.std.proofs.lemmas.List.{get_or_default, get_or-take, length-take-le, map-append, take_more}
 use Rattle.std.proofs.lemmas.List.Elements.{filter_more}
 use Rattle.std.proofs.lemmas.List.FromFn.{get_or-enumerate_from, get_or-range_with_len, length-enumerate_from, length-range_with_len}
 use Rattle.std.proofs.lemmas.List.Kept.{IsStrictlyIncreasing-filter}
@@ -13,15 +13,17 @@ use Rattle.std.proofs.lemmas.Map.Keys.{any_passes_from_place}
 use Rattle.std.proofs.lemmas.Map.Views.{any-filter_same}
 use Rattle.std.proofs.lemmas.Option.{get_or_from_slice_get, slice_get-get_or, slice_get_within}
 use Rattle.ell_ops.specs.declared.op.Op.{Op}
-use Rattle.ell_ops.specs.Contents.{nothing}
+use Rattle.ell_ops.specs.declared.op.Op.TheVariants.{Find, Insert, Delete, Swap}
+use Rattle.ell_ops.specs.Contents.{Contents, keys_in, nothing, swapped}
 use Rattle.ell_ops.specs.KeySet.{Lists, set_of}
-use Rattle.ell_ops.specs.Meaning.{key_of}
+use Rattle.ell_ops.specs.Meaning.{after, final, key_of}
 use Rattle.ell_order.specs.Orders.{is_reordered, on_key, ops_in}
 use Rattle.ell_order.specs.Rounds.{AreInRounds, keys_left, round}
+use Rattle.ell_order.proofs.lemmas.Kept.{on_key_in}
 use Rattle.ell_order.proofs.lemmas.Numbered.{fewer_before, filter_at}
-use Rattle.ell_order.proofs.lemmas.OnKey.{final_alike, none_on_key}
+use Rattle.ell_order.proofs.lemmas.OnKey.{final-append, final_alike, none_on_key}
 use Rattle.ell_parts.specs.PartedOps.{IsPartedToRun, PartedOps, dealt, part}
-use Rattle.ell_run.specs.Reservation.{HasRounds, changes_in, known_after, may_change, may_change_behind, there_after}
+use Rattle.ell_run.specs.Reservation.{HasRounds, changes_in, may_change, may_change_behind, there_after}
 use Rattle.ell_run.proofs.lemmas.Busy.{counted_ascend}
 use Rattle.ell_run.proofs.lemmas.Leftovers.{filter_fail}
 
@@ -127,56 +129,91 @@ none_before left part rounds i d below turns =
     ap (λ (it : ℕ × Op). key_of it.1 == key) here ∙ ne_eqb (key_of (get_or part j d).1) key other)
 
 -- whether a numbered operation of a part may change the map behind those before it
-abbrev pub changes_at : Option Bool → List (ℕ × Op) → ℕ × (ℕ × Op) → Bool
-changes_at at_start part place = may_change_behind at_start (take place.0 part) place.1.1
+abbrev pub changes_at : Contents → List (ℕ × Op) → ℕ × (ℕ × Op) → Bool
+changes_at start part place = may_change_behind start (take place.0 part) place.1.1
 
-abbrev pub known_of : Option Bool → List (ℕ × Op) → ℕ → Option Bool
-known_of at_start items key = known_after at_start (ops_in (on_key key items))
+-- whether a key is there after numbered operations
+abbrev pub there_of : Contents → List (ℕ × Op) → ℕ → Bool
+there_of start items key = keys_in (final start (ops_in items)) key
 
--- the first operations of a part are counted: what is known of the key of the last of them is what they say, and the next is the
+-- the first operations of a part are counted: the key of the last of them is there if they leave it there, and the next is the
 -- first on its key, unless it is on that one
-pub record AreCounted (at_start : Option Bool) (part : List (ℕ × Op)) (i : ℕ) (last : Option ℕ) (there : Option Bool) (changes : ℕ) : Type 0 where
-  pub count : changes ≡ count_by (changes_at at_start part) (take i (enumerate_from 0 part))
-  pub known : (key : ℕ) → last ≡ Some key → there ≡ known_of at_start (take i part) key
+pub record AreCounted (start : Contents) (part : List (ℕ × Op)) (i : ℕ) (last : Option ℕ) (there : Bool) (changes : ℕ) : Type 0 where
+  pub count : changes ≡ count_by (changes_at start part) (take i (enumerate_from 0 part))
+  pub known : (key : ℕ) → last ≡ Some key → there ≡ there_of start (take i part) key
   pub first : (d : ℕ × Op) → i < length part → last ≢ Some (key_of (get_or part i d).1) → on_key (key_of (get_or part i d).1) (take i part) ≡ []
 
-pub few_counted : (at_start : Option Bool) (part : List (ℕ × Op)) (i : ℕ) (last : Option ℕ) (there : Option Bool) (changes : ℕ) → i ≤ length part →
-    AreCounted at_start part i last there changes → changes ≤ i
-few_counted at_start part i last there changes within are =
+pub few_counted : (start : Contents) (part : List (ℕ × Op)) (i : ℕ) (last : Option ℕ) (there : Bool) (changes : ℕ) → i ≤ length part →
+    AreCounted start part i last there changes → changes ≤ i
+few_counted start part i last there changes within are =
     let numbered = length-enumerate_from 0 part in
-    let fewer = count_by-le-length (changes_at at_start part) (take i (enumerate_from 0 part)) in
+    let fewer = count_by-le-length (changes_at start part) (take i (enumerate_from 0 part)) in
     let long = length-take-le i (enumerate_from 0 part) (omega arith) in
     let same = are.count in
     omega arith
 
-pub all_counted : (at_start : Option Bool) (part : List (ℕ × Op)) (i : ℕ) (last : Option ℕ) (there : Option Bool) (changes : ℕ) → length part ≤ i →
-    AreCounted at_start part i last there changes → changes ≡ changes_in at_start part
-all_counted at_start part i last there changes end are =
-    are.count ∙ ap (count_by (changes_at at_start part)) (take_all i (enumerate_from 0 part) (omega (arith, length-enumerate_from 0 part)))
+pub all_counted : (start : Contents) (part : List (ℕ × Op)) (i : ℕ) (last : Option ℕ) (there : Bool) (changes : ℕ) → length part ≤ i →
+    AreCounted start part i last there changes → changes ≡ changes_in start part
+all_counted start part i last there changes end are =
+    are.count ∙ ap (count_by (changes_at start part)) (take_all i (enumerate_from 0 part) (omega (arith, length-enumerate_from 0 part)))
 
-known_after-append : (xs : List Op) (op : Op) (there : Option Bool) → known_after there (xs ++ op ∷ []) ≡ there_after op (known_after there xs)
-known_after-append [] op there = refl
-known_after-append (x ∷ xs) op there = known_after-append xs op (there_after x there)
+swap_keeps : (there : Option ℕ) (was value : ℕ) → is_some (swapped there was value) ≡ is_some there
+swap_keeps None was value = refl
+swap_keeps (Some v) was value = refl
 
-last_is : (last : Option ℕ) (key : ℕ) → option_eq eqb last (Some key) ≡ true → last ≡ Some key
-last_is None key e = let no : ⊥ = cc in absurd no
-last_is (Some k) key e = ap Some (eqb-true k key e)
+-- an operation leaves its own key there, or not
+keys_in-after : (op : Op) (map : Contents) → keys_in (after op map) (key_of op) ≡ there_after op (keys_in map (key_of op))
+keys_in-after (Find k) map = refl
+keys_in-after (Insert k value) map = ap is_some (cond-true (eqb k k) (Some (unwrap_or (map k) value)) (map k) (eq-eqb k k refl))
+keys_in-after (Delete k) map = ap is_some (cond-true (eqb k k) None (map k) (eq-eqb k k refl))
+keys_in-after (Swap k was value) map =
+    ap is_some (cond-true (eqb k k) (swapped (map k) was value) (map k) (eq-eqb k k refl)) ∙ swap_keeps (map k) was value
 
-last_other : (last : Option ℕ) (key : ℕ) → option_eq eqb last (Some key) ≡ false → last ≢ Some key
+-- with no operation on a key, it is there if it was at the start
+there_of-start : (start : Contents) (items : List (ℕ × Op)) (key : ℕ) → on_key key items ≡ [] → there_of start items key ≡ keys_in start key
+there_of-start start items key none =
+    ap is_some (final_alike (ops_in items) [] start start key refl (sym (on_key_in key items) ∙ ap ops_in none))
+
+-- and behind one operation more, as that leaves it
+there_of-more : (start : Contents) (part : List (ℕ × Op)) (i : ℕ) (d : ℕ × Op) → i < length part →
+    there_of start (take (i + 1) part) (key_of (get_or part i d).1)
+    ≡ there_after (get_or part i d).1 (there_of start (take i part) (key_of (get_or part i d).1))
+there_of-more start part i d below =
+    let item = get_or part i d in
+    let front = ops_in (take i part) in
+    let key = key_of item.1 in
+    ap (λ items. there_of start items key) (take_more part i d below)
+    ∙ ap (λ ops. keys_in (final start ops) key) (map-append (λ (it : ℕ × Op). it.1) (take i part) (item ∷ []))
+    ∙ ap (λ map. keys_in map key) (final-append front (item.1 ∷ []) start)
+    ∙ keys_in-after item.1 (final start front)
+
+last_is : (last : Option ℕ) (key : ℕ) (same : Bool) → option_eq eqb last (Some key) ≡ same → not same ≡ false → last ≡ Some key
+last_is None key same e stays = let no : option_eq eqb None (Some key) ≡ true = (e ∙ is_true same stays) in absurd cc where
+  is_true : (b : Bool) → not b ≡ false → b ≡ true
+  is_true true h = refl
+  is_true false h = let no : ⊥ = cc in absurd no
+last_is (Some k) key true e stays = ap Some (eqb-true k key e)
+last_is (Some k) key false e stays = let no : ⊥ = cc in absurd no
+
+last_other : (last : Option ℕ) (key : ℕ) → not (option_eq eqb last (Some key)) ≡ true → last ≢ Some key
 last_other last key e same =
     let own : option_eq eqb last (Some key) ≡ true = ap (λ o. option_eq eqb o (Some key)) same ∙ eq-eqb key key refl in
+    let none : not (option_eq eqb last (Some key)) ≡ false = ap not own in
     let no : ⊥ = cc in absurd no
 
--- what is known of the next one's key: that which is known of the last one's, where this is the same, and else that which is
--- known at the start
-pub known_here : (at_start : Option Bool) (part : List (ℕ × Op)) (i : ℕ) (last : Option ℕ) (there known : Option Bool) (changes key : ℕ) (d : ℕ × Op) → i < length part →
-    AreCounted at_start part i last there changes → key ≡ key_of (get_or part i d).1 →
-    (same : Bool) → option_eq eqb last (Some key) ≡ same → known ≡ cond same there at_start →
-    known ≡ known_of at_start (take i part) (key_of (get_or part i d).1)
-known_here at_start part i last there known changes key d below are is_key true e is =
-    is ∙ are.known (key_of (get_or part i d).1) (last_is last key e ∙ ap Some is_key)
-known_here at_start part i last there known changes key d below are is_key false e is =
-    is ∙ sym (ap (λ l. known_after at_start (ops_in l)) (are.first d below (λ same. last_other last key e (same ∙ ap Some (sym is_key)))))
+-- whether the next one's key is there: as the last one left it, where this is the same key
+pub known_on : (start : Contents) (part : List (ℕ × Op)) (i : ℕ) (last : Option ℕ) (there : Bool) (changes key : ℕ) (d : ℕ × Op) →
+    AreCounted start part i last there changes → key ≡ key_of (get_or part i d).1 → not (option_eq eqb last (Some key)) ≡ false →
+    there ≡ there_of start (take i part) (key_of (get_or part i d).1)
+known_on start part i last there changes key d are is_key stays =
+    are.known (key_of (get_or part i d).1) (last_is last key (option_eq eqb last (Some key)) refl stays ∙ ap Some is_key)
+
+-- and else as at the start
+pub known_anew : (start : Contents) (part : List (ℕ × Op)) (i : ℕ) (last : Option ℕ) (there : Bool) (changes key : ℕ) (d : ℕ × Op) → i < length part →
+    AreCounted start part i last there changes → key ≡ key_of (get_or part i d).1 → not (option_eq eqb last (Some key)) ≡ true →
+    keys_in start (key_of (get_or part i d).1) ≡ there_of start (take i part) (key_of (get_or part i d).1)
+known_anew start part i last there changes key d below are is_key turns =
+    sym (there_of-start start (take i part) (key_of (get_or part i d).1) (are.first d below (λ same. last_other last key turns (same ∙ ap Some (sym is_key)))))
 
 -- one more, where there is room for it
 pub one_added : (more : Bool) (changes byte sum : ℕ) → changes < 18446744073709551615 → byte ≡ bool_byte more →
@@ -185,24 +222,19 @@ one_added true changes byte sum room is all = let one : byte ≡ 1 = is in omega
 one_added false changes byte sum room is all = let none : byte ≡ 0 = is in omega arith
 
 -- so one operation more is counted
-pub one_counted : (at_start : Option Bool) (part : List (ℕ × Op)) (i : ℕ) (last : Option ℕ) (there known after : Option Bool) (changes sum key : ℕ) (d : ℕ × Op) →
-    HasRounds part → i < length part → AreCounted at_start part i last there changes →
-    known ≡ known_of at_start (take i part) (key_of (get_or part i d).1) → key ≡ key_of (get_or part i d).1 →
+pub one_counted : (start : Contents) (part : List (ℕ × Op)) (i : ℕ) (last : Option ℕ) (there known after : Bool) (changes sum key : ℕ) (d : ℕ × Op) →
+    HasRounds part → i < length part → AreCounted start part i last there changes →
+    known ≡ there_of start (take i part) (key_of (get_or part i d).1) → key ≡ key_of (get_or part i d).1 →
     after ≡ there_after (get_or part i d).1 known → sum ≡ changes + cond (may_change (get_or part i d).1 known) 1 0 →
-    AreCounted at_start part (i + 1) (Some key) after sum
-one_counted at_start part i last there known after changes sum key d rounds below are is_known is_key is_after is_sum = record {
+    AreCounted start part (i + 1) (Some key) after sum
+one_counted start part i last there known after changes sum key d rounds below are is_known is_key is_after is_sum = record {
   count = is_sum ∙ ap (λ n. n + cond (may_change op known) 1 0) are.count
       ∙ ap (λ b. count_by test (take i (enumerate_from 0 part)) + cond b 1 0) (ap (may_change op) is_known ∙ sym (ap test here))
       ∙ sym (sum_by_more (λ place. cond (test place) 1 0) (enumerate_from 0 part) i (0, d) numbered);
   known = λ k last_is.
       let now : key_of op ≡ k = sym is_key ∙ (let same : key ≡ k = cc in same) in
-      let all : on_key (key_of op) (take (i + 1) part) ≡ on_key (key_of op) (take i part) ++ item ∷ [] =
-      filter_more (λ item. key_of item.1 == key_of op) part i d below
-      ∙ ap (λ l. on_key (key_of op) (take i part) ++ l) (cond-true (eqb (key_of op) (key_of op)) (item ∷ []) [] (eq-eqb (key_of op) (key_of op) refl)) in
-      is_after ∙ ap (there_after op) is_known ∙ sym (known_after-append (ops_in (on_key (key_of op) (take i part))) op at_start)
-      ∙ ap (known_after at_start) (sym (map-append (λ (it : ℕ × Op). it.1) (on_key (key_of op) (take i part)) (item ∷ [])))
-      ∙ ap (λ l. known_after at_start (ops_in l)) (sym all)
-      ∙ ap (known_of at_start (take (i + 1) part)) now;
+      is_after ∙ ap (there_after op) is_known ∙ sym (there_of-more start part i d below)
+      ∙ ap (there_of start (take (i + 1) part)) now;
   first = λ e next turns.
       let same_next : get_or part (i + 1) e ≡ get_or part (i + 1) d = get_or_default part (i + 1) e d next in
       subst (λ (it : ℕ × Op). on_key (key_of it.1) (take (i + 1) part) ≡ []) (sym same_next)
@@ -215,7 +247,7 @@ one_counted at_start part i last there known after changes sum key d rounds belo
   op = item.1
 
   test : ℕ × (ℕ × Op) → Bool
-  test = changes_at at_start part
+  test = changes_at start part
 
   numbered : i < length (enumerate_from 0 part)
   numbered = omega (arith, length-enumerate_from 0 part)

@@ -1,19 +1,20 @@
 use Rattle.std.proofs.Common.{◌≡◌, ◌+◌, ◌/◌, true, false, count_by, min, sum_by, ap, sym, ◌∙◌}
 use Rattle.std.proofs.lemmas.Bool.{cond-false, cond-true}
 use Rattle.ell_order.specs.Orders.{is_reordered}
-use Rattle.ell_run.specs.Reservation.{changes_in, is_change, known_at_start, most_changes}
+use Rattle.ell_ops.specs.Contents.{contents_of}
+use Rattle.ell_run.specs.Reservation.{changes_in, is_change, most_changes}
 use Rattle.ell_run.proofs.lemmas.SideBySide.{all_in_rounds, cut_off, with_spare}
 use Rattle.ell_run.proofs.reservation.cards_by_default.Goals as goal
 use Rattle.ell_run.proofs.reservation.cards_by_default.Goals.{then-is_reordered, else-is_reordered}
 
-pub changes_in_rounds-changes-requires : goal.changes_in_rounds-changes-requires
-changes_in_rounds-changes-requires g c = all_in_rounds c.args.ops.now c.args.parts.now c.requires (sym c.is_reordered.ensures ∙ c.if-is_reordered.true)
+pub changes_in_rounds-changes-requires-clause-rounds : goal.changes_in_rounds-changes-requires-clause-rounds
+changes_in_rounds-changes-requires-clause-rounds g c = all_in_rounds c.args.ops.now c.args.parts.now c.requires.parted (sym c.is_reordered.ensures ∙ c.if-is_reordered.true)
 
 pub returns-clause-value : goal.returns-clause-value
 returns-clause-value g c =
     let ops = c.args.ops.now in
     let count = most_changes c.args.start.now ops c.args.parts.now in
-    let in_parts = sum_by (changes_in (known_at_start c.args.start.now)) c.args.parts.now.parts in
+    let in_parts = sum_by (changes_in (contents_of c.args.start.now)) c.args.parts.now.parts in
     let in_list = count_by is_change ops in
     let capped : c.min-changes.result ≡ min count 1000000 = elim c.if-is_reordered.branch [
       | then-is_reordered w ↦

@@ -1,23 +1,24 @@
 use Rattle.std.proofs.Common.{◌<◌, [], length, arith, ap, sym, subst, ◌∙◌}
-use Rattle.ell_run.specs.Reservation.{HasRounds, changes_in, known_at_start}
+use Rattle.ell_ops.specs.Contents.{contents_of}
+use Rattle.ell_run.specs.Reservation.{HasRounds, changes_in}
 use Rattle.ell_run.proofs.lemmas.SideBySide.{all_summed, none_summed, one_summed}
 use Rattle.ell_run.proofs.reservation.changes_in_rounds.Goals as goal
 
 pub loop-worker-init : goal.loop-worker-init
-loop-worker-init g c = none_summed (changes_in (known_at_start c.args.start.now)) c.args.parts.now
+loop-worker-init g c = none_summed (changes_in (contents_of c.args.start.now)) c.args.parts.now
 
-pub changes_in-requires : goal.changes_in-requires
-changes_in-requires g c =
+pub changes_in-requires-clause-rounds : goal.changes_in-requires-clause-rounds
+changes_in-requires-clause-rounds g c =
     let worker = c.loop-worker.worker in
     let count = c.workers-worker-end.ensures.value in
     let all = c.workers-worker-end.ensures.lawful.parts in
     let below : worker < length c.args.parts.now.parts = omega (arith, c.loop-worker-test.true) in
-    subst HasRounds (sym c.part.ensures) (c.requires worker [] below)
+    subst HasRounds (sym c.part.ensures) (c.requires.rounds worker [] below)
 
 pub loop-worker-preserved : goal.loop-worker-preserved
 loop-worker-preserved g c =
     let worker = c.loop-worker.worker in
-    let changes = changes_in (known_at_start c.args.start.now) in
+    let changes = changes_in (contents_of c.args.start.now) in
     let count = c.workers-worker-end.ensures.value in
     let all = c.workers-worker-end.ensures.lawful.parts in
     let below : worker < length c.args.parts.now.parts = omega (arith, c.loop-worker-test.true) in
@@ -29,4 +30,4 @@ returns g c =
     let count = c.workers-worker-end.ensures.value in
     let all = c.workers-worker-end.ensures.lawful.parts in
     c.loop-worker.invariant
-    ∙ all_summed (changes_in (known_at_start c.args.start.now)) c.args.parts.now c.loop-worker.worker (omega (arith, c.loop-worker-test.false))
+    ∙ all_summed (changes_in (contents_of c.args.start.now)) c.args.parts.now c.loop-worker.worker (omega (arith, c.loop-worker-test.false))
