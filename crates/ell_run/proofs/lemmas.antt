@@ -6,6 +6,8 @@ pub mod Busy
 pub mod ByParts
 -- What a closed tree leaves.
 pub mod Closed
+-- Sums of counts, as far as they fit, and the cards that come of them.
+pub mod Counts
 -- Empty pieces between those of busy workers.
 pub mod Filling
 -- How a worker does a front of its part, operation by operation.

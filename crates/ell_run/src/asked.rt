@@ -36,6 +36,6 @@ pub(crate) fn run_as_asked<
     ensures late { IfOk result (λ outcome. IsLateOf settings (contents_of start.now) ops.now outcome.late) }
 {
     let parts = parts_for(rt, alloc, ops, settings)?;
-    let limits = limits_for(start, ops, &parts, settings);
+    let limits = limits_for(rt, alloc, start, ops, &parts, settings)?;
     run(rt, alloc, start, ops, &parts, limits, gate)
 }

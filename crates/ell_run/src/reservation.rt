@@ -1,74 +1,154 @@
 //! How many cards a run reserves.
-ghost use Rattle.std.specs.Prelude.{◌≡◌, ◌-◌, ◌^◌, All, count_by, max, min, sum_by};
+ghost use Rattle.std.specs.Prelude.{◌≡◌, ◌<◌, ◌-◌, ◌^◌, All, IfOk, count_by, map, max, min, sum_by};
+ghost use denote.Param.Send.{Frees, IsSend, IsSync};
 ghost use Rattle.std.specs.List.Sorted.{IsStrictlyIncreasing};
 ghost use Rattle.std.specs.Map.{keys_of};
 ghost use Rattle.ell_ops.specs.Contents.{contents_of, keys_in};
-ghost use Rattle.ell_parts.specs.PartedOps.{IsPartedToRun};
+ghost use Rattle.ell_parts.specs.PartedOps.{IsPartedToRun, part};
 ghost use Rattle.ell_word.specs.Node.{most_cards};
 ghost use Rattle.ell_run.specs.Limits.{AreLimits};
-ghost use Rattle.ell_run.specs.Reservation.{HasRounds, cards_by_default, changes_in, is_change, may_change, most_taken, there_after};
+ghost use Rattle.ell_run.specs.Reservation.{HasRounds, cards_by_default, counts_in, is_change, known_keys, may_change, most_changes, most_taken, there_after};
 ghost use Rattle.ell_run.specs.Settings.{IsAllowed};
 
 use crate::runs::Limits;
-use ell_ops::Op;
+use ell_ops::{NoMemory, Op};
 use ell_order::is_reordered;
 use ell_parts::Parts;
 use ell_word::CARDS_MAX;
 use std::alloc::Allocator;
+use std::thread::{Threads, map_indices};
+
+// The fewest operations of a long list, whose parts take longer to count than threads take to begin.
+const LONG: usize = 16_384;
 
 // The cards for a list of operations and its parts, if no number of cards is given: one for each operation that may
-// change the map, an eighth of that for tries that are lost, and 64.
-pub(crate) fn cards_by_default<A: Allocator>(
+// change the map, those for tries that are lost, and 64. Tries are lost to others on the same keys or next to them, so
+// the fewer changes a key has, the fewer are lost.
+pub(crate) fn cards_by_default<R: Threads + Sync, A: Allocator + Copy + Send + Sync>(
+    rt: &R,
+    alloc: A,
     start: &[(u64, u64)],
     ops: &[Op],
     parts: &Parts<'_, A>,
-) -> u64
+) -> Result<u64, NoMemory>
     requires start { IsStrictlyIncreasing (keys_of start.now) }
     requires parted { IsPartedToRun ops.now parts.now.owners parts.now.workers parts.now }
-    ensures value { result ≡ cards_by_default start.now ops.now parts.now }
-    ensures allowed { IsAllowed most_cards result }
+    ensures value { IfOk result (λ cards. cards ≡ cards_by_default start.now ops.now parts.now) }
+    ensures allowed { IfOk result (IsAllowed most_cards) }
 {
-    let changes = if is_reordered(ops) {
-        changes_in_rounds(start, parts)
-    } else {
-        count_changes(ops)
-    };
+    let (changes, keys) = counts_of_list(rt, alloc, start, ops, parts)?;
     let changes = changes.min(CARDS_MAX);
-    (changes + changes / 8 + 64).min(CARDS_MAX)
+    let lost = changes / (keys / 256).max(8);
+    Ok((changes + lost + 64).min(CARDS_MAX))
 }
 
-// How many operations of parts in rounds may change the map.
-fn changes_in_rounds<A: Allocator>(start: &[(u64, u64)], parts: &Parts<'_, A>) -> u64
+// How many operations of a list may change the map, and how many keys it has, if it is reordered.
+fn counts_of_list<R: Threads + Sync, A: Allocator + Copy + Send + Sync>(
+    rt: &R,
+    alloc: A,
+    start: &[(u64, u64)],
+    ops: &[Op],
+    parts: &Parts<'_, A>,
+) -> Result<(u64, u64), NoMemory>
+    requires start { IsStrictlyIncreasing (keys_of start.now) }
+    requires parted { IsPartedToRun ops.now parts.now.owners parts.now.workers parts.now }
+    ensures changes { IfOk result (λ counts. counts.0 ≡ min (2 ^ 64 - 1) (most_changes start.now ops.now parts.now)) }
+    ensures keys { IfOk result (λ counts. counts.1 ≡ min (2 ^ 64 - 1) (known_keys ops.now parts.now)) }
+{
+    if !is_reordered(ops) {
+        return Ok((count_changes(ops), 0));
+    }
+    let counts = counts_of_parts(rt, alloc, start, parts)?;
+    Ok(sums(&counts))
+}
+
+// The counts of each part in rounds. Those of a long list are each counted by a thread of its own, if one can be
+// created.
+fn counts_of_parts<R: Threads + Sync, A: Allocator + Copy + Send + Sync>(
+    rt: &R,
+    alloc: A,
+    start: &[(u64, u64)],
+    parts: &Parts<'_, A>,
+) -> Result<Vec<(u64, u64), A>, NoMemory>
     requires start { IsStrictlyIncreasing (keys_of start.now) }
     requires rounds { All HasRounds parts.now.parts }
-    ensures { result ≡ min (2 ^ 64 - 1) (sum_by (changes_in (contents_of start.now)) parts.now.parts) }
+    ensures { IfOk result (λ counts. counts.items ≡ map (counts_in (contents_of start.now)) parts.now.parts) }
 {
-    let mut changes: u64 = 0;
-    for worker in 0..parts.workers() {
-        changes = changes.saturating_add(changes_in(start, parts.part(worker)));
+    if parts.len() < LONG {
+        return counts_in_turn(alloc, start, parts);
     }
-    changes
+    counts_in_threads(rt, alloc, start, parts)
 }
 
-// How many operations of a part in rounds may change the map. Those on a key stand side by side, so each goes by the
-// one before it, and the first by whether the key is there at the start.
-fn changes_in(start: &[(u64, u64)], part: &[(usize, Op)]) -> u64
+fn counts_in_turn<A: Allocator + Copy>(
+    alloc: A,
+    start: &[(u64, u64)],
+    parts: &Parts<'_, A>,
+) -> Result<Vec<(u64, u64), A>, NoMemory>
+    requires start { IsStrictlyIncreasing (keys_of start.now) }
+    requires rounds { All HasRounds parts.now.parts }
+    ensures { IfOk result (λ counts. counts.items ≡ map (counts_in (contents_of start.now)) parts.now.parts) }
+{
+    let mut counts = Vec::with_capacity(alloc, parts.workers() as usize)?;
+    for worker in 0..parts.workers() {
+        counts.push(counts_in(start, parts.part(worker)))?;
+    }
+    Ok(counts)
+}
+
+fn counts_in_threads<R: Threads + Sync, A: Allocator + Copy + Send + Sync>(
+    rt: &R,
+    alloc: A,
+    start: &[(u64, u64)],
+    parts: &Parts<'_, A>,
+) -> Result<Vec<(u64, u64), A>, NoMemory>
+    requires start { IsStrictlyIncreasing (keys_of start.now) }
+    requires rounds { All HasRounds parts.now.parts }
+    ensures { IfOk result (λ counts. counts.items ≡ map (counts_in (contents_of start.now)) parts.now.parts) }
+{
+    let count = |worker: usize| -> (u64, u64)
+        requires { (worker < 64) × (worker < parts.now.workers) × HasRounds (part parts.now worker)
+            × IsStrictlyIncreasing (keys_of start.now) }
+        ensures { result ≡ counts_in (contents_of start.entry.now) (part parts.entry.now worker) }
+    { counts_in(start, parts.part(worker as u32)) };
+    Ok(map_indices(rt, alloc, parts.workers() as usize, &count)?)
+}
+
+// The sums of the counts of parts, as far as these fit.
+fn sums(counts: &[(u64, u64)]) -> (u64, u64)
+    ensures changes { result.0 ≡ min (2 ^ 64 - 1) (sum_by (λ count. count.0) counts.now) }
+    ensures keys { result.1 ≡ min (2 ^ 64 - 1) (sum_by (λ count. count.1) counts.now) }
+{
+    let mut changes: u64 = 0;
+    let mut keys: u64 = 0;
+    for count in counts {
+        changes = changes.saturating_add(count.0);
+        keys = keys.saturating_add(count.1);
+    }
+    (changes, keys)
+}
+
+// How many operations of a part in rounds may change the map, and how many keys it has. Those on a key stand side by
+// side, so each goes by the one before it, and the first by whether the key is there at the start.
+fn counts_in(start: &[(u64, u64)], part: &[(usize, Op)]) -> (u64, u64)
     requires start { IsStrictlyIncreasing (keys_of start.now) }
     requires rounds { HasRounds part.now }
-    ensures { result ≡ changes_in (contents_of start.now) part.now }
+    ensures { result ≡ counts_in (contents_of start.now) part.now }
 {
     let mut last = None;
     let mut there = false;
     let mut changes: u64 = 0;
+    let mut keys: u64 = 0;
     for (_, op) in part {
         if last != Some(op.key()) {
             there = is_there(start, op.key());
+            keys = keys.saturating_add(1);
         }
         changes = changes.saturating_add(u64::from(may_change(*op, there)));
         last = Some(op.key());
         there = there_after(*op, there);
     }
-    changes
+    (changes, keys)
 }
 
 // Whether a key is one of start keys, which ascend.

@@ -32,8 +32,8 @@ pub struct Settings {
     /// How many workers there are, 1 to `WORKERS_MAX`.
     pub workers: u32,
     pub parting: Parting,
-    /// The cards of the tree, 1 to `CARDS_MAX`; if no number is given, 9 for every 8 operations that may change the
-    /// map, rounded down, plus 64.
+    /// The cards of the tree, 1 to `CARDS_MAX`; if no number is given, one for each operation that may change the map,
+    /// an eighth of that, or less on more than 2,048 keys, and 64.
     pub cards: Option<u64>,
     /// The tries that an insert or a delete has, 1 to `TRIES_MAX`.
     pub tries: u32,
@@ -70,25 +70,27 @@ pub fn parts_for<'a, R: Threads + Sync, A: Allocator + Copy + Send + Sync>(
 }
 
 // The limits that the settings ask for, for a list and its parts.
-pub(crate) fn limits_for<A: Allocator>(
+pub(crate) fn limits_for<R: Threads + Sync, A: Allocator + Copy + Send + Sync>(
+    rt: &R,
+    alloc: A,
     start: &[(u64, u64)],
     ops: &[Op],
     parts: &Parts<'_, A>,
     settings: Settings,
-) -> Limits
+) -> Result<Limits, NoMemory>
     requires start { IsStrictlyIncreasing (keys_of start.now) }
     requires settings { AreSettings settings }
     requires parted { IsPartedAs settings ops.now parts.now }
     // Cards and tries are those of the settings. If these give no number of cards, it is that for the list.
-    ensures limits { AreLimits result }
-    ensures cards { result.cards ≡ unwrap_or settings.cards (cards_by_default start.now ops.now parts.now) }
-    ensures tries { result.tries ≡ settings.tries }
+    ensures limits { IfOk result AreLimits }
+    ensures cards { IfOk result (λ limits.
+        limits.cards ≡ unwrap_or settings.cards (cards_by_default start.now ops.now parts.now)) }
+    ensures tries { IfOk result (λ limits. limits.tries ≡ settings.tries) }
 {
-    Limits {
-        cards: match settings.cards {
-            Some(cards) => cards,
-            None => cards_by_default(start, ops, parts),
-        },
-        tries: settings.tries,
-    }
+    let cards = match settings.cards {
+        Some(cards) => cards,
+        None => cards_by_default(rt, alloc, start, ops, parts)?,
+    };
+    let tries = settings.tries;
+    Ok(Limits { cards, tries })
 }

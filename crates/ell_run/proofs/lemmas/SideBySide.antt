@@ -1,11 +1,10 @@
 use mir.Val.{bool_byte}
-use Rattle.std.proofs.Common.{◌≡◌, ◌≢◌, ℕ, zero, suc, ◌+◌, ◌-◌, ◌/◌, ◌^◌, ◌<◌, ◌≤◌, ◌&&◌, Bool, true, false, cond, not, Option, Some, None, All, eqb, List, [], ◌∷◌, ◌++◌, get_or, length, take, take_all, filter, count_by, sum_by, min, arith, refl, ap, sym, subst, ◌∙◌, ⊎_elim}
+use Rattle.std.proofs.Common.{◌≡◌, ◌≢◌, ℕ, zero, suc, ◌+◌, ◌-◌, ◌<◌, ◌≤◌, ◌&&◌, ◌||◌, Bool, true, false, cond, not, Option, Some, None, All, eqb, List, [], ◌∷◌, get_or, length, map, take, take_all, filter, count_by, min, arith, refl, ap, sym, subst, ◌∙◌, ⊎_elim}
 use Rattle.std.specs.Prelude.{slice_get, is_some, unwrap_or, ◌==◌}
 use Rattle.std.specs.List.{enumerate_from, range_with_len}
 use Rattle.std.specs.Option.{option_eq}
-use Rattle.std.proofs.lemmas.Bool.{cases_lt, cond-true, eq-eqb, eqb-true, ne_eqb}
-use Rattle.std.proofs.lemmas.List.{get_or_default, get_or-take, length-take-le, map-append, take_more}
-use Rattle.std.proofs.lemmas.List.Elements.{filter_more}
+use Rattle.std.proofs.lemmas.Bool.{cases_lt, cond-true, eq-eqb, eqb-false, eqb-true, ne_eqb}
+use Rattle.std.proofs.lemmas.List.{get_or_default, get_or-map, get_or-take, length-map, length-take-le, map-append, take_more}
 use Rattle.std.proofs.lemmas.List.FromFn.{get_or-enumerate_from, get_or-range_with_len, length-enumerate_from, length-range_with_len}
 use Rattle.std.proofs.lemmas.List.Kept.{IsStrictlyIncreasing-filter}
 use Rattle.std.proofs.lemmas.List.Sums.{count_by-le-length, sum_by_more}
@@ -22,8 +21,8 @@ use Rattle.ell_order.specs.Rounds.{AreInRounds, keys_left, round}
 use Rattle.ell_order.proofs.lemmas.Kept.{on_key_in}
 use Rattle.ell_order.proofs.lemmas.Numbered.{fewer_before, filter_at}
 use Rattle.ell_order.proofs.lemmas.OnKey.{final-append, final_alike, none_on_key}
-use Rattle.ell_parts.specs.PartedOps.{IsPartedToRun, PartedOps, dealt, part}
-use Rattle.ell_run.specs.Reservation.{HasRounds, changes_in, may_change, may_change_behind, there_after}
+use Rattle.ell_parts.specs.PartedOps.{IsPartedToRun, PartedOps, dealt, keys_of_part, part}
+use Rattle.ell_run.specs.Reservation.{HasRounds, changes_in, key_count, may_change, may_change_behind, there_after}
 use Rattle.ell_run.proofs.lemmas.Busy.{counted_ascend}
 use Rattle.ell_run.proofs.lemmas.Leftovers.{filter_fail}
 
@@ -136,26 +135,68 @@ changes_at start part place = may_change_behind start (take place.0 part) place.
 abbrev pub there_of : Contents → List (ℕ × Op) → ℕ → Bool
 there_of start items key = keys_in (final start (ops_in items)) key
 
--- the first operations of a part are counted: the key of the last of them is there if they leave it there, and the next is the
--- first on its key, unless it is on that one
-pub record AreCounted (start : Contents) (part : List (ℕ × Op)) (i : ℕ) (last : Option ℕ) (there : Bool) (changes : ℕ) : Type 0 where
+-- whether a numbered operation of a part is the first on its key
+abbrev pub first_at : List (ℕ × Op) → ℕ × (ℕ × Op) → Bool
+first_at part place = not (keys_of_part (take place.0 part) (key_of place.1.1))
+
+-- the first operations of a part are counted, and their keys: the key of the last of them is there if they leave it there, and the
+-- next is the first on its key, unless it is on that one
+pub record AreCounted (start : Contents) (part : List (ℕ × Op)) (i : ℕ) (last : Option ℕ) (there : Bool) (changes keys : ℕ) : Type 0 where
   pub count : changes ≡ count_by (changes_at start part) (take i (enumerate_from 0 part))
+  pub key_count : keys ≡ count_by (first_at part) (take i (enumerate_from 0 part))
+  pub seen : (key : ℕ) → last ≡ Some key → keys_of_part (take i part) key ≡ true
   pub known : (key : ℕ) → last ≡ Some key → there ≡ there_of start (take i part) key
   pub first : (d : ℕ × Op) → i < length part → last ≢ Some (key_of (get_or part i d).1) → on_key (key_of (get_or part i d).1) (take i part) ≡ []
 
-pub few_counted : (start : Contents) (part : List (ℕ × Op)) (i : ℕ) (last : Option ℕ) (there : Bool) (changes : ℕ) → i ≤ length part →
-    AreCounted start part i last there changes → changes ≤ i
-few_counted start part i last there changes within are =
+pub few_counted : (start : Contents) (part : List (ℕ × Op)) (i : ℕ) (last : Option ℕ) (there : Bool) (changes keys : ℕ) → i ≤ length part →
+    AreCounted start part i last there changes keys → changes ≤ i
+few_counted start part i last there changes keys within are =
     let numbered = length-enumerate_from 0 part in
     let fewer = count_by-le-length (changes_at start part) (take i (enumerate_from 0 part)) in
     let long = length-take-le i (enumerate_from 0 part) (omega arith) in
     let same = are.count in
     omega arith
 
-pub all_counted : (start : Contents) (part : List (ℕ × Op)) (i : ℕ) (last : Option ℕ) (there : Bool) (changes : ℕ) → length part ≤ i →
-    AreCounted start part i last there changes → changes ≡ changes_in start part
-all_counted start part i last there changes end are =
+pub all_counted : (start : Contents) (part : List (ℕ × Op)) (i : ℕ) (last : Option ℕ) (there : Bool) (changes keys : ℕ) → length part ≤ i →
+    AreCounted start part i last there changes keys → changes ≡ changes_in start part
+all_counted start part i last there changes keys end are =
     are.count ∙ ap (count_by (changes_at start part)) (take_all i (enumerate_from 0 part) (omega (arith, length-enumerate_from 0 part)))
+
+pub few_keys_counted : (start : Contents) (part : List (ℕ × Op)) (i : ℕ) (last : Option ℕ) (there : Bool) (changes keys : ℕ) → i ≤ length part →
+    AreCounted start part i last there changes keys → keys ≤ i
+few_keys_counted start part i last there changes keys within are =
+    let numbered = length-enumerate_from 0 part in
+    let fewer = count_by-le-length (first_at part) (take i (enumerate_from 0 part)) in
+    let long = length-take-le i (enumerate_from 0 part) (omega arith) in
+    let same = are.key_count in
+    omega arith
+
+pub all_keys_counted : (start : Contents) (part : List (ℕ × Op)) (i : ℕ) (last : Option ℕ) (there : Bool) (changes keys : ℕ) → length part ≤ i →
+    AreCounted start part i last there changes keys → keys ≡ key_count part
+all_keys_counted start part i last there changes keys end are =
+    are.key_count ∙ ap (count_by (first_at part)) (take_all i (enumerate_from 0 part) (omega (arith, length-enumerate_from 0 part)))
+
+-- a key that no operation is on is not among the keys
+not_among : (items : List (ℕ × Op)) (key : ℕ) → on_key key items ≡ [] → keys_of_part items key ≡ false
+not_among [] key none = refl
+not_among (item ∷ items) key none = by (not_among items key) (eqb (key_of item.1) key) refl none where
+  by : (on_key key items ≡ [] → keys_of_part items key ≡ false) → (b : Bool) → eqb (key_of item.1) key ≡ b → cond b (item ∷ on_key key items) (on_key key items) ≡ [] →
+      (eqb key (key_of item.1) || keys_of_part items key) ≡ false
+  by behind true e some = let no : ⊥ = cc in absurd no
+  by behind false e rest =
+      ap (λ b. b || keys_of_part items key) (ne_eqb key (key_of item.1) (λ same. eqb-false (key_of item.1) key e (sym same))) ∙ behind rest
+
+-- the key of an operation is among those up to it
+among : (part : List (ℕ × Op)) (i : ℕ) (d : ℕ × Op) → i < length part → keys_of_part (take (i + 1) part) (key_of (get_or part i d).1) ≡ true
+among part i d below =
+    let key = key_of (get_or part i d).1 in
+    let front = take (i + 1) part in
+    let keys = map (λ (item : ℕ × Op). key_of item.1) front in
+    let long : i < length front = omega (arith, length-take-le (i + 1) part (omega arith)) in
+    let within : i < length keys = omega (arith, length-map front (λ (item : ℕ × Op). key_of item.1)) in
+    let here : get_or keys i 0 ≡ key = get_or-map (λ (item : ℕ × Op). key_of item.1) front i d 0 long
+    ∙ ap (λ (item : ℕ × Op). key_of item.1) (get_or-take (i + 1) part i d (omega arith)) in
+    any_passes_from_place (eqb key) keys i key (slice_get-get_or keys i 0 within ∙ ap Some here) (eq-eqb key key refl)
 
 swap_keeps : (there : Option ℕ) (was value : ℕ) → is_some (swapped there was value) ≡ is_some there
 swap_keeps None was value = refl
@@ -202,18 +243,31 @@ last_other last key e same =
     let no : ⊥ = cc in absurd no
 
 -- whether the next one's key is there: as the last one left it, where this is the same key
-pub known_on : (start : Contents) (part : List (ℕ × Op)) (i : ℕ) (last : Option ℕ) (there : Bool) (changes key : ℕ) (d : ℕ × Op) →
-    AreCounted start part i last there changes → key ≡ key_of (get_or part i d).1 → not (option_eq eqb last (Some key)) ≡ false →
+pub known_on : (start : Contents) (part : List (ℕ × Op)) (i : ℕ) (last : Option ℕ) (there : Bool) (changes keys key : ℕ) (d : ℕ × Op) →
+    AreCounted start part i last there changes keys → key ≡ key_of (get_or part i d).1 → not (option_eq eqb last (Some key)) ≡ false →
     there ≡ there_of start (take i part) (key_of (get_or part i d).1)
-known_on start part i last there changes key d are is_key stays =
+known_on start part i last there changes keys key d are is_key stays =
     are.known (key_of (get_or part i d).1) (last_is last key (option_eq eqb last (Some key)) refl stays ∙ ap Some is_key)
 
 -- and else as at the start
-pub known_anew : (start : Contents) (part : List (ℕ × Op)) (i : ℕ) (last : Option ℕ) (there : Bool) (changes key : ℕ) (d : ℕ × Op) → i < length part →
-    AreCounted start part i last there changes → key ≡ key_of (get_or part i d).1 → not (option_eq eqb last (Some key)) ≡ true →
+pub known_anew : (start : Contents) (part : List (ℕ × Op)) (i : ℕ) (last : Option ℕ) (there : Bool) (changes keys key : ℕ) (d : ℕ × Op) → i < length part →
+    AreCounted start part i last there changes keys → key ≡ key_of (get_or part i d).1 → not (option_eq eqb last (Some key)) ≡ true →
     keys_in start (key_of (get_or part i d).1) ≡ there_of start (take i part) (key_of (get_or part i d).1)
-known_anew start part i last there changes key d below are is_key turns =
+known_anew start part i last there changes keys key d below are is_key turns =
     sym (there_of-start start (take i part) (key_of (get_or part i d).1) (are.first d below (λ same. last_other last key turns (same ∙ ap Some (sym is_key)))))
+
+-- the next one's key is among those before it exactly where it is the last one's
+pub key_known : (start : Contents) (part : List (ℕ × Op)) (i : ℕ) (last : Option ℕ) (there : Bool) (changes keys key : ℕ) (d : ℕ × Op) →
+    AreCounted start part i last there changes keys → key ≡ key_of (get_or part i d).1 → not (option_eq eqb last (Some key)) ≡ false →
+    keys_of_part (take i part) (key_of (get_or part i d).1) ≡ true
+key_known start part i last there changes keys key d are is_key stays =
+    are.seen (key_of (get_or part i d).1) (last_is last key (option_eq eqb last (Some key)) refl stays ∙ ap Some is_key)
+
+pub key_new : (start : Contents) (part : List (ℕ × Op)) (i : ℕ) (last : Option ℕ) (there : Bool) (changes keys key : ℕ) (d : ℕ × Op) → i < length part →
+    AreCounted start part i last there changes keys → key ≡ key_of (get_or part i d).1 → not (option_eq eqb last (Some key)) ≡ true →
+    keys_of_part (take i part) (key_of (get_or part i d).1) ≡ false
+key_new start part i last there changes keys key d below are is_key turns =
+    not_among (take i part) (key_of (get_or part i d).1) (are.first d below (λ same. last_other last key turns (same ∙ ap Some (sym is_key))))
 
 -- one more, where there is room for it
 pub one_added : (more : Bool) (changes byte sum : ℕ) → changes < 18446744073709551615 → byte ≡ bool_byte more →
@@ -222,15 +276,22 @@ one_added true changes byte sum room is all = let one : byte ≡ 1 = is in omega
 one_added false changes byte sum room is all = let none : byte ≡ 0 = is in omega arith
 
 -- so one operation more is counted
-pub one_counted : (start : Contents) (part : List (ℕ × Op)) (i : ℕ) (last : Option ℕ) (there known after : Bool) (changes sum key : ℕ) (d : ℕ × Op) →
-    HasRounds part → i < length part → AreCounted start part i last there changes →
+pub one_counted : (start : Contents) (part : List (ℕ × Op)) (i : ℕ) (last : Option ℕ) (there known after : Bool) (changes sum keys more key : ℕ) (d : ℕ × Op) →
+    HasRounds part → i < length part → AreCounted start part i last there changes keys →
     known ≡ there_of start (take i part) (key_of (get_or part i d).1) → key ≡ key_of (get_or part i d).1 →
     after ≡ there_after (get_or part i d).1 known → sum ≡ changes + cond (may_change (get_or part i d).1 known) 1 0 →
-    AreCounted start part (i + 1) (Some key) after sum
-one_counted start part i last there known after changes sum key d rounds below are is_known is_key is_after is_sum = record {
+    more ≡ keys + cond (not (keys_of_part (take i part) (key_of (get_or part i d).1))) 1 0 →
+    AreCounted start part (i + 1) (Some key) after sum more
+one_counted start part i last there known after changes sum keys more key d rounds below are is_known is_key is_after is_sum is_more = record {
   count = is_sum ∙ ap (λ n. n + cond (may_change op known) 1 0) are.count
       ∙ ap (λ b. count_by test (take i (enumerate_from 0 part)) + cond b 1 0) (ap (may_change op) is_known ∙ sym (ap test here))
       ∙ sym (sum_by_more (λ place. cond (test place) 1 0) (enumerate_from 0 part) i (0, d) numbered);
+  key_count = is_more ∙ ap (λ n. n + cond (first_at part (i, item)) 1 0) are.key_count
+      ∙ ap (λ b. count_by (first_at part) (take i (enumerate_from 0 part)) + cond b 1 0) (sym (ap (first_at part) here))
+      ∙ sym (sum_by_more (λ place. cond (first_at part place) 1 0) (enumerate_from 0 part) i (0, d) numbered);
+  seen = λ k last_is.
+      let now : key_of op ≡ k = sym is_key ∙ (let same : key ≡ k = cc in same) in
+      ap (keys_of_part (take (i + 1) part)) (sym now) ∙ among part i d below;
   known = λ k last_is.
       let now : key_of op ≡ k = sym is_key ∙ (let same : key ≡ k = cc in same) in
       is_after ∙ ap (there_after op) is_known ∙ sym (there_of-more start part i d below)
@@ -264,30 +325,3 @@ all_in_rounds ops parting parted reordered worker d below =
     let left = left_of (ops_in (dealt ops parting.owners worker)) in
     let same : get_or parting.parts worker d ≡ part parting worker = get_or_default parting.parts worker d [] below in
     subst HasRounds (sym same) (left.0, put.rounds left.0 left.1)
-
--- the parts of the first workers are summed, as far as the sum fits
-abbrev pub summed : (List (ℕ × Op) → ℕ) → PartedOps → ℕ → ℕ
-summed changes parting workers = min (2 ^ 64 - 1) (sum_by changes (take workers parting.parts))
-
-pub none_summed : (changes : List (ℕ × Op) → ℕ) (parting : PartedOps) → 0 ≡ summed changes parting 0
-none_summed changes parting = let none : sum_by changes [] ≡ 0 = refl in omega arith
-
-pub one_summed : (changes : List (ℕ × Op) → ℕ) (parting : PartedOps) (worker so_far here sum : ℕ) → worker < length parting.parts →
-    so_far ≡ summed changes parting worker → here ≡ changes (part parting worker) → sum ≡ min (so_far + here) 18446744073709551615 →
-    sum ≡ summed changes parting (worker + 1)
-one_summed changes parting worker so_far here sum below before is all =
-    let more : sum_by changes (take (worker + 1) parting.parts) ≡ sum_by changes (take worker parting.parts) + changes (part parting worker) =
-    sum_by_more changes parting.parts worker [] below in
-    omega arith
-
-pub all_summed : (changes : List (ℕ × Op) → ℕ) (parting : PartedOps) (workers : ℕ) → length parting.parts ≤ workers →
-    summed changes parting workers ≡ min (2 ^ 64 - 1) (sum_by changes parting.parts)
-all_summed changes parting workers end = ap (λ parts. min (2 ^ 64 - 1) (sum_by changes parts)) (take_all workers parting.parts end)
-
--- a count that is cut off where no more cards may be gives as many
-pub with_spare : (count : ℕ) → min (min count 1000000 + min count 1000000 / 8 + 64) 1000000 ≡ min 1000000 (count + count / 8 + 64)
-with_spare count = omega arith
-
--- where the count is cut off far above that
-pub cut_off : (count : ℕ) → min (min (2 ^ 64 - 1) count) 1000000 ≡ min count 1000000
-cut_off count = omega arith
