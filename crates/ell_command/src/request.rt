@@ -227,7 +227,7 @@ impl OptionTexts {
         Ok(OptionTexts {
             workers: format!(in alloc; "Workers that share the run, 1 to {WORKERS_MAX}")?,
             cards: format!(in alloc;
-                "Cards of a run, 1 to {CARDS_MAX} [default: 9 for 8 inserts and deletes, and 64]"
+                "Cards of a run, 1 to {CARDS_MAX} [default: up to 9 for 8 inserts and deletes, and 64]"
             )?,
             tries: format!(in alloc; "Tries of an operation, 1 to {TRIES_MAX}")?,
         })

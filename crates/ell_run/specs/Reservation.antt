@@ -66,7 +66,7 @@ most_changes start ops parting =
 abbrev pub known_keys : List Op → PartedOps → ℕ
 known_keys ops parting = if is_reordered ops then sum_by key_count parting.parts else 0
 
--- the cards for tries that are lost: an eighth of the changes, or, on more than 2,048 keys, 256 times those for each key
+-- the cards for tries that are lost: one for every 8 changes, or, on k keys, for every k / 256 if that is more
 abbrev pub lost : ℕ → ℕ → ℕ
 lost changes keys = changes / max 8 (keys / 256)
 

@@ -33,7 +33,7 @@ pub struct Settings {
     pub workers: u32,
     pub parting: Parting,
     /// The cards of the tree, 1 to `CARDS_MAX`; if no number is given, one for each operation that may change the map,
-    /// an eighth of that, or less on more than 2,048 keys, and 64.
+    /// one for every 8 of them, or, on k keys, for every k / 256 if that is more, and 64.
     pub cards: Option<u64>,
     /// The tries that an insert or a delete has, 1 to `TRIES_MAX`.
     pub tries: u32,
