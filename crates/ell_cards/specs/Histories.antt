@@ -6,6 +6,8 @@ use Rattle.ell_ops.specs.declared.reply.Reply.{Reply}
 use Rattle.ell_ops.specs.Contents.{Contents, contents_of}
 use Rattle.ell_ops.specs.Meaning.{replies, final}
 use Rattle.ell_cards.specs.declared.call.Call.TheVariants as call
+use Rattle.ell_cards.specs.declared.view.Event.{Event}
+use Rattle.ell_cards.specs.declared.view.Event.TheVariants.{Begins, Ends, Quiet}
 use Rattle.ell_cards.specs.Models.{TablePlan}
 use Rattle.ell_cards.specs.States.{TableState}
 use Rattle.ell_cards.specs.Turns.{Turn, Makes, TableRun}
@@ -13,12 +15,6 @@ use Rattle.ell_cards.specs.TurnEffects.{own_words}
 use Rattle.ell_cards.specs.Starts.{Starts}
 use Rattle.ell_cards.specs.Changing.{HasMap}
 use Rattle.ell_cards.specs.Linearizing.{Item, ops_of, replies_of, StandsIn, HasItem}
-
--- what one atomic step is in a history: the thread in a seat begins an operation, or it answers it, or neither
-pub data Event : Type 0 where
-  Begins : ℕ → Op → Event
-  Ends : ℕ → Reply → Event
-  Quiet : Event
 
 -- a call of a history: the thread in a seat begins an operation, begins no other, and answers; begin and end are the
 -- numbers of steps before these two

@@ -6,6 +6,8 @@ pub mod SlotWords
 pub mod Seeking
 pub mod Searches
 pub mod Takings
+-- what a pass knows of its table's history
+pub mod Sights
 -- what contracts see of a memory and of a seat
 pub mod Memories
 -- what contracts see of a table and of a pass
@@ -43,8 +45,11 @@ pub mod Ages
 pub mod CardNodes
 -- that dead nodes are noted
 pub mod Noting
--- the rule of a table: its tree, and its periods
+-- what passes have seen of their table's history
+pub mod Seeing
+-- the rule of a table: its tree, its history, and its periods
 pub mod Whole
+pub mod SeenLaws
 -- what the safe numbers of passes tell
 pub mod PeriodLaws
 -- a small run, in which each step call is made

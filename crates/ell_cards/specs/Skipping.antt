@@ -81,12 +81,12 @@ pub record IsAfterRow (first last : ℕ) (node : NewNode) (old new : View) : Typ
 
 -- Whatever the table is when a word becomes another one, and whatever a pass knows of which this is shown, where it
 -- took a slot last for the card that contracts see: this holds of the word found and of what is shown of what the
--- pass knows of the tree after, and what it knows of periods is as it was.
+-- pass knows of the tree after, and what it knows of periods and of the history is as it was.
 abbrev pub MayStepOn : TablePlan → PassModel → ℕ → (ℕ → ℕ) → (ℕ → View → Type 0) → Type 0
 MayStepOn plan p i f told =
     (k : Known) → shown k.tree ≡ p.view → k.period.slot ≡ p.slot → k.period.lost ≡ None
     → (id : ℕ) → Allows (IsWhole plan) 0 id (k, []) i f
-    (λ n me. told n (shown me.0.tree) × (me.0.period ≡ k.period) × (me.1 ≡ []))
+    (λ n me. told n (shown me.0.tree) × (me.0.period ≡ k.period) × (me.1 ≡ []) × (me.0.sight ≡ k.sight))
 
 -- a card that was claimed is none for which a slot was taken, if there are places
 abbrev pub IsFresh : TablePlan → Option ℕ → Bool → ℕ → Type 0

@@ -68,10 +68,10 @@ abbrev pub after_entering : Call → Period → Period
 after_entering c p = record p { sought = entered_seek c p.sought }
 
 -- whatever the table is when a word of its periods becomes another one, this holds of the word found and of what the
--- pass knows of periods after, and its tree is as it was
+-- pass knows of periods after, and what it knows of the tree and of the history is as it was
 abbrev pub MayGoOn : TablePlan → Known → ℕ → (ℕ → ℕ) → (ℕ → Period → Type 0) → Type 0
 MayGoOn plan k i f then =
-    (id : ℕ) → Allows (IsWhole plan) 0 id (k, []) i f (λ n me. then n me.0.period × (me.0.tree ≡ k.tree) × (me.1 ≡ []))
+    (id : ℕ) → Allows (IsWhole plan) 0 id (k, []) i f (λ n me. then n me.0.period × (me.0.tree ≡ k.tree) × (me.1 ≡ []) × (me.0.sight ≡ k.sight))
 
 -- a pass may be split: it has nothing in hand, and may be parted
 pub record MaySplit (v : View) : Type 0 where

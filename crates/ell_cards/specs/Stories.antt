@@ -9,7 +9,8 @@ use Rattle.ell_cards.specs.Models.{TablePlan, IsFree, whole_share}
 use Rattle.ell_cards.specs.States.{TableState}
 use Rattle.ell_cards.specs.Starts.{IsReached}
 use Rattle.ell_cards.specs.Linearizing.{Item}
-use Rattle.ell_cards.specs.Histories.{Event, IsLinearizable}
+use Rattle.ell_cards.specs.declared.view.Event.{Event}
+use Rattle.ell_cards.specs.Histories.{IsLinearizable}
 use Rattle.ell_cards.specs.Accounts.{count_such, own_calls, StandAt}
 
 -- the calls of a sequence, each with its answer

@@ -24,6 +24,7 @@ use Rattle.ell_cards.specs.Models.{TablePlan, IsFree, IsTold, MayPart}
 use Rattle.ell_cards.specs.PeriodLaws.{IsInPeriod}
 use Rattle.ell_cards.specs.Periods.{WholeState, IsAtRest, slot_word, slots_size, AreOpeningWords, after_give, after_taking, given_period}
 use Rattle.ell_cards.specs.Shown.{IsWord, cut_by, IsNear}
+use Rattle.ell_cards.specs.Sights.{given_sight}
 use Rattle.ell_cards.specs.SlotWords.{has_slot_in, slot_of, turn_of, taken_word}
 use Rattle.ell_cards.specs.Starts.{MayStart, IsReached}
 use Rattle.ell_cards.specs.States.{TableState}
@@ -56,7 +57,7 @@ abbrev pub memory_after : TableState → WholeState → List (Maybe (Unit {0})) 
 memory_after tree t homes id k c = record {
   words = slice_set t.words (place_of c) (cut_by c (left_by (atomic_of c) (found_by tree c)));
   homes = homes;
-  views = slice_set t.views id (record { tree = view_after tree k.tree c; period = k.period });
+  views = slice_set t.views id (record k { tree = view_after tree k.tree c });
 }
 
 -- memory is tied to the tree by the stages of the tree's machine, by which cards lie in slots, and what is dead there
@@ -80,10 +81,11 @@ CallsKeepTies = (plan : TablePlan) (s : Slots) (tree : TableState) (t : WholeSta
 
 -- the parts of a pass that is split, of which the right one gets the other place
 abbrev pub left_known : List ℕ → Known → Known
-left_known keys k = record { tree = left_view keys k.tree; period = after_give k.period }
+left_known keys k = record k { tree = left_view keys k.tree; period = after_give k.period }
 
 abbrev pub right_known : List ℕ → Known → Known
-right_known keys k = record { tree = right_view keys k.tree; period = given_period k.period }
+right_known keys k =
+    record { tree = right_view keys k.tree; period = given_period k.period; sight = given_sight k.sight }
 
 -- A split of a pass with nothing in hand keeps memory tied, and so does a join of two.
 abbrev pub SplitsKeepTies : Type 0
@@ -151,7 +153,7 @@ PeriodsKeepTies = (s : Slots) (tree : TableState) (t : WholeState) (stage : Stag
     → (id : ℕ) (k : Known) → get_elem? t.views id ≡ some k
     → (p : Period) (words : List ℕ) → GoesBeside s t id k p words dead dead' was_dead was_dead'
     → IsTied s tree
-    (record { words = words; homes = t.homes; views = slice_set t.views id (record { tree = k.tree; period = p }) })
+    (record { words = words; homes = t.homes; views = slice_set t.views id (record k { period = p }) })
     stage lie dead' was_dead'
 
 -- the memory where a pass has taken the slot of its card in hand
@@ -159,7 +161,7 @@ abbrev pub memory_taken : Slots → WholeState → ℕ → Known → ℕ → Who
 memory_taken s t id k c = record {
   words = slice_set t.words (slot_word s (slot_of c)) (taken_word (turn_of c));
   homes = t.homes;
-  views = slice_set t.views id (record { tree = k.tree; period = after_taking c k.period });
+  views = slice_set t.views id (record k { period = after_taking c k.period });
 }
 
 -- A pass takes the slot of its card in hand, which is not flagged, where a card lies that is dead, and was dead for

@@ -15,6 +15,9 @@ use Rattle.ell_cards.specs.Leaks.{NothingLeaks}
 use Rattle.ell_cards.specs.Searches.{SearchesAreSound}
 use Rattle.ell_cards.specs.Takings.{TakingsAreSound}
 use Rattle.ell_cards.specs.Shown.{shown_word, FieldIsWhole, StoresAreWhole}
+use Rattle.ell_cards.specs.Histories.{history_of}
+use Rattle.ell_cards.specs.Seeing.{AllHaveSeen, AreMade, AreSilent}
+use Rattle.ell_cards.specs.Sights.{no_sight, joined_sight}
 use Rattle.ell_cards.specs.Starts.{IsReached}
 use Rattle.ell_cards.specs.States.{TableState}
 
@@ -24,14 +27,19 @@ trees_of views = map (λ k. k.tree) views
 
 -- the first pass of a table
 abbrev pub first_known : TablePlan → Known
-first_known plan = record { tree = first_of plan; period = first_period plan }
+first_known plan = record { tree = first_of plan; period = first_period plan; sight = no_sight }
 
 -- two passes as one, and what is left of the other
 abbrev pub joined_known : Known → Known → Known
-joined_known k l = record { tree = joined_view k.tree l.tree; period = joined_period k.period l.period }
+joined_known k l =
+    record {
+      tree = joined_view k.tree l.tree;
+      period = joined_period k.period l.period;
+      sight = joined_sight k.sight l.sight;
+    }
 
 abbrev pub spent_known : Known
-spent_known = record { tree = spent_view; period = no_period }
+spent_known = record { tree = spent_view; period = no_period; sight = no_sight }
 
 -- what a tree has in a field of a card that is no node and no child word a word of 64 bits holds
 abbrev pub FieldsAreWhole : List ℕ → Type 0
@@ -61,11 +69,15 @@ abbrev pub AllStoresAreWhole : Option Slots → TableState → Type 0
 AllStoresAreWhole slots tree =
     (seat : ℕ) (v : View) → get_elem? tree.views seat ≡ some v → StoresAreWhole v × PlansFit slots v
 
--- The rule of a table: turns of its passes have led its tree where it is, what each of them stored is whole, and its
--- grace periods are sound, by which its memory is tied to that tree.
+-- The rule of a table: turns of its passes have led its tree where it is; each pass has seen a beginning of their history,
+-- whose calls are those that passes answered; what each of them stored is whole; and its grace periods are sound, by
+-- which its memory is tied to that tree.
 pub record IsWhole (plan : TablePlan) (t : WholeState) : Type 0 where
   pub tree : TableState
   pub reached : IsReached plan tree
+  pub seen : AllHaveSeen (history_of reached.turns) t.views
+  pub made : AreMade (history_of reached.turns) t.views
+  pub silent : AreSilent t.views
   pub views : trees_of t.views ≡ tree.views
   pub homes : tree.homes ≡ t.homes
   pub words : WordsAre plan.slots t.words tree.words

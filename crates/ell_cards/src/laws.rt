@@ -18,6 +18,7 @@ ghost use Rattle.ell_cards.specs.Changing.{CallsHaveTheirPoint, CallsAnswerAsAMa
 ghost use Rattle.ell_cards.specs.Linearizing.{RunsAreLinearizable, LastAnswersAreOfCalls};
 ghost use Rattle.ell_cards.specs.Accounts.{WholeAccountsAreOfOneThread};
 ghost use Rattle.ell_cards.specs.Histories.{HistoriesAreLinearizable};
+ghost use Rattle.ell_cards.specs.SeenLaws.{SeenIsInLine, SeenIsLinearizable, WholeStoriesAreTold};
 ghost use Rattle.ell_cards.specs.Stories.{StoriesAreTold};
 ghost use Rattle.ell_cards.specs.Placing.{LooksHavePlaces};
 ghost use Rattle.ell_cards.specs.LayingDown.{LaidDownCallsChangeNothing, LaidDownLastChangesNothing};
@@ -298,6 +299,18 @@ pub fn stories_are_told()
     // the calls that the pass was answered, each as often as it was, and no others if keys are shared, all passes were
     // joined to it, and it has nothing in hand. Each delete stands where the key had the value that it took.
     ensures { StoriesAreTold }
+{}
+
+/// What each pass has seen is a beginning of its table's one history, which is linearizable, and whose calls are those that
+/// passes were answered.
+pub fn seen_is_history()
+    // What each pass has seen of its table's history is linearizable.
+    ensures linear { SeenIsLinearizable }
+    // Of what two passes of a table have seen one is a beginning of the other.
+    ensures line { SeenIsInLine }
+    // Where keys are shared, and a pass with nothing in hand has the whole share, the history of its table is linearizable;
+    // the pass's calls are calls of it; and the order has no others.
+    ensures whole { WholeStoriesAreTold }
 {}
 
 /// Every run from a start is linearizable by a sequence of its calls in which each look at a key has a place: it finds

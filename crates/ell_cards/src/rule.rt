@@ -30,7 +30,7 @@ impl Telling for Brand {
     ghost then = { λ found v. ⊤ };
 }
 
-/// A step that tells what its caller picked, leaves what the pass knows of periods, and takes no slot.
+/// A step that tells what its caller picked, leaves what the pass knows of periods and of the history, and takes no slot.
 pub(crate) struct By<J> {
     told: PhantomData<J>,
 }
@@ -39,7 +39,8 @@ impl<J: Telling> Play<(), Known> for By<J> {
     ghost use Rattle.std.specs.Prelude.{◌≡◌};
     ghost use Rattle.ell_cards.specs.Shown.{shown};
 
-    ghost then = { λ step old found new. J.then found (shown new.0.tree) × (new.0.period ≡ old.0.period) × (new.1 ≡ old.1) };
+    ghost then = { λ step old found new. J.then found (shown new.0.tree)
+        × (new.0.period ≡ old.0.period) × (new.1 ≡ old.1) × (new.0.sight ≡ old.0.sight) };
 }
 
 /// What a step tells of the word that it found and of what is shown of what the pass knows of the tree after it, and what the pass
@@ -62,7 +63,7 @@ impl Noting for Brand {
     ghost notes = { λ found p. p };
 }
 
-/// A step that tells and notes what its caller picked, and takes no slot.
+/// A step that tells and notes what its caller picked, leaves what the pass knows of the history, and takes no slot.
 pub(crate) struct Noted<J> {
     told: PhantomData<J>,
 }
@@ -71,7 +72,50 @@ impl<J: Noting> Play<(), Known> for Noted<J> {
     ghost use Rattle.std.specs.Prelude.{◌≡◌};
     ghost use Rattle.ell_cards.specs.Shown.{shown};
 
-    ghost then = { λ step old found new. J.then found (shown new.0.tree) × (new.0.period ≡ J.notes found old.0.period) × (new.1 ≡ old.1) };
+    ghost then = { λ step old found new. J.then found (shown new.0.tree)
+        × (new.0.period ≡ J.notes found old.0.period) × (new.1 ≡ old.1) × (new.0.sight ≡ old.0.sight) };
+}
+
+/// What a step tells, as `Noting`, and the step call that it is, by which the pass may see more of the history. The caller of
+/// the step picks all three.
+pub(crate) trait Marking {
+    ghost use Rattle.std.specs.Prelude.{ℕ};
+    ghost use Rattle.ell_cards.specs.declared.call.Call.{Call};
+    ghost use Rattle.ell_cards.specs.declared.view.Period.{Period};
+    ghost use Rattle.ell_cards.specs.declared.view.View.{View};
+
+    ghost then: { ℕ → View → Type 0 };
+
+    ghost notes: { ℕ → Period → Period };
+
+    ghost call: { Call };
+}
+
+impl Marking for Brand {
+    ghost use Rattle.std.specs.Prelude.{⊤};
+    ghost use Rattle.ell_cards.specs.declared.call.Call.TheVariants as call;
+
+    ghost then = { λ found v. ⊤ };
+
+    ghost notes = { λ found p. p };
+
+    ghost call = { call.Look };
+}
+
+/// A step that tells and notes what its caller picked, by which the pass sees what the step call tells of the history, and
+/// that takes no slot.
+pub(crate) struct Marked<J> {
+    told: PhantomData<J>,
+}
+
+impl<J: Marking> Play<(), Known> for Marked<J> {
+    ghost use Rattle.std.specs.Prelude.{◌≡◌};
+    ghost use Rattle.ell_cards.specs.Seeing.{Marks};
+    ghost use Rattle.ell_cards.specs.Shown.{shown};
+
+    ghost then = { λ step old found new. J.then found (shown new.0.tree)
+        × (new.0.period ≡ J.notes found old.0.period) × (new.1 ≡ old.1)
+        × Marks J.call (shown old.0.tree) old.0.sight new.0.sight };
 }
 
 /// What a step tells of the word that it found and of what the pass knows of periods after it. The caller of the step picks
@@ -89,7 +133,7 @@ impl PeriodTelling for Brand {
     ghost then = { λ found p. ⊤ };
 }
 
-/// A step that tells what its caller picked, leaves what the pass knows of the tree, and takes no slot.
+/// A step that tells what its caller picked, leaves what the pass knows of the tree and of the history, and takes no slot.
 pub(crate) struct InPeriod<J> {
     told: PhantomData<J>,
 }
@@ -97,7 +141,8 @@ pub(crate) struct InPeriod<J> {
 impl<J: PeriodTelling> Play<(), Known> for InPeriod<J> {
     ghost use Rattle.std.specs.Prelude.{◌≡◌};
 
-    ghost then = { λ step old found new. J.then found new.0.period × (new.0.tree ≡ old.0.tree) × (new.1 ≡ old.1) };
+    ghost then = { λ step old found new. J.then found new.0.period
+        × (new.0.tree ≡ old.0.tree) × (new.1 ≡ old.1) × (new.0.sight ≡ old.0.sight) };
 }
 
 /// The keys of the left part of a split. The caller picks them.
@@ -121,10 +166,15 @@ pub(crate) struct PartedBy<J> {
 impl<J: SplitBy> Split<Known> for PartedBy<J> {
     ghost use Rattle.ell_cards.specs.Changes.{left_view, right_view};
     ghost use Rattle.ell_cards.specs.Periods.{after_give, given_period};
+    ghost use Rattle.ell_cards.specs.Sights.{given_sight};
 
-    ghost left = { λ k. record { tree = left_view J.keys k.tree; period = after_give k.period } };
+    ghost left = { λ k. record k { tree = left_view J.keys k.tree; period = after_give k.period } };
 
-    ghost right = { λ k. record { tree = right_view J.keys k.tree; period = given_period k.period } };
+    ghost right = { λ k. record {
+      tree = right_view J.keys k.tree;
+      period = given_period k.period;
+      sight = given_sight k.sight;
+    } };
 }
 
 /// A join: one pass has what two had, and the other nothing.

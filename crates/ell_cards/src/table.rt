@@ -17,6 +17,7 @@ ghost use Rattle.ell_cards.specs.Looking.{KeysAreFixed, ValuesAreFixed, ReadsIts
 ghost use Rattle.ell_cards.specs.declared.view.Period.{Period};
 ghost use Rattle.ell_cards.specs.Periods.{after_flagging, whole_size};
 ghost use Rattle.ell_cards.specs.Tied.{FlagsNone, FlagsCard};
+ghost use Rattle.ell_cards.specs.Seeing.{IsCalm};
 ghost use Rattle.ell_cards.specs.Starts.{SlotsFit};
 ghost use Rattle.ell_cards.specs.Shown.{IsNoClaim, StoresWord, cut_word, shown_word};
 ghost use Rattle.ell_cards.specs.Skipping.{MayStepOn};
@@ -26,7 +27,7 @@ ghost use Rattle.ell_cards.specs.Stepping.{Enters, EntersBy, Exchanges, IsQuiet,
 use crate::call::Call;
 use crate::memory::Memory;
 use crate::pass::{Pass, one_more};
-use crate::rule::{By, Noted, Noting, Telling};
+use crate::rule::{By, Marked, Marking, Noted, Noting, Telling};
 use crate::view::Slots;
 use ell_layout::Field;
 use ell_word::{Link, TURN_SIZE, child_word};
@@ -123,6 +124,7 @@ impl<M: Memory> CardTable<M> {
         requires own { pass.old.table ≡ self.now.id }
         requires may { May self.now.plan call pass.old.view }
         requires quiet { IsQuiet call }
+        requires calm { IsCalm call }
         requires word { word ≡ place_of call }
         requires kept { MayInTable self.now.plan pass.old call }
         requires atomic { atomic_of call ≡ Load }
@@ -141,6 +143,7 @@ impl<M: Memory> CardTable<M> {
         requires own { pass.old.table ≡ self.now.id }
         requires may { May self.now.plan call pass.old.view }
         requires quiet { IsQuiet call }
+        requires calm { IsCalm call }
         requires word { word ≡ place_of call }
         requires kept { MayInTable self.now.plan pass.old call }
         requires atomic { atomic_of call ≡ Load }
@@ -162,6 +165,7 @@ impl<M: Memory> CardTable<M> {
         requires own { pass.old.table ≡ self.now.id }
         requires may { May self.now.plan call pass.old.view }
         requires quiet { IsQuiet call }
+        requires calm { IsCalm call }
         requires word { word ≡ place_of call }
         requires kept { MayInTable self.now.plan pass.old call }
         requires atomic { atomic_of call ≡ Load }
@@ -176,9 +180,52 @@ impl<M: Memory> CardTable<M> {
         found
     }
 
+    // Loads a word by a step that may answer an operation, and is not counted.
+    #[inline(always)]
+    pub(crate) fn load_marked_as<J: Marking>(
+        &self,
+        pass: &mut Pass<M>,
+        call: Call,
+        word: usize,
+    ) -> u64
+        requires own { pass.old.table ≡ self.now.id }
+        requires may { May self.now.plan call pass.old.view }
+        requires quiet { IsQuiet call }
+        requires word { word ≡ place_of call }
+        requires kept { MayInTable self.now.plan pass.old call }
+        requires atomic { atomic_of call ≡ Load }
+        requires tells { MayTell self.now.plan call pass.old.view J.then }
+        requires keeps { KeepsPass self.now.plan pass.old.view J.then }
+        requires notes { (n : ℕ) (p : Period) → J.notes n p ≡ p }
+        requires marks { J.call ≡ call }
+        ensures told { J.then result pass.new.view }
+        ensures step { SeesBy pass.old pass.new }
+    {
+        let _ = call;
+        self.table.load::<Marked<J>>(&mut pass.seat, word)
+    }
+
+    /// A step call that may answer an operation, which loads its word.
+    #[inline(always)]
+    pub(crate) fn load_marked(&self, pass: &mut Pass<M>, call: Call, word: usize) -> u64
+        requires own { pass.old.table ≡ self.now.id }
+        requires may { May self.now.plan call pass.old.view }
+        requires quiet { IsQuiet call }
+        requires word { word ≡ place_of call }
+        requires kept { MayInTable self.now.plan pass.old call }
+        requires atomic { atomic_of call ≡ Load }
+        ensures step { Steps pass.old pass.new (after call result pass.old.view) }
+        ensures tells { Tells self.now.plan call pass.old.view result }
+        ensures values { ValuesAreFixed pass.old.view }
+    {
+        let found = self.load_marked_as::<Brand>(pass, call, word);
+        pass.count(1);
+        found
+    }
+
     // Loads a word, a step that is not counted, after the pass has begun a period if there are places and it is in none.
     #[inline(always)]
-    fn load_entered_as<J: Noting>(&self, pass: &mut Pass<M>, call: Call, word: usize) -> u64
+    fn load_entered_as<J: Marking>(&self, pass: &mut Pass<M>, call: Call, word: usize) -> u64
         requires own { pass.old.table ≡ self.now.id }
         requires may { May self.now.plan call pass.old.view }
         requires word { word ≡ place_of call }
@@ -187,12 +234,13 @@ impl<M: Memory> CardTable<M> {
         requires tells { MayTell self.now.plan call pass.old.view J.then }
         requires keeps { KeepsPass self.now.plan pass.old.view J.then }
         requires notes { (n : ℕ) (p : Period) → J.notes n p ≡ after_entering call p }
+        requires marks { J.call ≡ call }
         ensures told { J.then result pass.new.view }
         ensures step { EntersBy self.now.plan.slots call pass.old pass.new }
     {
         let _ = call;
         self.enter(&mut pass.standing, &mut pass.seat);
-        self.table.load::<Noted<J>>(&mut pass.seat, word)
+        self.table.load::<Marked<J>>(&mut pass.seat, word)
     }
 
     /// A step call that loads its word, as `see`, in a period: where there are places, and the pass is in no period, it begins

@@ -111,6 +111,37 @@ pub struct View {
     pub made: u64,
 }
 
+/// What one atomic step is in the history of a table: the pass in a seat begins an operation, or it answers one, or it
+/// does neither. No value of this type is made.
+#[derive(Clone, Copy)]
+pub enum Event {
+    Begins(u64, Op),
+    Ends(u64, Reply),
+    Quiet,
+}
+
+/// A call that a pass answered, by the numbers of the events before its begin and before its end. No value of this type
+/// is made.
+#[derive(Clone, Copy)]
+pub struct Act {
+    pub begin: u64,
+    pub end: u64,
+    pub op: Op,
+    pub said: Reply,
+}
+
+/// What a pass knows of its table's history. No value of this type is made.
+#[derive(Drop)]
+pub struct Sight {
+    /// The longest beginning of the history that it has seen.
+    pub seen: LinkedList<Event>,
+    /// The number of events before the operation that it began last, if it has begun one since it came from a split.
+    pub begun: Option<u64>,
+    /// The calls that it answered, the last first. When a pass is split, the left part keeps them, and the right part has
+    /// none; a join puts those of the right one behind those of the left one.
+    pub mine: LinkedList<Act>,
+}
+
 /// What a pass knows of grace periods. No value of this type is made.
 #[derive(Clone, Copy)]
 pub struct Period {
@@ -203,11 +234,12 @@ pub struct Stamp {
     pub reading: u64,
 }
 
-/// What a pass knows: of the tree, and of grace periods. No value of this type is made.
+/// What a pass knows: of the tree, of grace periods, and of the history. No value of this type is made.
 #[derive(Drop)]
 pub struct Known {
     pub tree: View,
     pub period: Period,
+    pub sight: Sight,
 }
 
 /// The words of a table for cards and for passes.

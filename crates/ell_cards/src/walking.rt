@@ -87,7 +87,7 @@ impl<M: Memory> CardTable<M> {
         // The pass had been told no two leaves of one card, and no two values of one leaf.
         ensures values { ValuesAreFixed pass.old.view }
     {
-        self.load(pass, Call::Answer(said), root_key());
+        self.load_marked(pass, Call::Answer(said), root_key());
         self.withdraw(pass);
     }
 

@@ -61,3 +61,5 @@ pub mod Seeking
 pub mod InUse
 -- and where no slot was found
 pub mod InVain
+-- what passes have seen of the history
+pub mod Seeing

@@ -293,7 +293,7 @@ module _ (plan : TablePlan) (opened : TableState) (starts : Starts plan opened) 
 
   module _ (free : (j : ℕ) (u : View) → get_elem? s'.views j ≡ some u → IsFree u) where
     -- where nobody has anything in hand, the sequence has the calls that have ended alone
-    ended_only : (x : Item) → HasItem lin.order x → (end : ℕ) × IsAnswered turns x.begin end x.op x.reply
+    pub ended_only : (x : Item) → HasItem lin.order x → (end : ℕ) × IsAnswered turns x.begin end x.op x.reply
     ended_only x there = elim (lin.calls.other x there) [
       | inl ended ↦ ended
       | inr pending ↦ absurd (in_hand plan opened starts turns s' run x.begin pending.change x.op pending.changes pending.unended

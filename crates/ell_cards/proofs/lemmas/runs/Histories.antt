@@ -11,7 +11,9 @@ use Rattle.ell_cards.specs.Models.{TablePlan}
 use Rattle.ell_cards.specs.States.{TableState}
 use Rattle.ell_cards.specs.Turns.{Turn, Makes}
 use Rattle.ell_cards.specs.Linearizing.{IsAnswered, AnswersEndCalls, IsLinearized}
-use Rattle.ell_cards.specs.Histories.{Event, Begins, Ends, IsCall, IsLinearizable, event_of, history_of, HistoriesAreLinearizable}
+use Rattle.ell_cards.specs.declared.view.Event.{Event}
+use Rattle.ell_cards.specs.declared.view.Event.TheVariants.{Begins, Ends}
+use Rattle.ell_cards.specs.Histories.{IsCall, IsLinearizable, event_of, history_of, HistoriesAreLinearizable}
 use Rattle.ell_cards.proofs.lemmas.runs.Linearizing.{runs_are_linearizable}
 
 -- what is in a list of events is of a turn
@@ -36,7 +38,7 @@ end_is (Makes other (call.Answer r)) seat said e = cc
 end_is (Makes other (call.Begin o)) seat said e = absurd cc
 end_is _ seat said e = absurd cc
 
-begin_at : (turns : List Turn) (k seat : ℕ) (op : Op) → get_elem? (history_of turns) k ≡ some (Begins seat op) → get_elem? turns k ≡ some (Makes seat (call.Begin op))
+pub begin_at : (turns : List Turn) (k seat : ℕ) (op : Op) → get_elem? (history_of turns) k ≡ some (Begins seat op) → get_elem? turns k ≡ some (Makes seat (call.Begin op))
 begin_at turns k seat op at = (let t = of_turn turns k (Begins seat op) at in t.at ∙ ap (λ (u : Turn). some u) (begin_is t.turn seat op t.is))
 
 end_at : (turns : List Turn) (k seat : ℕ) (said : Reply) → get_elem? (history_of turns) k ≡ some (Ends seat said) → get_elem? turns k ≡ some (Makes seat (call.Answer said))

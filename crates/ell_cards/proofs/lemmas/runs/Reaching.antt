@@ -37,7 +37,7 @@ pub starts_first : (plan : TablePlan) (words : List ℕ) → MayStart plan → l
 starts_first plan words may size are = record { may = may; words = record { size = size; are = are }; is = refl }
 
 -- so it is where no turn has led
-pub reached_first : (plan : TablePlan) (words : List ℕ) → MayStart plan → length words ≡ table_size plan.last_card
+abbrev pub reached_first : (plan : TablePlan) (words : List ℕ) → MayStart plan → length words ≡ table_size plan.last_card
     → words_of words ≡ words_at_start plan.flat plan.start → IsReached plan (opening words [] (first_of plan))
 reached_first plan words may size are = record {
   first = opening words [] (first_of plan);
@@ -69,7 +69,7 @@ module _ (plan : TablePlan) where
     reached_ran = runs_from_starts plan h.first h.starts h.turns s h.run
 
     -- a turn leads on
-    pub reached_on : (t : Turn) (s' : TableState) → TableTurns plan s t s' → IsReached plan s'
+    abbrev pub reached_on : (t : Turn) (s' : TableState) → TableTurns plan s t s' → IsReached plan s'
     reached_on t s' turn = record {
       first = h.first;
       starts = h.starts;
@@ -92,7 +92,7 @@ module _ (plan : TablePlan) where
       }
 
   -- a step call is a turn
-  pub call_on : (s : TableState) → IsReached plan s → (id : ℕ) (c : Call) (v : View) → get_elem? s.views id ≡ some v → May plan c v
+  abbrev pub call_on : (s : TableState) → IsReached plan s → (id : ℕ) (c : Call) (v : View) → get_elem? s.views id ≡ some v → May plan c v
       → IsReached plan (state_after s id v c)
   call_on s h id c v here may =
       reached_on s h (Makes id c) (state_after s id v c) (record { view = v; there = here; may = may; gives = refl })

@@ -22,6 +22,7 @@ use Rattle.ell_cards.specs.declared.call.Call.TheVariants as call
 use Rattle.ell_cards.specs.declared.view.Told.TheVariants.{Expects}
 use Rattle.ell_cards.specs.Calls.{place_of, May}
 use Rattle.ell_cards.specs.Periods.{size_by, whole_size}
+use Rattle.ell_cards.specs.Seeing.{Marks, IsCalm}
 use Rattle.ell_cards.specs.Starts.{SlotsFit}
 use Rattle.ell_cards.specs.Shown.{IsWord, shown, StoresWord}
 use Rattle.ell_cards.specs.Stepping.{MayInTable, IsInside, IsQuiet, MayHave, MayTell, KeepsPass, SameShare}
@@ -30,8 +31,9 @@ use Rattle.ell_cards.proofs.lemmas.seats.Named.{named_more}
 use Rattle.ell_cards.proofs.lemmas.seats.Placed.{placed_more, place_fits}
 use Rattle.ell_cards.proofs.lemmas.shown.ShownTold.{was_expected}
 use Rattle.ell_cards.proofs.lemmas.whole.Places.{no_places}
-use Rattle.ell_cards.proofs.lemmas.whole.Calling.{Does, Notes, tree_step}
+use Rattle.ell_cards.proofs.lemmas.whole.Calling.{Does, Notes, tree_step_marked}
 use Rattle.ell_cards.proofs.lemmas.whole.Lifts.{IsFill}
+use Rattle.ell_cards.proofs.lemmas.whole.Seeing.{calm_marks}
 
 -- what the rule of a table allows a seat that holds no slot, of a table that has none
 pub allowed : (plan : TablePlan) (slots id : ℕ) (me : Me (Unit {0}) Known) (word : ℕ) (f : ℕ → ℕ) (told : ℕ → Me (Unit {0}) Known → List (ℕ × Unit {0}) → Type 0)
@@ -165,29 +167,41 @@ module _ (t u : TableModel) (p q : PassModel) (same_table : t ≡ u) (same_pass 
       let same = ap (λ i. i.words) of_table in
       omega arith
 
-  -- what a step call owes, by what its caller says of the table and the pass, which is shown of the tree that its seat knows
-  pub owed : (tree : View) → shown tree ≡ p.view → (seat : ℕ) (period : Period) → period.slot ≡ p.slot → period.sought ≡ p.sought → (held : List (ℕ × Unit {0})) (keys : List ℕ) (share : Share) (standing : Standing) (word : ℕ) (f : ℕ → ℕ)
-      (told : ℕ → View → Type 0) (notes : ℕ → Period) (c : Call) → t.id.slots ≡ 0 → held ≡ [] → PassFits keys share p.table.words p.view → PlaceFits standing p.table.words period
+  -- what a step call owes that may begin an operation or answer one, by what its caller says of the table and the pass, which is shown of what its seat knows
+  pub owed_marked : (k : Known) → shown k.tree ≡ p.view → (seat : ℕ) → k.period.slot ≡ p.slot → k.period.sought ≡ p.sought → (held : List (ℕ × Unit {0})) (keys : List ℕ) (share : Share) (standing : Standing) (word : ℕ) (f : ℕ → ℕ)
+      (told : ℕ → View → Type 0) (notes : ℕ → Period) (c : Call) → t.id.slots ≡ 0 → held ≡ [] → PassFits keys share p.table.words p.view → PlaceFits standing p.table.words k.period
       → StoresWord c → word ≡ place_of c → May u.plan c q.view → MayInTable u.plan q c → Does u.plan c f
-      → (u.plan.slots ≢ None → period.announced ≡ None → IsQuiet c) → (IsFill c → (n m : ℕ) (w : View) → told n w → told m w) → MayTell u.plan c q.view told
-      → ((n : ℕ) → IsWord n → Notes u.plan.slots c n period (notes n))
+      → (u.plan.slots ≢ None → k.period.announced ≡ None → IsQuiet c) → (IsFill c → (n m : ℕ) (w : View) → told n w → told m w) → MayTell u.plan c q.view told
+      → ((n : ℕ) → IsWord n → Notes u.plan.slots c n k.period (notes n))
       → (p.table ≡ t.id) × (word < t.id.words)
-      × Allows (IsWhole t.plan) t.id.slots seat (record { tree = tree; period = period }, held) word f (λ n x. told n (shown x.0.tree) × (x.0.period ≡ notes n) × (x.1 ≡ held))
-  owed tree shows seat period slotted sought held keys share standing word f told notes c none empty fits placed stores at may kept does quiet same tells noted =
-      let is : q.view ≡ shown tree = ap (λ (m : PassModel). m.view) (sym same_pass) ∙ sym shows in
-      let taken : q.slot ≡ period.slot = ap (λ (m : PassModel). m.slot) (sym same_pass) ∙ sym slotted in
-      let seeks : q.sought ≡ period.sought = ap (λ (m : PassModel). m.sought) (sym same_pass) ∙ sym sought in
-      let asks : (s : Slots) → u.plan.slots ≡ Some s → MayInMemory s period.slot period.sought.retired (shown tree) c =
-      λ s some. subst (λ v. MayInMemory s period.slot period.sought.retired v c) is
-      (subst (λ (k : Seek). MayInMemory s period.slot k.retired q.view c) seeks (subst (λ o. MayInMemory s o q.sought.retired q.view c) taken (kept s some))) in
-      let step = tree_step u.plan (record { tree = tree; period = period }) c f told notes stores (subst (May u.plan c) is may) asks (λ some. placed.lost) does quiet same (subst (λ v. MayTell u.plan c v told) is tells) noted in
-      let rule : (id : ℕ) → Allows (IsWhole t.plan) 0 id (record { tree = tree; period = period }, []) word f (λ n x. told n (shown x.0.tree) × (x.0.period ≡ notes n) × (x.1 ≡ [])) =
-      subst (λ (i : ℕ). (id : ℕ) → Allows (IsWhole t.plan) 0 id (record { tree = tree; period = period }, []) i f (λ n x. told n (shown x.0.tree) × (x.0.period ≡ notes n) × (x.1 ≡ []))) (sym at)
-      (subst (λ (m : TableModel). (id : ℕ) → Allows (IsWhole m.plan) 0 id (record { tree = tree; period = period }, []) (place_of c) f (λ n x. told n (shown x.0.tree) × (x.0.period ≡ notes n) × (x.1 ≡ []))) (sym same_table) step) in (
+      × Allows (IsWhole t.plan) t.id.slots seat (k, held) word f (λ n x. told n (shown x.0.tree) × (x.0.period ≡ notes n) × (x.1 ≡ held) × Marks c (shown k.tree) k.sight x.0.sight)
+  owed_marked k shows seat slotted sought held keys share standing word f told notes c none empty fits placed stores at may kept does quiet same tells noted =
+      let is : q.view ≡ shown k.tree = ap (λ (m : PassModel). m.view) (sym same_pass) ∙ sym shows in
+      let taken : q.slot ≡ k.period.slot = ap (λ (m : PassModel). m.slot) (sym same_pass) ∙ sym slotted in
+      let seeks : q.sought ≡ k.period.sought = ap (λ (m : PassModel). m.sought) (sym same_pass) ∙ sym sought in
+      let asks : (s : Slots) → u.plan.slots ≡ Some s → MayInMemory s k.period.slot k.period.sought.retired (shown k.tree) c =
+      λ s some. subst (λ v. MayInMemory s k.period.slot k.period.sought.retired v c) is
+      (subst (λ (r : Seek). MayInMemory s k.period.slot r.retired q.view c) seeks (subst (λ o. MayInMemory s o q.sought.retired q.view c) taken (kept s some))) in
+      let step = tree_step_marked u.plan k c f told notes stores (subst (May u.plan c) is may) asks (λ some. placed.lost) does quiet same (subst (λ v. MayTell u.plan c v told) is tells) noted in
+      let rule : (id : ℕ) → Allows (IsWhole t.plan) 0 id (k, []) word f (λ n x. told n (shown x.0.tree) × (x.0.period ≡ notes n) × (x.1 ≡ []) × Marks c (shown k.tree) k.sight x.0.sight) =
+      subst (λ (i : ℕ). (id : ℕ) → Allows (IsWhole t.plan) 0 id (k, []) i f (λ n x. told n (shown x.0.tree) × (x.0.period ≡ notes n) × (x.1 ≡ []) × Marks c (shown k.tree) k.sight x.0.sight)) (sym at)
+      (subst (λ (m : TableModel). (id : ℕ) → Allows (IsWhole m.plan) 0 id (k, []) (place_of c) f (λ n x. told n (shown x.0.tree) × (x.0.period ≡ notes n) × (x.1 ≡ []) × Marks c (shown k.tree) k.sight x.0.sight)) (sym same_table) step) in (
         of_table,
-        subst (λ i. i < t.id.words) (sym at) (inside_there keys share c fits may (fill_fits keys share standing period slotted fits placed c may kept)),
-        allowed t.plan t.id.slots seat (record { tree = tree; period = period }, held) word f (λ n x l. told n (shown x.0.tree) × (x.0.period ≡ notes n) × (x.1 ≡ l)) none empty rule,
+        subst (λ i. i < t.id.words) (sym at) (inside_there keys share c fits may (fill_fits keys share standing k.period slotted fits placed c may kept)),
+        allowed t.plan t.id.slots seat (k, held) word f (λ n x l. told n (shown x.0.tree) × (x.0.period ≡ notes n) × (x.1 ≡ l) × Marks c (shown k.tree) k.sight x.0.sight) none empty rule,
       )
+
+  -- what a step call owes that neither begins an operation nor answers one, by what its caller says of the table and the pass, which is shown of what its seat knows
+  pub owed : (k : Known) → shown k.tree ≡ p.view → (seat : ℕ) → k.period.slot ≡ p.slot → k.period.sought ≡ p.sought → (held : List (ℕ × Unit {0})) (keys : List ℕ) (share : Share) (standing : Standing) (word : ℕ) (f : ℕ → ℕ)
+      (told : ℕ → View → Type 0) (notes : ℕ → Period) (c : Call) → t.id.slots ≡ 0 → held ≡ [] → PassFits keys share p.table.words p.view → PlaceFits standing p.table.words k.period
+      → StoresWord c → word ≡ place_of c → May u.plan c q.view → MayInTable u.plan q c → Does u.plan c f
+      → (u.plan.slots ≢ None → k.period.announced ≡ None → IsQuiet c) → (IsFill c → (n m : ℕ) (w : View) → told n w → told m w) → MayTell u.plan c q.view told
+      → ((n : ℕ) → IsWord n → Notes u.plan.slots c n k.period (notes n)) → IsCalm c
+      → (p.table ≡ t.id) × (word < t.id.words)
+      × Allows (IsWhole t.plan) t.id.slots seat (k, held) word f (λ n x. told n (shown x.0.tree) × (x.0.period ≡ notes n) × (x.1 ≡ held) × (x.0.sight ≡ k.sight))
+  owed k shows seat slotted sought held keys share standing word f told notes c none empty fits placed stores at may kept does quiet same tells noted calm =
+      let x = owed_marked k shows seat slotted sought held keys share standing word f told notes c none empty fits placed stores at may kept does quiet same tells noted in
+      (x.0, x.1, λ s holds homes here small. (let y = x.2 s holds homes here small in (y.0, y.1, y.2, y.3, (y.4.0, y.4.1, y.4.2, calm_marks c calm (shown k.tree) k.sight y.0.sight y.4.3))))
 
   -- the pass after a step that told this
   pub stepped : (keys : List ℕ) (share : Share) (words n : ℕ) (w : View) (told : ℕ → View → Type 0) → t.plan.last_card ≤ greatest_number → PassFits keys share p.table.words p.view → words ≡ p.table.words

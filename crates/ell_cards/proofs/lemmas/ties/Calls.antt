@@ -159,7 +159,7 @@ module _ (plan : TablePlan) (s : Slots) (low : s.last < turn_size) (tree : Table
   leaves = set tree.words (word_of c) left
 
   abbrev knows : Known
-  knows = record { tree = view_after tree k.tree c; period = k.period }
+  knows = record k { tree = view_after tree k.tree c }
 
   abbrev views : List Known
   views = set t.views id knows

@@ -21,6 +21,7 @@ use Rattle.ell_cards.specs.Models.{TablePlan}
 use Rattle.ell_cards.specs.Periods.{WholeState, IsAtRest, AreOpeningWords, period_by, slot_word}
 use Rattle.ell_cards.specs.Apart.{cut_node}
 use Rattle.ell_cards.specs.Shown.{IsWord, cut_field, cut_word}
+use Rattle.ell_cards.specs.Sights.{no_sight}
 use Rattle.ell_cards.specs.SlotWords.{slot_of, card_by, free_word, has_slot_in, is_noted, taken_word}
 use Rattle.ell_cards.specs.Starts.{MayStart, SlotsFit, IsReached}
 use Rattle.ell_cards.specs.RunLaws.{StartIsKept}
@@ -141,18 +142,18 @@ module _ (plan : TablePlan) (s : Slots) (cards all : List ℕ) (may : MayStart p
   tree_opened = opening (cards ++ replicate long 0) [] (first_of plan)
 
   abbrev pub opened : WholeState
-  opened = opening all [] (record { tree = first_of plan; period = period_by (Some s) })
+  opened = opening all [] (record { tree = first_of plan; period = period_by (Some s); sight = no_sight })
 
-  long_opened : length (cards ++ replicate long 0) ≡ table_size plan.last_card
+  pub long_opened : length (cards ++ replicate long 0) ≡ table_size plan.last_card
   long_opened =
       let last = fit.2 in
       let most = fit.4 in
       length-append cards (replicate long 0) ∙ (let many = zeros_many long in omega arith)
 
-  words_opened : words_of (cards ++ replicate long 0) ≡ words_at_start plan.flat plan.start
+  pub words_opened : words_of (cards ++ replicate long 0) ≡ words_at_start plan.flat plan.start
   words_opened = words_same (cards ++ replicate long 0) cards (with_zeros cards long) ∙ are
 
-  pub reached_opened : IsReached plan tree_opened
+  abbrev pub reached_opened : IsReached plan tree_opened
   reached_opened = reached_first plan (cards ++ replicate long 0) may long_opened words_opened
 
   pub rest : IsAtRest (first_of plan)
@@ -185,9 +186,9 @@ module _ (plan : TablePlan) (s : Slots) (cards all : List ℕ) (may : MayStart p
         (λ i inside. subst (λ n. n < 2 ^ 64) (sym (h.cards_first i inside)) (small i))
         (length plan.start) next fit.3
         (no_info plan.flat plan.start (cards ++ replicate long 0) (words_same (cards ++ replicate long 0) cards (with_zeros cards long) ∙ are))
-        (record { tree = first_of plan; period = period_by (Some s) }) refl refl out_opened (λ q x. false);
+        (record { tree = first_of plan; period = period_by (Some s); sight = no_sight }) refl refl out_opened (λ q x. false);
     flat = fit.5;
-    retired = λ seat c u at slot hand. absurd (some_not_none hand (alone_there (record { tree = first_of plan; period = period_by (Some s) }) (λ (x : Known). x.tree.worker.card ≡ None) refl seat u at));
+    retired = λ seat c u at slot hand. absurd (some_not_none hand (alone_there (record { tree = first_of plan; period = period_by (Some s); sight = no_sight }) (λ (x : Known). x.tree.worker.card ≡ None) refl seat u at));
   }
 
   -- its slots in use have cards of start keys, and nothing is dead
@@ -234,6 +235,6 @@ openings_are_tied plan s cards all placed may size are small h =
       lie = has.lie;
       dead = has.dead;
       was_dead = has.was_dead;
-      tied = subst (λ o. IsTiedByAges plan s (tree_opened plan s cards all may fit size are small h) (opening all [] (record { tree = first_of plan; period = period_by o })) has.lie has.dead has.was_dead)
+      tied = subst (λ o. IsTiedByAges plan s (tree_opened plan s cards all may fit size are small h) (opening all [] (record { tree = first_of plan; period = period_by o; sight = no_sight })) has.lie has.dead has.was_dead)
           (sym placed) (record { ages = has.ages; tied = has.tied });
     }

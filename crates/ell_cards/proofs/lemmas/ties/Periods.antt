@@ -11,6 +11,7 @@ use Rattle.ell_layout.proofs.lemmas.Listed.{address_in_table}
 use Rattle.ell_core.specs.history.Stages.{Stages}
 use Rattle.ell_cards.specs.declared.view.Known.{Known}
 use Rattle.ell_cards.specs.declared.view.Period.{Period}
+use Rattle.ell_cards.specs.declared.view.Sight.{Sight}
 use Rattle.ell_cards.specs.declared.view.Slots.{Slots}
 use Rattle.ell_cards.specs.Periods.{WholeState}
 use Rattle.ell_cards.specs.States.{TableState}
@@ -20,18 +21,18 @@ use Rattle.ell_cards.specs.Ties.{PeriodsKeepTies}
 use Rattle.ell_cards.specs.Tied.IsKept.{won, stored}
 
 -- what is kept where a pass knows something else of periods was kept before
-pub kept_of_period : (stage : Stages) (views : List Known) (id : ℕ) (k : Known) → get_elem? views id ≡ some k → (p : Period) (c : ℕ) (f : Field)
-    → IsKept stage (set views id (record { tree = k.tree; period = p })) c f → IsKept stage views c f
-kept_of_period stage views id k here p c f (won has said) = won has said
-kept_of_period stage views id k here p c f (stored seat u at waits has) =
-    let now : Known = record { tree = k.tree; period = p } in
+pub kept_of_period : (stage : Stages) (views : List Known) (id : ℕ) (k : Known) → get_elem? views id ≡ some k → (g : Sight) (p : Period) (c : ℕ) (f : Field)
+    → IsKept stage (set views id (record k { period = p; sight = g })) c f → IsKept stage views c f
+kept_of_period stage views id k here g p c f (won has said) = won has said
+kept_of_period stage views id k here g p c f (stored seat u at waits has) =
+    let now : Known = record k { period = p; sight = g } in
     ⊎_elim
     (λ (e : (seat ≡ id) × (now ≡ u)). stored id k here (subst (λ (x : Known). HoldsWaiting x.tree c) (sym e.1) waits) (subst (λ (x : Known). HasStored x.tree f) (sym e.1) has))
     (λ (e : (seat ≢ id) × (get_elem? views seat ≡ some u)). stored seat u e.1 waits has)
     (at_set views id seat now u at)
 
 module _ (s : Slots) (tree : TableState) (t : WholeState) (stage : Stages) (lie : ℕ → ℕ) (dead dead' : ℕ → Bool) (was_dead was_dead' : ℕ → ℕ → Bool)
-    (tied : IsTied s tree t stage lie dead was_dead) (id : ℕ) (k : Known) (here : get_elem? t.views id ≡ some k) (p : Period) (taken : p.slot ≡ k.period.slot) (words : List ℕ)
+    (tied : IsTied s tree t stage lie dead was_dead) (id : ℕ) (k : Known) (here : get_elem? t.views id ≡ some k) (g : Sight) (p : Period) (taken : p.slot ≡ k.period.slot) (words : List ℕ)
     (slots : (i : ℕ) → i < table_size s.last → get_or words i 0 ≡ get_or t.words i 0)
     (less : (c : ℕ) → dead' c ≡ false → dead c ≡ false)
     (mine : (q a : ℕ) → p.place ≡ Some q → p.announced ≡ Some a
@@ -40,7 +41,7 @@ module _ (s : Slots) (tree : TableState) (t : WholeState) (stage : Stages) (lie 
     (others : (seat q a : ℕ) (u : Known) → seat ≢ id → get_elem? t.views seat ≡ some u → u.period.place ≡ Some q → u.period.announced ≡ Some a
     → (c : ℕ) → was_dead' q c ≡ false → was_dead q c ≡ false) where
   abbrev now : Known
-  now = record { tree = k.tree; period = p }
+  now = record k { period = p; sight = g }
 
   lives_on : (q a c : ℕ) → p.place ≡ Some q → p.announced ≡ Some a → HasWon stage c → was_dead' q c ≡ false → LiesThere s lie c
   lives_on q a c placed an has alive = elim (mine q a placed an) [
@@ -55,7 +56,7 @@ module _ (s : Slots) (tree : TableState) (t : WholeState) (stage : Stages) (lie 
     root = tied.root;
     own = tied.own;
     at = λ slot f inside kept.
-        slots (address slot f) (address_in_table s.last slot f inside).1 ∙ tied.at slot f inside (kept_of_period stage t.views id k here p (lie slot) f kept);
+        slots (address slot f) (address_in_table s.last slot f inside).1 ∙ tied.at slot f inside (kept_of_period stage t.views id k here g p (lie slot) f kept);
     alive = λ c has lives. tied.alive c has (less c lives);
     lives = λ seat q a c u at placed an has alive. ⊎_elim
         (λ (e : (seat ≡ id) × (now ≡ u)). lives_on q a c (ap (λ (x : Known). x.period.place) e.1 ∙ placed) (ap (λ (x : Known). x.period.announced) e.1 ∙ an) has alive)
@@ -83,4 +84,4 @@ module _ (s : Slots) (tree : TableState) (t : WholeState) (stage : Stages) (lie 
 
 pub periods_keep_ties : PeriodsKeepTies
 periods_keep_ties s tree t stage lie dead dead' was_dead was_dead' tied id k here p words goes =
-    tie_of_period s tree t stage lie dead dead' was_dead was_dead' tied id k here p goes.taken words goes.cards goes.less goes.mine goes.others t.homes
+    tie_of_period s tree t stage lie dead dead' was_dead was_dead' tied id k here k.sight p goes.taken words goes.cards goes.less goes.mine goes.others t.homes

@@ -49,7 +49,7 @@ module _ (s : Slots) (low : s.last < turn_size) (tree : TableState) (t : WholeSt
   words = set t.words (slot_word s slot) (taken_word (turn_of c))
 
   abbrev now : Known
-  now = record { tree = k.tree; period = p }
+  now = record k { period = p }
 
   -- the words of slots beside the slot's own are as they were
   slots_stay : (i : ℕ) → i < table_size s.last → get_or words i 0 ≡ get_or t.words i 0
@@ -75,7 +75,7 @@ module _ (s : Slots) (low : s.last < turn_size) (tree : TableState) (t : WholeSt
 
   -- so nothing of it is kept
   none_kept : (f : Field) → IsKept stage (set t.views id now) c f → ⊥
-  none_kept f kept = by (kept_of_period stage t.views id k here p c f kept)
+  none_kept f kept = by (kept_of_period stage t.views id k here k.sight p c f kept)
     where
       by : IsKept stage t.views c f → ⊥
       by (won has said) = unwon has
@@ -93,7 +93,7 @@ module _ (s : Slots) (low : s.last < turn_size) (tree : TableState) (t : WholeSt
     | inr apart ↦
         let is = card_else other apart in
         slots_stay (address other f) (address_in_table s.last other f below).1
-        ∙ (tied.at other f below (subst (λ e. IsKept stage t.views e f) is (kept_of_period stage t.views id k here p (lie' other) f kept))
+        ∙ (tied.at other f below (subst (λ e. IsKept stage t.views e f) is (kept_of_period stage t.views id k here k.sight p (lie' other) f kept))
         ∙ ap (λ e. cut_field f (get_or tree.words (address e f) 0)) (sym is))
   ]
 

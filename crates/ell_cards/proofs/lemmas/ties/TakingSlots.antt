@@ -154,14 +154,14 @@ pub take_goes : (plan : TablePlan) (s : Slots) (tree : TableState) (t : WholeSta
     → ((seat q a : ℕ) (u : Known) → get_elem? t.views seat ≡ some u → u.period.place ≡ Some q → u.period.announced ≡ Some a → was_dead q (lie (slot_of c)) ≡ true)
     → TakenOn plan s tree t lie dead was_dead h id k c
 take_goes plan s tree t lie dead was_dead low size h same id k here c hand numbered gone was_gone = record {
-  ages = ages_of_period plan s tree t id k here (record { tree = k.tree; period = p }) refl words lie (put lie (slot_of c) c) dead dead was_dead was_dead h.ages
+  ages = ages_of_period plan s tree t id k here (record k { period = p }) refl words lie (put lie (slot_of c) c) dead dead was_dead was_dead h.ages
       h.ages.now.each h.ages.still (λ q a at an. h.ages.since id q a k here at an) (λ j q a u other at placed an. refl)
       noted (noted_taken plan s tree t lie dead h.ages.now id k.tree (sits id k here) c hand inside) (λ r has. absurd (some_not_none has refl)) (λ d has. h.ages.lost id d k here has);
   tied = tie_of_taken s low tree t r.stages lie dead was_dead h.tied id k here c inside numbered hand
       (λ won. true≢false (sym (hand_is_waiting plan tree dead h.ages.now id k.tree (sits id k here) c hand) ∙ won.1)) claimed p refl refl refl
       room gone was_gone (false_where_not (dead 0) (root_lives plan tree dead h.ages.now))
       (λ seat d u at holds. hand_is_alive plan tree dead h.ages.now seat u.tree (sits seat u at) d holds) one t.homes;
-  retired = λ was. retired_of_period plan s tree h.ages.now.machine h.ages.now.uses t id k here p words lie (put lie (slot_of c) c)
+  retired = λ was. retired_of_period plan s tree h.ages.now.machine h.ages.now.uses t id k here k.sight p words lie (put lie (slot_of c) c)
       (noted_taken plan s tree t lie dead h.ages.now id k.tree (sits id k here) c hand inside)
       (λ d at has. record { parent = λ e. absurd (false≢true e); leaf = λ e. absurd (false≢true e); own = λ i e. absurd (false≢true (sym (none_of i) ∙ e)) })
       was;

@@ -169,7 +169,7 @@ module _ (plan : TablePlan) where
     after = state_after tree id k.tree c
 
     abbrev knows : Known
-    knows = record { tree = view_after tree k.tree c; period = k.period }
+    knows = record k { tree = view_after tree k.tree c }
 
     turn : TableTurns plan tree (Makes id c) after
     turn = record { view = k.tree; there = there; may = may; gives = refl }

@@ -1,5 +1,5 @@
 -- A step call of the tree, which a pass makes by what is shown of what it knows, is a step of the whole table.
-use Rattle.std.proofs.Common.{◌≡◌, ◌≢◌, ℕ, ◌<◌, ◌≤◌, ◌==◌, if◌then◌else◌, Bool, true, false, Option, Some, None, List, [], ◌∷◌, length, get_or, set, inl, inr, ◌⊎◌, refl, sym, ap, ◌∙◌, subst, ⊎_elim, arith, length-set}
+use Rattle.std.proofs.Common.{◌≡◌, ◌≢◌, ℕ, ◌<◌, ◌≤◌, ◌==◌, if◌then◌else◌, Bool, true, false, Option, Some, None, List, [], ◌∷◌, ◌++◌, length, get_or, set, inl, inr, ◌⊎◌, refl, sym, ap, ◌∙◌, subst, ⊎_elim, arith, length-set}
 use Rattle.std.proofs.lemmas.List.{map-set}
 use mathlib.Core.Option.{some}
 use mathlib.Core.Option.{Option as Maybe}
@@ -17,10 +17,12 @@ use Rattle.ell_layout.specs.declared.field.Field.TheVariants as field
 use Rattle.ell_ops.specs.declared.op.Op.{Op}
 use Rattle.ell_cards.specs.declared.call.Call.{Call}
 use Rattle.ell_cards.specs.declared.call.Call.TheVariants as call
+use Rattle.ell_cards.specs.declared.view.Event.{Event}
 use Rattle.ell_cards.specs.declared.view.Known.{Known}
 use Rattle.ell_cards.specs.declared.view.Period.{Period}
 use Rattle.ell_cards.specs.declared.view.Retired.{Retired}
 use Rattle.ell_cards.specs.declared.view.Seek.{Seek}
+use Rattle.ell_cards.specs.declared.view.Sight.{Sight}
 use Rattle.ell_cards.specs.declared.view.Slots.{Slots}
 use Rattle.ell_cards.specs.declared.view.Told.TheVariants.{Info}
 use Rattle.ell_cards.specs.declared.view.View.{View}
@@ -37,6 +39,8 @@ use Rattle.ell_cards.specs.PeriodLaws.{IsInPeriod}
 use Rattle.ell_cards.specs.Periods.{WholeState, IsAtRest, slots_size, after_flagging}
 use Rattle.ell_cards.specs.Apart.{IsApart}
 use Rattle.ell_cards.specs.Shown.{IsWord, cut_word, cut_by, shown_word, shown_words, shown, shown_call, FieldIsWhole, FillIsWhole, CanBeShown, StoresAreWhole, StoresWord}
+use Rattle.ell_cards.specs.Histories.{event_of, history_of}
+use Rattle.ell_cards.specs.Seeing.{AllHaveSeen, AreMade, Marks, IsCalm, marked}
 use Rattle.ell_cards.specs.Seeking.{begun_seek}
 use Rattle.ell_cards.specs.SlotWords.{slot_of}
 use Rattle.ell_cards.specs.Starts.{SlotsFit}
@@ -71,6 +75,7 @@ use Rattle.ell_cards.proofs.lemmas.whole.Lifts.{IsFill, is_its_own, can_be_shown
 use Rattle.ell_cards.proofs.lemmas.whole.Rests.{stays_at_rest}
 use Rattle.ell_cards.proofs.lemmas.whole.Retired.{HadInHand, held_before, retired_on}
 use Rattle.ell_cards.proofs.lemmas.whole.Seats.{lie_same}
+use Rattle.ell_cards.proofs.lemmas.whole.Seeing.{history_snoc, all_on, all_set, marked_seen, made_by, silent_set, silent_call, marks_now, marks_shown, marks_viewed, calm_marks}
 use Rattle.ell_cards.proofs.lemmas.whole.Trees.{tree_at, slots_stay, tree_periods, clock_stays}
 use Rattle.ell_cards.proofs.lemmas.words.Slotted.{slot_inside}
 use Rattle.ell_cards.proofs.lemmas.whole.Searches.{SameRow, searches_same}
@@ -135,11 +140,27 @@ module _ (plan : TablePlan) (s : WholeState) (h : IsWhole plan s) (id : ℕ) (k 
 
   -- a call that it may make
   module _ (c : Call) (may : May plan c k.tree) (fills : FillIsWhole c k.tree) where
-    abbrev noting : Period → Known
-    noting p = record { tree = view_after h.tree k.tree c; period = p }
+    -- what the pass knows after it, where it notes this of periods, and that of the history
+    abbrev noting : Period → Sight → Known
+    noting p g = record { tree = view_after h.tree k.tree c; period = p; sight = g }
 
     abbrev knows : Known
-    knows = noting k.period
+    knows = noting k.period k.sight
+
+    abbrev past : List Event
+    past = history_of h.reached.turns
+
+    abbrev noted : Period → Known
+    noted p = noting p (marked c id past k.sight)
+
+    seen_after : (p : Period) → AllHaveSeen (history_of (h.reached.turns ++ Makes id c ∷ [])) (set s.views id (noted p))
+    seen_after p = subst (λ l. AllHaveSeen l (set s.views id (noted p))) (sym (history_snoc h.reached.turns (Makes id c)))
+        (all_set (past ++ event_of (Makes id c) ∷ []) s.views id (noted p) (all_on past (event_of (Makes id c) ∷ []) s.views h.seen)
+        (marked_seen plan h.tree h.reached id k.tree tree_here c may k.sight (h.seen id k here)))
+
+    made_after : (p : Period) → AreMade (history_of (h.reached.turns ++ Makes id c ∷ [])) (set s.views id (noted p))
+    made_after p = subst (λ l. AreMade l (set s.views id (noted p))) (sym (history_snoc h.reached.turns (Makes id c)))
+        (made_by plan h.tree h.reached id k.tree tree_here c may s.views k here (noted p) refl (h.seen id k here) h.made)
 
     abbrev after : TableState
     after = state_after h.tree id k.tree c
@@ -164,12 +185,15 @@ module _ (plan : TablePlan) (s : WholeState) (h : IsWhole plan s) (id : ℕ) (k 
 
     -- the state after the step, by its words and its periods
     whole_after : (p : Period) (i n : ℕ) → WordsAre plan.slots (set s.words i n) after.words
-        → PeriodsAre plan plan.slots after (record { words = set s.words i n; homes = homes_after s.homes [] keeps; views = set s.views id (noting p) })
-        → IsWhole plan (stepped s i n id [] (noting p) keeps)
+        → PeriodsAre plan plan.slots after (record { words = set s.words i n; homes = homes_after s.homes [] keeps; views = set s.views id (noted p) })
+        → IsWhole plan (stepped s i n id [] (noted p) keeps)
     whole_after p i n words periods = record {
       tree = after;
       reached = call_on plan h.tree h.reached id c k.tree tree_here may;
-      views = map-set (λ (l : Known). l.tree) s.views id (noting p) ∙ ap (λ l. set l id (view_after h.tree k.tree c)) h.views;
+      seen = seen_after p;
+      made = made_after p;
+      silent = silent_set s.views id (noted p) h.silent (silent_call plan c (found_by h.tree c) k.tree id past k.sight may (h.silent id k here));
+      views = map-set (λ (l : Known). l.tree) s.views id (noted p) ∙ ap (λ l. set l id (view_after h.tree k.tree c)) h.views;
       homes = h.homes;
       words = words;
       stores = stores_after;
@@ -201,10 +225,10 @@ module _ (plan : TablePlan) (s : WholeState) (h : IsWhole plan s) (id : ℕ) (k 
       pub plain_found : get_or s.words (place_of c) 0 ≡ found_by h.tree c
       plain_found = (λ i. get_or (same_words i) (word_at c may i) 0)
 
-      pub plain_whole : (p : Period) → IsWhole plan (stepped s (place_of c) left id [] (noting p) keeps)
+      pub plain_whole : (p : Period) → IsWhole plan (stepped s (place_of c) left id [] (noted p) keeps)
       plain_whole p = whole_after p (place_of c) left
           (subst (λ o. WordsAre o (set s.words (place_of c) left) after.words) (sym none) (λ i. set (same_words i) (word_at c may i) left))
-          (subst (λ o. PeriodsAre plan o after (record { words = set s.words (place_of c) left; homes = homes_after s.homes [] keeps; views = set s.views id (noting p) })) (sym none) tt)
+          (subst (λ o. PeriodsAre plan o after (record { words = set s.words (place_of c) left; homes = homes_after s.homes [] keeps; views = set s.views id (noted p) })) (sym none) tt)
 
       pub plain_named : IsNamed plan.last_card (view_after h.tree k.tree c)
       plain_named = kept_named plan after (reached_kept plan after (call_on plan h.tree h.reached id c k.tree tree_here may)) id (view_after h.tree k.tree c) tree_there
@@ -317,11 +341,11 @@ module _ (plan : TablePlan) (s : WholeState) (h : IsWhole plan s) (id : ℕ) (k 
       }
 
       -- by that no slot stays in use for nothing
-      noted_leaks : (p : Period) → Notes plan.slots c (found_by h.tree c) k.period p
-          → NothingLeaks sl (record { words = set s.words (place_of c) cut; homes = homes; views = set s.views id (noting p) }) after.views tied_ages.ages.now.machine.words tied_ages.ages.now.machine.stages has.lie
-      noted_leaks p notes =
+      noted_leaks : (p : Period) (g : Sight) → Notes plan.slots c (found_by h.tree c) k.period p
+          → NothingLeaks sl (record { words = set s.words (place_of c) cut; homes = homes; views = set s.views id (noting p g) }) after.views tied_ages.ages.now.machine.words tied_ages.ages.now.machine.stages has.lie
+      noted_leaks p g notes =
           leaks_after_call plan has.flat sl h.tree s id k here tree_here c may mem unlost has.ages.now.machine has.ages.now.uses tied_ages.ages.now.machine tied_ages.words tied_ages.later tied_ages.wins has.lie
-          its_periods.1 has.retired has.tied.fits has.tied.own (set s.words (place_of c) cut) homes (slots_stay s id k here (view_after h.tree k.tree c) sl (place_of c) cut tied_touch.inside) p (slotted notes) (lost_by notes)
+          its_periods.1 has.retired has.tied.fits has.tied.own (set s.words (place_of c) cut) homes (slots_stay s id k here (view_after h.tree k.tree c) sl (place_of c) cut tied_touch.inside) p g (slotted notes) (lost_by notes)
         where
           slotted : Notes plan.slots c (found_by h.tree c) k.period p → p.slot ≡ k.period.slot
           slotted (nothing is none flags) = ap (λ (x : Period). x.slot) is
@@ -334,10 +358,10 @@ module _ (plan : TablePlan) (s : WholeState) (h : IsWhole plan s) (id : ℕ) (k 
           lost_by (loses e is flags' unwon') d flags unwon = ap (λ (x : Period). x.lost) is ∙ ap Some (flags_one c e d flags' flags)
 
       -- and what passes have read in their searches is so still
-      noted_searches : (p : Period) → SameRow k.period.sought p.sought → p.announced ≡ k.period.announced → p.began ≡ k.period.began
-          → SearchesAreSound sl (record { words = set s.words (place_of c) cut; homes = homes; views = set s.views id (noting p) })
-      noted_searches p sought announced began =
-          searches_same sl s its_periods.2 id k here (noting p) (set s.words (place_of c) cut) homes
+      noted_searches : (p : Period) (g : Sight) → SameRow k.period.sought p.sought → p.announced ≡ k.period.announced → p.began ≡ k.period.began
+          → SearchesAreSound sl (record { words = set s.words (place_of c) cut; homes = homes; views = set s.views id (noting p g) })
+      noted_searches p g sought announced began =
+          searches_same sl s its_periods.2 id k here (noting p g) (set s.words (place_of c) cut) homes
           (let same = clock_stays s id k here (view_after h.tree k.tree c) sl (place_of c) cut tied_touch.inside in omega arith) sought (λ a an. (sym announced ∙ an, began))
           (slots_stay s id k here (view_after h.tree k.tree c) sl (place_of c) cut tied_touch.inside)
 
@@ -348,9 +372,9 @@ module _ (plan : TablePlan) (s : WholeState) (h : IsWhole plan s) (id : ℕ) (k 
       missed_still : BeginsNone c → HasMissed k.period
       missed_still begun works = its_periods.3.misses id k here (λ free. works (free_after c (found_by h.tree c) k.tree begun free))
 
-      noted_takings : (p : Period) → p.stamp ≡ k.period.stamp → HasMissed p → TakingsAreSound sl (record { words = set s.words (place_of c) cut; homes = homes; views = set s.views id (noting p) }) has.lie
-      noted_takings p stamp mine =
-          takings_noted sl s has.lie its_periods.3 id k here (noting p) (set s.words (place_of c) cut) homes
+      noted_takings : (p : Period) (g : Sight) → p.stamp ≡ k.period.stamp → HasMissed p → TakingsAreSound sl (record { words = set s.words (place_of c) cut; homes = homes; views = set s.views id (noting p g) }) has.lie
+      noted_takings p g stamp mine =
+          takings_noted sl s has.lie its_periods.3 id k here (noting p g) (set s.words (place_of c) cut) homes
           (let same = clock_stays s id k here (view_after h.tree k.tree c) sl (place_of c) cut tied_touch.inside in omega arith)
           (slots_stay s id k here (view_after h.tree k.tree c) sl (place_of c) cut tied_touch.inside) (λ d reading is. inl (sym stamp ∙ is)) mine
 
@@ -358,37 +382,36 @@ module _ (plan : TablePlan) (s : WholeState) (h : IsWhole plan s) (id : ℕ) (k 
       Periods views = PeriodsAre plan (Some sl) after (record { words = set s.words (place_of c) cut; homes = homes; views = views })
 
       -- if it noted something, too
-      noted_too : (o : Option ℕ) (sought : Seek) → sought.retired ≡ k.period.sought.retired → SameRow k.period.sought sought
+      noted_too : (g : Sight) (o : Option ℕ) (sought : Seek) → sought.retired ≡ k.period.sought.retired → SameRow k.period.sought sought
           → ((d : ℕ) → o ≡ Some d → IsAside tied_ages.ages.now.machine.stages after.views d) → ((d : ℕ) → o ≡ Some d → (view_after h.tree k.tree c).worker.card ≡ None) → ((d : ℕ) → o ≡ Some d → k.period.announced ≢ None)
           → Notes plan.slots c (found_by h.tree c) k.period (record k.period { lost = o; sought = sought }) → HasMissed (record k.period { lost = o; sought = sought })
-          → Periods (set s.views id (noting (record k.period { lost = o; sought = sought })))
-      noted_too o sought noted row aside idle in_period notes mine =
+          → Periods (set s.views id (noting (record k.period { lost = o; sought = sought }) g))
+      noted_too g o sought retired row aside idle in_period notes mine =
           let p : Period = record k.period { lost = o; sought = sought } in
-          let twice = set_twice s.views id knows (noting p) in
+          let twice = set_twice s.views id knows (noting p g) in
           subst Periods twice (
-            lost_now plan sl after (memory_after h.tree s homes id k c) id knows (set_there s.views id knows k here) tied_periods o sought noted aside idle in_period,
+            lost_now plan sl after (memory_after h.tree s homes id k c) id knows (set_there s.views id knows k here) tied_periods o sought retired aside idle in_period g,
             subst (λ l. NothingLeaks sl (record { words = set s.words (place_of c) cut; homes = homes; views = l }) after.views tied_ages.ages.now.machine.words tied_ages.ages.now.machine.stages has.lie)
-                (sym twice) (noted_leaks p notes),
-            subst (λ l. SearchesAreSound sl (record { words = set s.words (place_of c) cut; homes = homes; views = l })) (sym twice) (noted_searches p row refl refl),
-            subst (λ l. TakingsAreSound sl (record { words = set s.words (place_of c) cut; homes = homes; views = l }) has.lie) (sym twice) (noted_takings p refl mine),
+                (sym twice) (noted_leaks p g notes),
+            subst (λ l. SearchesAreSound sl (record { words = set s.words (place_of c) cut; homes = homes; views = l })) (sym twice) (noted_searches p g row refl refl),
+            subst (λ l. TakingsAreSound sl (record { words = set s.words (place_of c) cut; homes = homes; views = l }) has.lie) (sym twice) (noted_takings p g refl mine),
           )
 
-      whole_periods : (p : Period) → Notes plan.slots c (found_by h.tree c) k.period p → Periods (set s.views id (noting p))
-      whole_periods p (nothing is none flags) =
-          subst (λ q. Periods (set s.views id (noting q))) (sym is) (
-            tied_periods,
-            noted_leaks k.period (nothing refl none flags),
-            noted_searches k.period refl refl refl,
-            noted_takings k.period refl (missed_still none),
-          )
-      whole_periods p (begins op at is) =
-          let none : (d : ℕ) → k.period.lost ≡ Some d → ⊥ = λ d lost_it. some_not_none lost_it unlost in
-          subst (λ q. Periods (set s.views id (noting q))) (sym is)
-          (noted_too k.period.lost (begun_seek k.period.sought) refl refl (λ d lost_it. absurd (none d lost_it)) (λ d lost_it. absurd (none d lost_it)) (λ d lost_it. absurd (none d lost_it)) (begins op at refl)
+      none_lost : (d : ℕ) → k.period.lost ≡ Some d → ⊥
+      none_lost d lost_it = some_not_none lost_it unlost
+
+      noted_periods : (g : Sight) (p : Period) → Notes plan.slots c (found_by h.tree c) k.period p → Periods (set s.views id (noting p g))
+      noted_periods g p (nothing is none flags) =
+          subst (λ (q : Period). Periods (set s.views id (noting q g))) (sym is)
+          (noted_too g k.period.lost k.period.sought refl refl (λ d lost_it. absurd (none_lost d lost_it)) (λ d lost_it. absurd (none_lost d lost_it)) (λ d lost_it. absurd (none_lost d lost_it)) (nothing refl none flags)
+          (missed_still none))
+      noted_periods g p (begins op at is) =
+          subst (λ (q : Period). Periods (set s.views id (noting q g))) (sym is)
+          (noted_too g k.period.lost (begun_seek k.period.sought) refl refl (λ d lost_it. absurd (none_lost d lost_it)) (λ d lost_it. absurd (none_lost d lost_it)) (λ d lost_it. absurd (none_lost d lost_it)) (begins op at refl)
           (λ works. record { few = omega arith; found = λ r is. absurd (some_not_none is refl) }))
-      whole_periods p (loses d is flags unwon) =
-          subst (λ q. Periods (set s.views id (noting q))) (sym is)
-          (noted_too (Some d) k.period.sought refl refl
+      noted_periods g p (loses d is flags unwon) =
+          subst (λ (q : Period). Periods (set s.views id (noting q g))) (sym is)
+          (noted_too g (Some d) k.period.sought refl refl
           (λ e same. subst (IsAside tied_ages.ages.now.machine.stages after.views) (same_Some d e same)
           (aside_in_ages plan sl h.tree s has.lie has.dead has.was_dead has.ages id k.tree tree_here c may (memory_after h.tree s homes id k c) tied_ages d flags unwon))
           (λ e same. flag_lost c (found_by h.tree c) k.tree d flags unwon) (λ e same. in_period) (loses d refl flags unwon)
@@ -401,13 +424,13 @@ module _ (plan : TablePlan) (s : WholeState) (h : IsWhole plan s) (id : ℕ) (k 
           in_period : k.period.announced ≢ None
           in_period quiet = flags_by_hand plan c d k.tree may flags ((has.periods.each id k here).rests quiet).empty
 
-      pub tied_whole : (p : Period) → Notes plan.slots c (found_by h.tree c) k.period p → IsWhole plan (stepped s (place_of c) cut id [] (noting p) keeps)
+      pub tied_whole : (p : Period) → Notes plan.slots c (found_by h.tree c) k.period p → IsWhole plan (stepped s (place_of c) cut id [] (noted p) keeps)
       tied_whole p notes = whole_after p (place_of c) cut
           (subst (λ o. WordsAre o (set s.words (place_of c) cut) after.words) (sym placed) (
             length-set s.words (place_of c) cut ∙ has_words.0,
             fields_after plan h.tree k.tree c may (named_more plan.last_card greatest_number h.reached.starts.may.limit k.tree tree_named) whole_fill has_words.1,
           ))
-          (subst (λ o. PeriodsAre plan o after (record { words = set s.words (place_of c) cut; homes = homes; views = set s.views id (noting p) })) (sym placed) (whole_periods p notes))
+          (subst (λ o. PeriodsAre plan o after (record { words = set s.words (place_of c) cut; homes = homes; views = set s.views id (noted p) })) (sym placed) (noted_periods (marked c id past k.sight) p notes))
 
       pub tied_apart : IsApart plan (view_after h.tree k.tree c)
       tied_apart =
@@ -505,7 +528,7 @@ module _ (plan : TablePlan) (k : Known) (c : Call) (f : ℕ → ℕ) (told : ℕ
 
   abbrev Goes : Type 0
   Goes = (w : Known) × (a : Act (Unit {0})) × Valid s.homes [] a × IsWhole plan (stepped s (place_of c) (f n) id [] w a)
-      × (told n (shown w.tree) × (w.period ≡ notes n) × (carried_after {S = Unit {0}} [] a ≡ []))
+      × (told n (shown w.tree) × (w.period ≡ notes n) × (carried_after {S = Unit {0}} [] a ≡ []) × Marks c (shown k.tree) k.sight w.sight)
 
   there : get_elem? h.tree.views id ≡ some k.tree
   there = tree_here plan s h id k here
@@ -524,11 +547,12 @@ module _ (plan : TablePlan) (k : Known) (c : Call) (f : ℕ → ℕ) (told : ℕ
       let at = plain_found plan s h id k here c own.may own.fills none in
       let found : IsWord (found_by h.tree c) = subst IsWord at small in
       let can = can_be_shown plan k.tree plan.last_card few named c (found_by h.tree c) own.same found in
-      let w = view_after h.tree k.tree c in (
-        record { tree = w; period = notes n },
+      let w = view_after h.tree k.tree c in
+      let now : Known = record { tree = w; period = notes n; sight = marked c id (history_of h.reached.turns) k.sight } in (
+        now,
         keeps,
         tt,
-        subst (λ m. IsWhole plan (stepped s (place_of c) m id [] (record { tree = w; period = notes n }) keeps))
+        subst (λ m. IsWhole plan (stepped s (place_of c) m id [] now keeps))
             (sym ((does n small).1 none ∙ ap (left_by (atomic_of c)) at)) (plain_whole plan s h id k here c own.may own.fills none (notes n)),
         (
           told_plain plan k.tree plan.last_card few named c (found_by h.tree c) n told (shown w) (plain_named plan s h id k here c own.may own.fills none) found (sym at)
@@ -537,6 +561,7 @@ module _ (plan : TablePlan) (k : Known) (c : Call) (f : ℕ → ℕ) (told : ℕ
               (plain_apart plan s h id k here c own.may own.fills none)),
           refl,
           refl,
+          marks_viewed c k.tree k.sight now.sight (marks_now plan h.tree h.reached id k.tree there c k.sight (h.seen id k here)),
         ),
       )
 
@@ -556,12 +581,13 @@ module _ (plan : TablePlan) (k : Known) (c : Call) (f : ℕ → ℕ) (told : ℕ
       let leaves : f n ≡ cut_by whole (left_by (atomic_of whole) (found_by h.tree whole)) =
       (does n small).0
       ∙ (ap cut_word ((λ i. left_by (atomic_of (sym lift.is i)) (get_or s.words (sym place i) 0)) ∙ left_tied s.words h.tree whole touch.finds)
-      ∙ acts.leaves) in (
-        record { tree = w; period = notes n },
+      ∙ acts.leaves) in
+      let now : Known = record { tree = w; period = notes n; sight = marked whole id (history_of h.reached.turns) k.sight } in (
+        now,
         keeps,
         tt,
-        subst (λ i. IsWhole plan (stepped s i (f n) id [] (record { tree = w; period = notes n }) keeps)) place
-            (subst (λ m. IsWhole plan (stepped s (place_of whole) m id [] (record { tree = w; period = notes n }) keeps)) (sym leaves)
+        subst (λ i. IsWhole plan (stepped s i (f n) id [] now keeps)) place
+            (subst (λ m. IsWhole plan (stepped s (place_of whole) m id [] now keeps)) (sym leaves)
             (tied_whole plan s h id k here whole lift.may lift.fills sl placed asks (unlost some) fills calm (notes n)
             (notes_whole plan.slots s.words h.tree whole touch.finds can k.period (notes n)
             (subst (λ i. Notes plan.slots (shown_call whole) (get_or s.words i 0) k.period (notes n)) (sym place) (subst (λ d. Notes plan.slots d n k.period (notes n)) (sym lift.is) (noted n small)))))),
@@ -573,6 +599,7 @@ module _ (plan : TablePlan) (k : Known) (c : Call) (f : ℕ → ℕ) (told : ℕ
               (tied_apart plan s h id k here whole lift.may lift.fills sl placed asks (unlost some) fills calm))),
           refl,
           refl,
+          subst (λ d. Marks d (shown k.tree) k.sight now.sight) lift.is (marks_shown whole k.tree k.sight now.sight (marks_now plan h.tree h.reached id k.tree there whole k.sight (h.seen id k here))),
         ),
       )
 
@@ -581,13 +608,34 @@ module _ (plan : TablePlan) (k : Known) (c : Call) (f : ℕ → ℕ) (told : ℕ
   goes_by (Some sl) placed = by_slots sl placed
 
 -- a step call of the tree, which a pass makes by what is shown of what it knows, is one of the table
-pub tree_step : (plan : TablePlan) (k : Known) (c : Call) (f : ℕ → ℕ) (told : ℕ → View → Type 0) (notes : ℕ → Period) → StoresWord c → May plan c (shown k.tree)
+pub tree_step_marked : (plan : TablePlan) (k : Known) (c : Call) (f : ℕ → ℕ) (told : ℕ → View → Type 0) (notes : ℕ → Period) → StoresWord c → May plan c (shown k.tree)
     → ((s : Slots) → plan.slots ≡ Some s → MayInMemory s k.period.slot k.period.sought.retired (shown k.tree) c) → (plan.slots ≢ None → k.period.lost ≡ None) → Does plan c f
     → (plan.slots ≢ None → k.period.announced ≡ None → IsQuiet c) → (IsFill c → (n m : ℕ) (w : View) → told n w → told m w) → MayTell plan c (shown k.tree) told
     → ((n : ℕ) → IsWord n → Notes plan.slots c n k.period (notes n))
-    → (id : ℕ) → Allows (IsWhole plan) 0 id (k, []) (place_of c) f (λ n x. told n (shown x.0.tree) × (x.0.period ≡ notes n) × (x.1 ≡ []))
-tree_step plan k c f told notes word by_shown mem unlost does quiet same tells noted id s h homes here small =
+    → (id : ℕ) → Allows (IsWhole plan) 0 id (k, []) (place_of c) f (λ n x. told n (shown x.0.tree) × (x.0.period ≡ notes n) × (x.1 ≡ []) × Marks c (shown k.tree) k.sight x.0.sight)
+tree_step_marked plan k c f told notes word by_shown mem unlost does quiet same tells noted id s h homes here small =
     goes_by plan k c f told notes word by_shown mem unlost does quiet same tells noted id s h here small plan.slots refl
+
+-- and one that neither begins an operation nor answers one leaves what the pass has seen
+pub tree_step : (plan : TablePlan) (k : Known) (c : Call) (f : ℕ → ℕ) (told : ℕ → View → Type 0) (notes : ℕ → Period) → StoresWord c → May plan c (shown k.tree)
+    → ((s : Slots) → plan.slots ≡ Some s → MayInMemory s k.period.slot k.period.sought.retired (shown k.tree) c) → (plan.slots ≢ None → k.period.lost ≡ None) → Does plan c f
+    → (plan.slots ≢ None → k.period.announced ≡ None → IsQuiet c) → (IsFill c → (n m : ℕ) (w : View) → told n w → told m w) → MayTell plan c (shown k.tree) told
+    → ((n : ℕ) → IsWord n → Notes plan.slots c n k.period (notes n)) → IsCalm c
+    → (id : ℕ) → Allows (IsWhole plan) 0 id (k, []) (place_of c) f (λ n x. told n (shown x.0.tree) × (x.0.period ≡ notes n) × (x.1 ≡ []) × (x.0.sight ≡ k.sight))
+tree_step plan k c f told notes word by_shown mem unlost does quiet same tells noted calm id s h homes here small =
+    let x = tree_step_marked plan k c f told notes word by_shown mem unlost does quiet same tells noted id s h homes here small in
+    (x.0, x.1, x.2, x.3, (x.4.0, x.4.1, x.4.2, calm_marks c calm (shown k.tree) k.sight x.0.sight x.4.3))
+
+-- stores and exchanges do neither
+pub store_calm : (c : Call) (value : ℕ) → atomic_of c ≡ Store value → IsCalm c
+store_calm (call.Begin op) value is = absurd cc
+store_calm (call.Answer said) value is = absurd cc
+store_calm _ value is = tt
+
+pub exchange_calm : (c : Call) (expected value : ℕ) → atomic_of c ≡ Exchange expected value → IsCalm c
+exchange_calm (call.Begin op) expected value is = absurd cc
+exchange_calm (call.Answer said) expected value is = absurd cc
+exchange_calm _ expected value is = tt
 
 -- what a load, a store and an exchange do
 pub load_does : (plan : TablePlan) (c : Call) → atomic_of c ≡ Load → Does plan c (λ n. n)

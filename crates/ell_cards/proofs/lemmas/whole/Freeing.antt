@@ -149,25 +149,25 @@ module _ (plan : TablePlan) (s : Slots) (tree : TableState) (t : WholeState) (id
           began = h.began;
           was_dead = h.was_dead;
           periods = slot_read s t id k here h.lie h.dead h.began h.was_dead h.periods size slot inside sought;
-          ages = ages_of_period plan s tree t id k here (record { tree = k.tree; period = record (after_read slot n k.period) { sought = sought } }) refl (set t.words (slot_word s slot) n) h.lie h.lie h.dead h.dead h.was_dead h.was_dead h.ages
+          ages = ages_of_period plan s tree t id k here (record k { period = record (after_read slot n k.period) { sought = sought } }) refl (set t.words (slot_word s slot) n) h.lie h.lie h.dead h.dead h.was_dead h.was_dead h.ages
               h.ages.now.each h.ages.still (λ q a at an. h.ages.since id q a k here at an) (λ j q a u other at placed an. refl)
               (same_noted plan s tree t id k here h (set t.words (slot_word s slot) n) (same_again plan s tree t id k here h size (slot_word s slot) (omega arith)))
               (λ x out is. same_slots (set t.words (slot_word s slot) n) same x is)
               (λ r has used i is. subst (λ (x : SlotRead). x.word % 8 ≢ 0 → is_noted x.word i ≡ true → OutThere (set t.words (slot_word s slot) n) (4 * card_by x.slot x.word + i)) (same_Some _ r has) (reads i) used is)
               (λ c has. h.ages.lost id c k here has);
-          tied = tie_of_period s tree t h.ages.now.machine.stages h.lie h.dead h.dead h.was_dead h.was_dead h.tied id k here (record (after_read slot n k.period) { sought = sought }) refl (set t.words (slot_word s slot) n)
+          tied = tie_of_period s tree t h.ages.now.machine.stages h.lie h.dead h.dead h.was_dead h.was_dead h.tied id k here k.sight (record (after_read slot n k.period) { sought = sought }) refl (set t.words (slot_word s slot) n)
               (λ j low. word_again t.words (slot_word s slot) (omega arith) j)
               (λ c lives. lives) (λ q a at an. inl (at, an, λ c lives. lives)) (λ seat q a u other at placed an c lives. lives) t.homes;
           flat = h.flat;
-          retired = retired_of_period plan s tree h.ages.now.machine h.ages.now.uses t id k here (record (after_read slot n k.period) { sought = sought }) (set t.words (slot_word s slot) n) h.lie h.lie
+          retired = retired_of_period plan s tree h.ages.now.machine h.ages.now.uses t id k here k.sight (record (after_read slot n k.period) { sought = sought }) (set t.words (slot_word s slot) n) h.lie h.lie
               (λ x out is. same_slots (set t.words (slot_word s slot) n) same x is)
               (retired_then (set t.words (slot_word s slot) n) (λ x out is. same_slots (set t.words (slot_word s slot) n) same x is) sought.retired mine) h.retired;
         };
         leaks = λ was. leaks_same s t tree.views h.ages.now.machine.words h.ages.now.machine.stages h.lie was id k here (record (after_read slot n k.period) { sought = sought }) (set t.words (slot_word s slot) n)
             (λ other low used. holds_so k (record (after_read slot n k.period) { sought = sought }) refl refl (h.lie other)) same;
-        searches = λ was. searches_sought s t was id k here (record { tree = k.tree; period = record (after_read slot n k.period) { sought = sought } }) (set t.words (slot_word s slot) n) t.homes
+        searches = λ was. searches_sought s t was id k here (record k { period = record (after_read slot n k.period) { sought = sought } }) (set t.words (slot_word s slot) n) t.homes
             (word_again t.words (slot_word s slot) (omega arith) (clock_word s)) (λ other low. same other) refl refl (searched was);
-        takings = λ was. takings_noted s t h.lie was id k here (record { tree = k.tree; period = record (after_read slot n k.period) { sought = sought } }) (set t.words (slot_word s slot) n) t.homes
+        takings = λ was. takings_noted s t h.lie was id k here (record k { period = record (after_read slot n k.period) { sought = sought } }) (set t.words (slot_word s slot) n) t.homes
             (past_again plan s tree t id k here h size (slot_word s slot) (omega arith)) (λ other low. same other) (λ c reading is. inl is) (λ works. counted was.taken (was.misses id k here works));
       }
     where
@@ -199,24 +199,24 @@ module _ (plan : TablePlan) (s : Slots) (tree : TableState) (t : WholeState) (id
           began = h.began;
           was_dead = h.was_dead;
           periods = card_stamped s t id k here h.lie h.dead h.began h.was_dead h.periods size c;
-          ages = ages_of_period plan s tree t id k here (record { tree = k.tree; period = after_stamp c n k.period }) refl (set t.words (clock_word s) n) h.lie h.lie h.dead (put h.dead c true) h.was_dead h.was_dead h.ages
+          ages = ages_of_period plan s tree t id k here (record k { period = after_stamp c n k.period }) refl (set t.words (clock_word s) n) h.lie h.lie h.dead (put h.dead c true) h.was_dead h.was_dead h.ages
               each (λ q d was. still d (h.ages.still q d was)) (λ q a at an. h.ages.since id q a k here at an) (λ j q a u other at placed an. refl)
               (same_noted plan s tree t id k here h (set t.words (clock_word s) n) (same_again plan s tree t id k here h size (clock_word s) (omega arith)))
               (λ x out is. same_slots (set t.words (clock_word s) n) same x is)
               (λ r has used i is. (let old = h.ages.read id k r here has used i is in (old.0, same_slots (set t.words (clock_word s) n) same _ old.1)))
               (λ d has. h.ages.lost id d k here has);
-          tied = tie_of_period s tree t h.ages.now.machine.stages h.lie h.dead (put h.dead c true) h.was_dead h.was_dead h.tied id k here (after_stamp c n k.period) refl (set t.words (clock_word s) n)
+          tied = tie_of_period s tree t h.ages.now.machine.stages h.lie h.dead (put h.dead c true) h.was_dead h.was_dead h.tied id k here k.sight (after_stamp c n k.period) refl (set t.words (clock_word s) n)
               (λ j low. word_again t.words (clock_word s) (omega arith) j)
               less (λ q a at an. inl (at, an, λ d lives. lives)) (λ seat q a u other at placed an d lives. lives) t.homes;
           flat = h.flat;
-          retired = retired_so plan s tree h.ages.now.machine h.ages.now.uses t id k here (after_stamp c n k.period) refl refl (set t.words (clock_word s) n) h.lie h.lie
+          retired = retired_so plan s tree h.ages.now.machine h.ages.now.uses t id k here k.sight (after_stamp c n k.period) refl refl (set t.words (clock_word s) n) h.lie h.lie
               (λ x out is. same_slots (set t.words (clock_word s) n) same x is) h.retired;
         };
         leaks = λ was. leaks_same s t tree.views h.ages.now.machine.words h.ages.now.machine.stages h.lie was id k here (after_stamp c n k.period) (set t.words (clock_word s) n)
             (λ other low used. holds_so k (after_stamp c n k.period) refl refl (h.lie other)) same;
-        searches = λ was. searches_same s t was id k here (record { tree = k.tree; period = after_stamp c n k.period }) (set t.words (clock_word s) n) t.homes
+        searches = λ was. searches_same s t was id k here (record k { period = after_stamp c n k.period }) (set t.words (clock_word s) n) t.homes
             (past_again plan s tree t id k here h size (clock_word s) (omega arith)) refl (λ a an. (an, refl)) (λ other low. same other);
-        takings = λ was. takings_noted s t h.lie was id k here (record { tree = k.tree; period = after_stamp c n k.period }) (set t.words (clock_word s) n) t.homes
+        takings = λ was. takings_noted s t h.lie was id k here (record k { period = after_stamp c n k.period }) (set t.words (clock_word s) n) t.homes
             (past_again plan s tree t id k here h size (clock_word s) (omega arith)) (λ other low. same other) (λ d reading is. inr (ap (λ (x : Stamp). x.reading) (sym (same_Some _ _ is))))
             (λ works. counts_same s t.words was.taken k.period (after_stamp c n k.period) refl refl refl refl (was.misses id k here works));
       }
@@ -288,24 +288,24 @@ module _ (plan : TablePlan) (s : Slots) (tree : TableState) (t : WholeState) (id
       began = h.began;
       was_dead = h.was_dead;
       periods = sound;
-      ages = ages_of_period plan s tree t id k here (record { tree = k.tree; period = record (k.period) { sought = sought } }) refl (set t.words (slot_word s slot) n) h.lie h.lie h.dead h.dead h.was_dead h.was_dead h.ages
+      ages = ages_of_period plan s tree t id k here (record k { period = record (k.period) { sought = sought } }) refl (set t.words (slot_word s slot) n) h.lie h.lie h.dead h.dead h.was_dead h.was_dead h.ages
           h.ages.now.each h.ages.still (λ q a at an. h.ages.since id q a k here at an) (λ j q a u other at placed an. refl)
           noted
           (λ x out is. noted_then slot n inside was keeps x is)
           (λ r has used i is. (let old = h.ages.read id k r here has used i is in (old.0, noted_then slot n inside was keeps _ old.1)))
           (λ c has. h.ages.lost id c k here has);
-      tied = tie_of_period s tree t h.ages.now.machine.stages h.lie h.dead h.dead h.was_dead h.was_dead h.tied id k here (record (k.period) { sought = sought }) refl (set t.words (slot_word s slot) n)
+      tied = tie_of_period s tree t h.ages.now.machine.stages h.lie h.dead h.dead h.was_dead h.was_dead h.tied id k here k.sight (record (k.period) { sought = sought }) refl (set t.words (slot_word s slot) n)
           (behind plan s tree t id k here h (slot_word s slot) n (omega arith)) (λ c lives. lives)
           (λ q a at an. inl (at, an, λ c lives. lives)) (λ seat q a u other at placed an c lives. lives) t.homes;
       flat = h.flat;
-      retired = retired_of_period plan s tree h.ages.now.machine h.ages.now.uses t id k here (record (k.period) { sought = sought }) (set t.words (slot_word s slot) n) h.lie h.lie
+      retired = retired_of_period plan s tree h.ages.now.machine h.ages.now.uses t id k here k.sight (record (k.period) { sought = sought }) (set t.words (slot_word s slot) n) h.lie h.lie
           (λ x out is. noted_then slot n inside was keeps x is) mine h.retired;
     };
     leaks = λ leaks. leaks_turned s t tree.views h.ages.now.machine.words h.ages.now.machine.stages h.lie leaks id k here (record (k.period) { sought = sought }) slot n inside (omega arith)
         (λ other low used. holds_so k (record (k.period) { sought = sought }) refl refl (h.lie other)) (λ some. was) won keeps;
-    searches = λ was. searches_turned s t was id k here (record { tree = k.tree; period = record (k.period) { sought = sought } }) (set t.words (slot_word s slot) n) t.homes
+    searches = λ was. searches_turned s t was id k here (record k { period = record (k.period) { sought = sought } }) (set t.words (slot_word s slot) n) t.homes
         (let same = get_or-set_other t.words (slot_word s slot) (clock_word s) n 0 (λ e. (let behind_clock = clock_before_slots s slot in omega arith)) in omega arith) (ap row_of search) (λ a an. (an, refl)) slot n inside (omega arith) refl (turned was);
-    takings = λ taken. takings_turned s t h.lie taken id k here (record { tree = k.tree; period = record (k.period) { sought = sought } }) (set t.words (slot_word s slot) n) t.homes
+    takings = λ taken. takings_turned s t h.lie taken id k here (record k { period = record (k.period) { sought = sought } }) (set t.words (slot_word s slot) n) t.homes
         (let same = get_or-set_other t.words (slot_word s slot) (clock_word s) n 0 (λ e. (let behind_clock = clock_before_slots s slot in omega arith)) in omega arith) slot n inside (omega arith) refl was (aged taken)
         refl (ap (λ (x : Seek). x.missed) search) (ap (λ (x : Seek). x.found) search) refl (omega arith) (λ works. works);
   }
@@ -396,7 +396,7 @@ module _ (plan : TablePlan) (s : Slots) (placed : plan.slots ≡ Some s) (slot :
   reads_any k word is id t h homes here small =
       let may = subst (λ i. MayGoOn plan k i (λ n. n) (λ n p. p ≡ after_read slot n k.period)) (sym is) (reads_slot k) in
       let x = may id t h homes here small in
-      (x.0, x.1, x.2, x.3, (λ o r slots at. x.4.0 ∙ ap (λ y. after_read y (get_or t.words word 0) k.period) (one o r slots at), x.4.1, x.4.2))
+      (x.0, x.1, x.2, x.3, (λ o r slots at. x.4.0 ∙ ap (λ y. after_read y (get_or t.words word 0) k.period) (one o r slots at), x.4.1, x.4.2, x.4.3))
     where
       one : (o : Slots) (r : ℕ) → plan.slots ≡ Some o → word ≡ slot_word o r → slot ≡ r
       one o r slots at =

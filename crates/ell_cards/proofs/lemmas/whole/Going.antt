@@ -16,6 +16,7 @@ use Rattle.ell_cards.specs.declared.view.Period.{Period}
 use Rattle.ell_cards.specs.declared.view.Seek.{Seek}
 use Rattle.ell_cards.specs.declared.view.Slots.{Slots}
 use Rattle.ell_cards.specs.Ages.{IsOut, HasPeriods}
+use Rattle.ell_cards.specs.Histories.{history_of}
 use Rattle.ell_cards.specs.Models.{TablePlan}
 use Rattle.ell_cards.specs.Periods.{WholeState, clock_word, place_word, slot_word, slots_size, last_reading, after_clock, after_announce, after_retract, after_look_at, after_take, after_tick, after_give, after_release, own, IsAtRest, PeriodsAreSound, settled_at}
 use Rattle.ell_cards.specs.Shown.{shown}
@@ -37,6 +38,7 @@ use Rattle.ell_cards.proofs.lemmas.whole.Retired.{retired_so}
 use Rattle.ell_cards.proofs.lemmas.whole.Searches.{row_of, searches_begin, searches_same}
 use Rattle.ell_cards.proofs.lemmas.whole.Takings.{takings_noted, takings_same}
 use Rattle.ell_cards.proofs.lemmas.whole.Seats.{before_clock, lie_same}
+use Rattle.ell_cards.proofs.lemmas.whole.Seeing.{all_set, made_set, silent_set}
 use Rattle.ell_cards.proofs.lemmas.whole.Steps.{word_again, periods_sought, periods_read, periods_ticked, periods_seen, periods_announced, periods_retracted, periods_taken, periods_given, periods_released}
 use Rattle.ell_cards.proofs.lemmas.whole.Slots.{clock_known}
 use Rattle.ell_cards.proofs.lemmas.whole.Trees.{tree_at}
@@ -44,7 +46,7 @@ use Rattle.std.proofs.Math.Nat.{le-max_right}
 
 -- the table where a pass knows something else of periods, and a word became another one
 abbrev pub turned_to : WholeState → ℕ → Known → Period → ℕ → ℕ → WholeState
-turned_to t id k p i n = record { words = set t.words i n; homes = t.homes; views = set t.views id (record { tree = k.tree; period = p }) }
+turned_to t id k p i n = record { words = set t.words i n; homes = t.homes; views = set t.views id (record k { period = p }) }
 
 -- the periods of a table where a step on their words leads on, by which no slot stays in use for nothing, and what passes
 -- have read in their searches is so still
@@ -93,7 +95,7 @@ module _ (plan : TablePlan) (s : Slots) (tree : TableState) (t : WholeState) (id
       began = h.began;
       was_dead = h.was_dead;
       periods = sound;
-      ages = ages_of_period plan s tree t id k here (record { tree = k.tree; period = p }) refl (set t.words i n) h.lie h.lie h.dead h.dead h.was_dead h.was_dead h.ages
+      ages = ages_of_period plan s tree t id k here (record k { period = p }) refl (set t.words i n) h.lie h.lie h.dead h.dead h.was_dead h.was_dead h.ages
           h.ages.now.each h.ages.still
           (λ q a at an. let old = was q a at an in h.ages.since id q a k here old.0 old.1)
           (λ j q a u other there at an. refl)
@@ -101,16 +103,16 @@ module _ (plan : TablePlan) (s : Slots) (tree : TableState) (t : WholeState) (id
           (λ x out is. noted_same plan s t.words (set t.words i n) h.lie (λ slot low. same slot) x is)
           (λ r has used j is. (let old = h.ages.read id k r here (sym read ∙ has) used j is in (old.0, noted_same plan s t.words (set t.words i n) h.lie (λ slot low. same slot) _ old.1)))
           (λ c has. h.ages.lost id c k here (sym lost ∙ has));
-      tied = tie_of_period s tree t h.ages.now.machine.stages h.lie h.dead h.dead h.was_dead h.was_dead h.tied id k here p taken (set t.words i n) cards
+      tied = tie_of_period s tree t h.ages.now.machine.stages h.lie h.dead h.dead h.was_dead h.was_dead h.tied id k here k.sight p taken (set t.words i n) cards
           (λ c lives. lives) (λ q a at an. (let old = was q a at an in inl (old.0, old.1, λ c lives. lives)))
           (λ seat q a u other there at an c lives. lives) t.homes;
       flat = h.flat;
-      retired = retired_so plan s tree h.ages.now.machine h.ages.now.uses t id k here p taken (ap (λ (x : Seek). x.retired) sought) (set t.words i n) h.lie h.lie
+      retired = retired_so plan s tree h.ages.now.machine h.ages.now.uses t id k here k.sight p taken (ap (λ (x : Seek). x.retired) sought) (set t.words i n) h.lie h.lie
           (λ x out is. noted_same plan s t.words (set t.words i n) h.lie (λ slot low. same slot) x is) h.retired;
     };
     leaks = λ was. leaks_same s t tree.views h.ages.now.machine.words h.ages.now.machine.stages h.lie was id k here p (set t.words i n) (λ slot low used. holds_so k p taken lost (h.lie slot)) same;
-    searches = λ was. searches_same s t was id k here (record { tree = k.tree; period = p }) (set t.words i n) t.homes past (ap row_of sought) (λ a an. (says a an, began)) (λ slot low. same slot);
-    takings = λ was. takings_same s t h.lie was id k here (record { tree = k.tree; period = p }) (set t.words i n) t.homes past (λ slot low. same slot) stamp
+    searches = λ was. searches_same s t was id k here (record k { period = p }) (set t.words i n) t.homes past (ap row_of sought) (λ a an. (says a an, began)) (λ slot low. same slot);
+    takings = λ was. takings_same s t h.lie was id k here (record k { period = p }) (set t.words i n) t.homes past (λ slot low. same slot) stamp
         (ap (λ (x : Seek). x.missed) sought) (ap (λ (x : Seek). x.found) sought) began safe (λ works. works);
   }
 
@@ -143,7 +145,7 @@ module _ (plan : TablePlan) (s : Slots) (tree : TableState) (t : WholeState) (id
       began = put h.began q (get_or t.words (clock_word s) 0);
       was_dead = put h.was_dead q h.dead;
       periods = periods_announced s t id k here h.lie h.dead h.began h.was_dead h.periods size q reading placed was;
-      ages = ages_of_period plan s tree t id k here (record { tree = k.tree; period = after_announce reading (get_or t.words (clock_word s) 0) k.period }) refl
+      ages = ages_of_period plan s tree t id k here (record k { period = after_announce reading (get_or t.words (clock_word s) 0) k.period }) refl
           (set t.words (place_word s q) (reading + 2)) h.lie h.lie h.dead h.dead h.was_dead (put h.was_dead q h.dead) h.ages h.ages.now.each still
           (λ r a at an. inl ((h.periods.each id k here).rests quiet))
           (λ j r a u other there at an. put_other h.was_dead q h.dead r
@@ -152,7 +154,7 @@ module _ (plan : TablePlan) (s : Slots) (tree : TableState) (t : WholeState) (id
           (λ x out is. noted_same plan s t.words (set t.words (place_word s q) (reading + 2)) h.lie same_slots x is)
           (λ r has used i is. (let old = h.ages.read id k r here has used i is in (old.0, noted_same plan s t.words (set t.words (place_word s q) (reading + 2)) h.lie same_slots _ old.1)))
           (λ c has. h.ages.lost id c k here has);
-      tied = tie_of_period s tree t h.ages.now.machine.stages h.lie h.dead h.dead h.was_dead (put h.was_dead q h.dead) h.tied id k here (after_announce reading (get_or t.words (clock_word s) 0) k.period) refl
+      tied = tie_of_period s tree t h.ages.now.machine.stages h.lie h.dead h.dead h.was_dead (put h.was_dead q h.dead) h.tied id k here k.sight (after_announce reading (get_or t.words (clock_word s) 0) k.period) refl
           (set t.words (place_word s q) (reading + 2)) (behind (place_word s q) (reading + 2) (omega arith))
           (λ c lives. lives)
           (λ r a at an. inr (λ c lives. sym (ap (λ f. f c) (ap (put h.was_dead q h.dead) (same_Some r q (sym at ∙ placed)) ∙ put_same h.was_dead q h.dead)) ∙ lives))
@@ -160,14 +162,14 @@ module _ (plan : TablePlan) (s : Slots) (tree : TableState) (t : WholeState) (id
           (λ e. other (h.periods.apart seat id q u k there here (own (at ∙ ap (λ x. Some x) e)) (own placed))))) ∙ lives)
           t.homes;
       flat = h.flat;
-      retired = retired_so plan s tree h.ages.now.machine h.ages.now.uses t id k here (after_announce reading (get_or t.words (clock_word s) 0) k.period) refl refl (set t.words (place_word s q) (reading + 2)) h.lie h.lie
+      retired = retired_so plan s tree h.ages.now.machine h.ages.now.uses t id k here k.sight (after_announce reading (get_or t.words (clock_word s) 0) k.period) refl refl (set t.words (place_word s q) (reading + 2)) h.lie h.lie
           (λ x out is. noted_same plan s t.words (set t.words (place_word s q) (reading + 2)) h.lie same_slots x is) h.retired;
     };
     leaks = λ was. leaks_same s t tree.views h.ages.now.machine.words h.ages.now.machine.stages h.lie was id k here (after_announce reading (get_or t.words (clock_word s) 0) k.period) (set t.words (place_word s q) (reading + 2))
         (λ slot low used. holds_so k (after_announce reading (get_or t.words (clock_word s) 0) k.period) refl refl (h.lie slot)) (λ slot. get_or-set_other t.words (place_word s q) (slot_word s slot) (reading + 2) 0 (λ e. omega arith));
-    searches = λ was. searches_begin s t was id k here (record { tree = k.tree; period = after_announce reading (get_or t.words (clock_word s) 0) k.period }) (set t.words (place_word s q) (reading + 2)) t.homes
+    searches = λ was. searches_begin s t was id k here (record k { period = after_announce reading (get_or t.words (clock_word s) 0) k.period }) (set t.words (place_word s q) (reading + 2)) t.homes
         (past_place q (reading + 2) ((h.periods.each id k here).place q placed).0) refl refl same_slots;
-    takings = λ was. takings_noted s t h.lie was id k here (record { tree = k.tree; period = after_announce reading (get_or t.words (clock_word s) 0) k.period }) (set t.words (place_word s q) (reading + 2)) t.homes
+    takings = λ was. takings_noted s t h.lie was id k here (record k { period = after_announce reading (get_or t.words (clock_word s) 0) k.period }) (set t.words (place_word s q) (reading + 2)) t.homes
         (past_place q (reading + 2) ((h.periods.each id k here).place q placed).0) same_slots (λ c read is. inl is) (λ works. absurd (works ((h.periods.each id k here).rests quiet).free));
   }
     where
@@ -204,7 +206,7 @@ module _ (plan : TablePlan) (s : Slots) (placed : plan.slots ≡ Some s) where
   goes_on_counted k i f told p step id t h homes here small =
       let has = subst (λ o. WordsAre o t.words h.tree.words) placed h.words in
       let n = get_or t.words i 0 in
-      let now : Known = record { tree = k.tree; period = p t } in
+      let now : Known = record k { period = p t } in
       let old = subst (λ o. PeriodsAre plan o h.tree t) placed h.periods in
       let x = step h.tree t id h.reached here h.views old.0 has.0 in (
         now,
@@ -213,13 +215,16 @@ module _ (plan : TablePlan) (s : Slots) (placed : plan.slots ≡ Some s) where
         record {
           tree = h.tree;
           reached = h.reached;
+          seen = all_set (history_of h.reached.turns) t.views id now h.seen (h.seen id k here);
+          made = made_set (history_of h.reached.turns) t.views id k now here (λ a has. has) h.made;
+          silent = silent_set t.views id now h.silent (h.silent id k here);
           views = map-set (λ (l : Known). l.tree) t.views id now ∙ (set_again (trees_of t.views) id k.tree (tree_at t.views id k here) ∙ h.views);
           homes = h.homes;
           stores = h.stores;
           words = subst (λ o. WordsAre o (set t.words i (f n)) h.tree.words) (sym placed) (length-set t.words i (f n) ∙ has.0, has.1);
           periods = subst (λ o. PeriodsAre plan o h.tree (turned_to t id k (p t) i (f n))) (sym placed) (x.0.periods, x.0.leaks old.1, x.0.searches old.2, x.0.takings old.3);
         },
-        (x.1 old.2 old.3, refl, refl),
+        (x.1 old.2 old.3, refl, refl, refl),
       )
 
   -- where what is told does not go by what was missed
@@ -292,7 +297,7 @@ module _ (plan : TablePlan) (s : Slots) (placed : plan.slots ≡ Some s) where
   takes_any k q word below is id t h homes here small =
       let may = subst (λ i. MayGoOn plan k i (λ n. either (n == 0) 1 n) (λ n p. p ≡ after_take q n k.period)) (sym is) (takes k q below) in
       let x = may id t h homes here small in
-      (x.0, x.1, x.2, x.3, (λ o r slots low at. x.4.0 ∙ ap (λ y. after_take y (get_or t.words word 0) k.period) (one o r slots low at), x.4.1, x.4.2))
+      (x.0, x.1, x.2, x.3, (λ o r slots low at. x.4.0 ∙ ap (λ y. after_take y (get_or t.words word 0) k.period) (one o r slots low at), x.4.1, x.4.2, x.4.3))
     where
       one : (o : Slots) (r : ℕ) → plan.slots ≡ Some o → r < o.places → word ≡ place_word o r → q ≡ r
       one o r slots low at =

@@ -16,6 +16,7 @@ use Rattle.ell_cards.specs.Models.{TablePlan}
 use Rattle.ell_cards.specs.Changes.{joined_view, spent_view}
 use Rattle.ell_cards.specs.Periods.{WholeState, no_period, after_give, given_period, joined_period, period_in, pending_by, place_says, IsAtRest, PeriodHolds, HasPlace, own, spare, PeriodsAreSound, grace_of}
 use Rattle.ell_cards.specs.Ages.{AgesAreSound}
+use Rattle.ell_cards.specs.Sights.{given_sight}
 use Rattle.ell_cards.specs.States.{TableState}
 use Rattle.ell_cards.specs.Turns.{TableTurns, Splits as SplitsInto, Joins as JoinsWith}
 use Rattle.ell_cards.specs.Whole.{joined_known, spent_known}
@@ -49,10 +50,10 @@ module _ (sl : Slots) (t : WholeState) (id : ℕ) (k : Known) (here : get_elem? 
     (h : PeriodsAreSound sl t lie dead began was_dead) (left right : View)
     (left_rests : IsAtRest left) (right_rests : IsAtRest right) (quiet : (q : ℕ) → k.period.other ≡ Some q → k.period.other_says ≡ None) where
   abbrev left_known : Known
-  left_known = record { tree = left; period = after_give k.period }
+  left_known = record k { tree = left; period = after_give k.period }
 
   abbrev right_known : Known
-  right_known = record { tree = right; period = given_period k.period }
+  right_known = record { tree = right; period = given_period k.period; sight = given_sight k.sight }
 
   abbrev parted : WholeState
   parted = record { words = t.words; homes = t.homes; views = set t.views id left_known ++ right_known ∷ [] }

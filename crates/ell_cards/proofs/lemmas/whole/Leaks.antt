@@ -23,7 +23,7 @@ use Rattle.ell_cards.proofs.lemmas.seats.Seats.{set_there}
 use Rattle.ell_cards.proofs.lemmas.words.NotedBits.{none_noted}
 
 -- a pass holds a slot by the card for which it took one last, and the one whose flag it lost
-pub holds_so : (k : Known) (p : Period) → p.slot ≡ k.period.slot → p.lost ≡ k.period.lost → (c : ℕ) → Holds k c → Holds (record { tree = k.tree; period = p }) c
+pub holds_so : (k : Known) (p : Period) → p.slot ≡ k.period.slot → p.lost ≡ k.period.lost → (c : ℕ) → Holds k c → Holds (record k { period = p }) c
 holds_so k p slot same c (waiting at waits) = waiting (slot ∙ at) waits
 holds_so k p slot same c (lost at) = lost (same ∙ at)
 
@@ -39,7 +39,7 @@ held_on views id k now here c mine h = elim (cases_eq h.seat id) [
 module _ (s : Slots) (t : WholeState) (trees : List View) (w : Words) (stage : Stages) (lie : ℕ → ℕ) (h : NothingLeaks s t trees w stage lie) (id : ℕ) (k : Known)
     (here : get_elem? t.views id ≡ some k) (p : Period) where
   abbrev now : Known
-  now = record { tree = k.tree; period = p }
+  now = record k { period = p }
 
   -- where the words of slots are as they were, and the pass holds what it held
   pub leaks_same : (words : List ℕ) → ((slot : ℕ) → slot ≤ s.last → get_or words (slot_word s slot) 0 % 8 ≢ 0 → Holds k (lie slot) → Holds now (lie slot)) → ((slot : ℕ) → get_or words (slot_word s slot) 0 ≡ get_or t.words (slot_word s slot) 0)

@@ -34,6 +34,7 @@ use Rattle.ell_grace.proofs.lemmas.outs.Taken.{taken_born}
 use Rattle.ell_cards.specs.declared.view.Known.{Known}
 use Rattle.ell_cards.specs.declared.view.Period.{Period}
 use Rattle.ell_cards.specs.declared.view.Retired.{Retired}
+use Rattle.ell_cards.specs.declared.view.Sight.{Sight}
 use Rattle.ell_cards.specs.declared.view.Slots.{Slots}
 use Rattle.ell_cards.specs.declared.view.View.{View}
 use Rattle.ell_cards.specs.Ages.{IsOut, IsNotedThere, RetiredStaysNoted}
@@ -381,12 +382,12 @@ module _ (plan : TablePlan) (flat : plan.flat ≡ true) (sl : Slots) (tree : Tab
       killed_won d slot i few (inr (on, never)) = subst (HasWon m.stages) (omega (arith, few)) (ended_won (m.stages (card (4 * lie slot + i))) never.0)
 
   pub leaks_after_call : (W : List ℕ) (homes : List (Maybe (Unit {0}))) → ((slot : ℕ) → slot ≤ sl.last → get_or W (slot_word sl slot) 0 ≡ get_or t.words (slot_word sl slot) 0)
-      → (p : Period) → p.slot ≡ k.period.slot → ((d : ℕ) → FlagsCard c d → is_won (atomic_of c) (found_by tree c) ≡ false → p.lost ≡ Some d)
-      → NothingLeaks sl (record { words = W; homes = homes; views = set t.views id (record { tree = v'; period = p }) }) after_it.views m'.words m'.stages lie
-  leaks_after_call W homes same p slotted lost_it = record { used = used; bits = bits; owed = owed }
+      → (p : Period) (g : Sight) → p.slot ≡ k.period.slot → ((d : ℕ) → FlagsCard c d → is_won (atomic_of c) (found_by tree c) ≡ false → p.lost ≡ Some d)
+      → NothingLeaks sl (record { words = W; homes = homes; views = set t.views id (record { tree = v'; period = p; sight = g }) }) after_it.views m'.words m'.stages lie
+  leaks_after_call W homes same p g slotted lost_it = record { used = used; bits = bits; owed = owed }
     where
       now : Known
-      now = record { tree = v'; period = p }
+      now = record { tree = v'; period = p; sight = g }
 
       used_before : (slot : ℕ) → slot ≤ sl.last → get_or W (slot_word sl slot) 0 % 8 ≢ 0 → get_or t.words (slot_word sl slot) 0 % 8 ≢ 0
       used_before slot low used full = used (ap (λ n. n % 8) (same slot low) ∙ full)

@@ -11,6 +11,7 @@ use Rattle.ell_cards.specs.declared.call.Call.{Call}
 use Rattle.ell_cards.specs.declared.view.Known.{Known}
 use Rattle.ell_cards.specs.declared.view.Period.{Period}
 use Rattle.ell_cards.specs.declared.view.Seek.{Seek}
+use Rattle.ell_cards.specs.declared.view.Sight.{Sight}
 use Rattle.ell_cards.specs.declared.view.Slots.{Slots}
 use Rattle.ell_cards.specs.declared.view.View.{View}
 use Rattle.ell_cards.specs.Ages.{IsOut, IsNotedThere, AreRetired, AgesAreSound, HasPeriods}
@@ -60,12 +61,12 @@ aside_in_ages plan s tree t lie dead was_dead h id v there c may t' on d flags u
 
 module _ (plan : TablePlan) (s : Slots) (tree : TableState) (t : WholeState) (id : ℕ) (k : Known) (here : get_elem? t.views id ≡ some k)
     (h : HasPeriods plan s tree t) (o : Option ℕ) (sought : Seek) (noted : sought.retired ≡ k.period.sought.retired) (aside : (c : ℕ) → o ≡ Some c → IsAside h.ages.now.machine.stages tree.views c)
-    (idle : (c : ℕ) → o ≡ Some c → k.tree.worker.card ≡ None) (stays_in : (c : ℕ) → o ≡ Some c → k.period.announced ≢ None) where
+    (idle : (c : ℕ) → o ≡ Some c → k.tree.worker.card ≡ None) (stays_in : (c : ℕ) → o ≡ Some c → k.period.announced ≢ None) (g : Sight) where
   abbrev noting : Period
   noting = record k.period { lost = o; sought = sought }
 
   abbrev now : Known
-  now = record { tree = k.tree; period = noting }
+  now = record k { period = noting; sight = g }
 
   abbrev after : WholeState
   after = record { words = t.words; homes = t.homes; views = set t.views id now }
@@ -89,7 +90,7 @@ module _ (plan : TablePlan) (s : Slots) (tree : TableState) (t : WholeState) (id
 
   pub lost_periods : PeriodsAreSound s after h.lie h.dead h.began h.was_dead
   lost_periods =
-      periods_after s t id k here h.lie h.dead h.began h.was_dead h.periods t.words noting refl (λ j u other at q has. refl) (λ q has. inl (same_place q has))
+      periods_after s t id k here g h.lie h.dead h.began h.was_dead h.periods t.words noting refl (λ j u other at q has. refl) (λ q has. inl (same_place q has))
       h.lie h.dead h.began h.was_dead
       (λ r a at an. h.periods.since id r a k here at an) (λ j r a u other there at an. h.periods.since j r a u there at an)
       (grace_same s.places (grace_of s t h.lie h.dead h.began h.was_dead) (grace_of s after h.lie h.dead h.began h.was_dead)
@@ -117,10 +118,10 @@ module _ (plan : TablePlan) (s : Slots) (tree : TableState) (t : WholeState) (id
     was_dead = h.was_dead;
     periods = lost_periods;
     ages = lost_ages;
-    tied = tie_of_period s tree t h.ages.now.machine.stages h.lie h.dead h.dead h.was_dead h.was_dead h.tied id k here noting refl t.words (λ i low. refl)
+    tied = tie_of_period s tree t h.ages.now.machine.stages h.lie h.dead h.dead h.was_dead h.was_dead h.tied id k here g noting refl t.words (λ i low. refl)
         (λ d lives. lives) (λ q a at an. inl (at, an, λ d lives. lives)) (λ seat q a u other at placed an d lives. lives) t.homes;
     flat = h.flat;
-    retired = retired_so plan s tree h.ages.now.machine h.ages.now.uses t id k here noting refl noted t.words h.lie h.lie (λ x out is. is) h.retired;
+    retired = retired_so plan s tree h.ages.now.machine h.ages.now.uses t id k here g noting refl noted t.words h.lie h.lie (λ x out is. is) h.retired;
   }
 
 -- A pass sets the slot free of a card that it has laid aside: nobody else knows of the card, so no node is noted in the slot's
@@ -128,14 +129,14 @@ module _ (plan : TablePlan) (s : Slots) (tree : TableState) (t : WholeState) (id
 module _ (plan : TablePlan) (s : Slots) (tree : TableState) (t : WholeState) (id : ℕ) (k : Known) (here : get_elem? t.views id ≡ some k)
     (h : HasPeriods plan s tree t) where
   abbrev freed : Known
-  freed = record { tree = k.tree; period = after_freeing k.period }
+  freed = record k { period = after_freeing k.period }
 
   -- where that card lies in no slot that is in use
   unlost_now : (c : ℕ) → k.period.lost ≡ Some c
       → (NothingLeaks s t tree.views h.ages.now.machine.words h.ages.now.machine.stages h.lie → (slot : ℕ) → slot ≤ s.last → get_or t.words (slot_word s slot) 0 % 8 ≢ 0 → h.lie slot ≡ c → ⊥)
       → GoesTo plan s tree t h (record { words = t.words; homes = t.homes; views = set t.views id freed })
   unlost_now c lost_it gone = record {
-    periods = lost_now plan s tree t id k here h None k.period.sought refl (λ d none. absurd (some_not_none none refl)) (λ d none. absurd (some_not_none none refl)) (λ d none. absurd (some_not_none none refl));
+    periods = lost_now plan s tree t id k here h None k.period.sought refl (λ d none. absurd (some_not_none none refl)) (λ d none. absurd (some_not_none none refl)) (λ d none. absurd (some_not_none none refl)) k.sight;
     leaks = λ was. leaks_same s t tree.views h.ages.now.machine.words h.ages.now.machine.stages h.lie was id k here (after_freeing k.period) t.words
         (λ slot low used holds. by was slot low used holds) (λ slot. refl);
     searches = λ was. searches_same s t was id k here freed t.words t.homes (omega arith) refl (λ a an. (an, refl)) (λ slot low. refl);
@@ -178,7 +179,7 @@ module _ (plan : TablePlan) (s : Slots) (tree : TableState) (t : WholeState) (id
 module _ (plan : TablePlan) (s : Slots) (tree : TableState) (t : WholeState) (id : ℕ) (k : Known) (here : get_elem? t.views id ≡ some k)
     (there : get_elem? tree.views id ≡ some k.tree) (h : HasPeriods plan s tree t) (size : length t.words ≡ slots_size s) (reached : IsReached plan tree) where
   abbrev freed_then : Known
-  freed_then = record { tree = k.tree; period = after_freeing k.period }
+  freed_then = record k { period = after_freeing k.period }
 
   module _ (c : ℕ) (lost_it : k.period.lost ≡ Some c) (taken : k.period.slot ≡ Some c) where
     inside : slot_of c ≤ s.last

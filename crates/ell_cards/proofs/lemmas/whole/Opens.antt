@@ -20,6 +20,7 @@ use Rattle.ell_cards.specs.Periods.{slots_of, last_for, clock_word, place_word, 
 use Rattle.ell_cards.specs.Aside.{IsAside}
 use Rattle.ell_cards.specs.Ages.{is_beyond, ForgotWhen, AgesAreSound}
 use Rattle.ell_cards.specs.RunLaws.{StartIsKept}
+use Rattle.ell_cards.specs.Sights.{no_sight}
 use Rattle.ell_cards.specs.SlotWords.{slot_of, card_by, free_word, freed_by, is_noted, taken_word}
 use Rattle.ell_cards.specs.States.{TableState}
 use Rattle.ell_cards.specs.Starts.{MayStart, SlotsFit, most_places}
@@ -225,7 +226,7 @@ module _ (s : Slots) (given : ℕ) (cards all : List ℕ) (size : length cards �
 
   module _ (v : View) (rest : IsAtRest v) (one : 1 ≤ s.places) where
     abbrev first : Known
-    first = record { tree = v; period = period_by (Some s) }
+    first = record { tree = v; period = period_by (Some s); sight = no_sight }
 
     first_holds : PeriodHolds s all first
     first_holds = record {
@@ -274,7 +275,7 @@ module _ (s : Slots) (given : ℕ) (cards all : List ℕ) (size : length cards �
 -- what is out in it has numbers that no card has, and nobody is in a period
 abbrev pub first_ages : (plan : TablePlan) (s : Slots) (tree : TableState) → StartIsKept plan tree → (given : ℕ) (cards all : List ℕ) (size : length cards ≡ table_size s.last) (h : AreOpeningWords s given cards all)
     → IsAtRest (first_of plan) → 1 ≤ s.places → plan.last_card ≤ greatest_number
-    → AgesAreSound plan s tree (opening all [] (record { tree = first_of plan; period = period_by (Some s) })) (lies_opened given) out_opened (λ q x. false)
+    → AgesAreSound plan s tree (opening all [] (record { tree = first_of plan; period = period_by (Some s); sight = no_sight })) (lies_opened given) out_opened (λ q x. false)
 first_ages plan s tree start given cards all size h rest one most = record {
   now = record { machine = start.kept; uses = start_uses plan tree start; same = refl; each = λ c k low is. is_beyond (let past = ltb-true greatest_number c is in omega arith) };
   still = λ q x is. absurd (false≢true is);

@@ -1,10 +1,12 @@
 -- Splits and joins of a table.
-use Rattle.std.proofs.Common.{◌≡◌, ℕ, Option, Some, None, List, [], ◌∷◌, ◌++◌, set, refl, sym, ap, ◌∙◌, arith}
+use Rattle.std.proofs.Common.{◌≡◌, ℕ, Option, Some, None, List, [], ◌∷◌, ◌++◌, set, inl, inr, refl, sym, ap, ap₂, ◌∙◌, subst, arith}
 use Rattle.std.proofs.lemmas.List.{map-set}
 use mathlib.Core.Option.{some}
 use lib.ListN.{get_elem?}
 use Rattle.atomic_table.specs.Table.{Splits, Joins}
 use Rattle.atomic_table.proofs.Lists.{set_else}
+use Rattle.ell_cards.specs.declared.view.Event.{Event}
+use Rattle.ell_cards.specs.declared.view.Event.TheVariants.{Quiet}
 use Rattle.ell_cards.specs.declared.view.Known.{Known}
 use Rattle.ell_cards.specs.declared.view.Slots.{Slots}
 use Rattle.ell_cards.specs.Models.{TablePlan, IsFree}
@@ -14,6 +16,11 @@ use Rattle.ell_cards.specs.States.{TableState}
 use Rattle.ell_cards.specs.Ties.{left_known, right_known}
 use Rattle.ell_cards.specs.Shown.{StoresAreWhole}
 use Rattle.ell_cards.specs.Stepping.{MaySplit}
+use Rattle.ell_core.proofs.lemmas.outcomes.Decide.{some_not_none}
+use Rattle.ell_cards.specs.Histories.{history_of}
+use Rattle.ell_cards.specs.Seeing.{HasSeen, AllHaveSeen, AreMade}
+use Rattle.ell_cards.specs.Sights.{given_sight}
+use Rattle.ell_cards.proofs.lemmas.whole.Seeing.{silent_set, silent_snoc, both_none, has_none, has_left, has_right, has_either, made_quiet, made_set, made_snoc, made_joined, history_snoc, all_on, all_set, all_snoc, seen_on, longer_part}
 use Rattle.ell_cards.specs.Starts.{SlotsFit}
 use Rattle.ell_cards.specs.Turns.{TableTurns, Splits as SplitsInto, Joins as JoinsWith, state_split, state_joined}
 use Rattle.ell_cards.proofs.lemmas.ties.Handovers.{split_goes, split_held, join_goes, join_held}
@@ -38,10 +45,10 @@ trees_more (x ∷ xs) k = ap (λ l. x.tree ∷ l) (trees_more xs k)
 
 -- a split of the tree is a split of the table
 pub whole_splits : (plan : TablePlan) (k : Known) (keys : List ℕ) → ((q : ℕ) → k.period.other ≡ Some q → k.period.other_says ≡ None) → MaySplit k.tree
-    → (id : ℕ) → Splits (IsWhole plan) id k (record { tree = left_view keys k.tree; period = after_give k.period }) (record { tree = right_view keys k.tree; period = given_period k.period })
+    → (id : ℕ) → Splits (IsWhole plan) id k (record k { tree = left_view keys k.tree; period = after_give k.period }) (record { tree = right_view keys k.tree; period = given_period k.period; sight = given_sight k.sight })
 whole_splits plan k keys quiet may id s h here =
-    let l : Known = record { tree = left_view keys k.tree; period = after_give k.period } in
-    let r : Known = record { tree = right_view keys k.tree; period = given_period k.period } in
+    let l' : Known = record k { tree = left_view keys k.tree; period = after_give k.period } in
+    let r : Known = record { tree = right_view keys k.tree; period = given_period k.period; sight = given_sight k.sight } in
     let there : get_elem? h.tree.views id ≡ some k.tree = ap (λ v. get_elem? v id) (sym h.views) ∙ tree_at s.views id k here in
     let tree : TableState = record { words = h.tree.words; homes = h.tree.homes; views = set h.tree.views id (left_view keys k.tree) ++ (right_view keys k.tree) ∷ [] } in
     let turn : TableTurns plan h.tree (SplitsInto id keys) tree = record {
@@ -51,10 +58,18 @@ whole_splits plan k keys quiet may id s h here =
       may = may.may;
       gives = refl;
     } in
+    let past : List Event = history_of h.reached.turns ++ Quiet ∷ [] in
+    let mine : HasSeen past id k.sight = seen_on (history_of h.reached.turns) (Quiet ∷ []) id k.sight (h.seen id k here) in
     record {
       tree = tree;
       reached = reached_on plan h.tree h.reached (SplitsInto id keys) tree turn;
-      views = trees_more (set s.views id l) r ∙ (ap (λ v. v ++ (right_view keys k.tree) ∷ []) (map-set (λ (x : Known). x.tree) s.views id l) ∙ ap (λ v. set v id (left_view keys k.tree) ++ (right_view keys k.tree) ∷ []) h.views);
+      seen = subst (λ l. AllHaveSeen l (set s.views id l' ++ r ∷ [])) (sym (history_snoc h.reached.turns (SplitsInto id keys)))
+          (all_snoc past (set s.views id l') r (all_set past s.views id l' (all_on (history_of h.reached.turns) (Quiet ∷ []) s.views h.seen) mine)
+          (λ seat. record { part = mine.part; began = λ b at. absurd (some_not_none at refl); mine = λ a has. absurd (has_none a has) }));
+      made = subst (λ v. AreMade v (set s.views id l' ++ r ∷ [])) (sym (history_snoc h.reached.turns (SplitsInto id keys)))
+          (made_snoc past (set s.views id l') r (made_quiet (history_of h.reached.turns) (set s.views id l') (made_set (history_of h.reached.turns) s.views id k l' here (λ a has. has) h.made)));
+      silent = silent_snoc (set s.views id l') r (silent_set s.views id l' h.silent (λ none. h.silent id k here none)) (λ none. refl);
+      views = trees_more (set s.views id l') r ∙ (ap (λ v. v ++ (right_view keys k.tree) ∷ []) (map-set (λ (x : Known). x.tree) s.views id l') ∙ ap (λ v. set v id (left_view keys k.tree) ++ (right_view keys k.tree) ∷ []) h.views);
       homes = h.homes;
       words = h.words;
       stores = each_view_split h.tree.views id k.tree there (left_view keys k.tree) (right_view keys k.tree) (λ v. StoresAreWhole v × PlansFit plan.slots v)
@@ -71,7 +86,7 @@ whole_splits plan k keys quiet may id s h here =
 
     by : (tree : TableState) → get_elem? tree.views id ≡ some k.tree → trees_of s.views ≡ tree.views → (o : Option Slots) → SlotsFit plan o → PeriodsAre plan o tree s
         → PeriodsAre plan o (state_split tree id k.tree keys)
-        (record { words = s.words; homes = s.homes; views = set s.views id (record { tree = left_view keys k.tree; period = after_give k.period }) ++ record { tree = right_view keys k.tree; period = given_period k.period } ∷ [] })
+        (record { words = s.words; homes = s.homes; views = set s.views id (record k { tree = left_view keys k.tree; period = after_give k.period }) ++ record { tree = right_view keys k.tree; period = given_period k.period; sight = given_sight k.sight } ∷ [] })
     by tree there same None fit periods = tt
     by tree there same (Some sl) fit (h, was, sought, takings) =
         let tie = split_goes plan sl tree s h.lie h.dead h.was_dead (let low = fit.4 in omega arith) (record { ages = h.ages; tied = h.tied }) id k here there keys may.free may.may in (
@@ -113,9 +128,29 @@ whole_joins plan k l free other_free unlost id other s h here aside there =
       free' = other_free;
       gives = refl;
     } in
+    let past : List Event = history_of h.reached.turns ++ Quiet ∷ [] in
+    let mine : HasSeen past id k.sight = seen_on (history_of h.reached.turns) (Quiet ∷ []) id k.sight (h.seen id k here) in
+    let its : HasSeen past other l.sight = seen_on (history_of h.reached.turns) (Quiet ∷ []) other l.sight (h.seen other l theirs) in
     record {
       tree = tree;
       reached = reached_on plan h.tree h.reached (JoinsWith id other) tree turn;
+      seen = subst (λ v. AllHaveSeen v (set (set s.views id (joined_known k l)) other spent_known)) (sym (history_snoc h.reached.turns (JoinsWith id other)))
+          (all_set past (set s.views id (joined_known k l)) other spent_known
+          (all_set past s.views id (joined_known k l) (all_on (history_of h.reached.turns) (Quiet ∷ []) s.views h.seen)
+          (record {
+            part = longer_part past k.sight.seen l.sight.seen mine.part its.part;
+            began = mine.began;
+            mine = λ a has. elim (has_either k.sight.mine l.sight.mine a has) [
+              | inl one ↦ mine.mine a one
+              | inr one ↦ its.mine a one
+            ];
+          }))
+          (record { part = (past, refl); began = λ b at. absurd (some_not_none at refl); mine = λ a has. absurd (has_none a has) }));
+      made = subst (λ v. AreMade v (set (set s.views id (joined_known k l)) other spent_known)) (sym (history_snoc h.reached.turns (JoinsWith id other)))
+          (made_quiet (history_of h.reached.turns) (set (set s.views id (joined_known k l)) other spent_known)
+          (made_joined (history_of h.reached.turns) s.views id other k l (joined_known k l) spent_known here theirs aside (λ a has. has_left k.sight.mine l.sight.mine a has) (λ a has. has_right k.sight.mine l.sight.mine a has) h.made));
+      silent = silent_set (set s.views id (joined_known k l)) other spent_known
+          (silent_set s.views id (joined_known k l) h.silent (λ none. (let two = both_none k.tree.answers l.tree.answers none in ap₂ (λ a b. a ++ b) (h.silent id k here two.0) (h.silent other l theirs two.1)))) (λ none. refl);
       views = map-set (λ (x : Known). x.tree) (set s.views id (joined_known k l)) other spent_known
           ∙ (ap (λ v. set v other spent_view) (map-set (λ (x : Known). x.tree) s.views id (joined_known k l))
           ∙ ap (λ v. set (set v id (joined_view k.tree l.tree)) other spent_view) h.views);

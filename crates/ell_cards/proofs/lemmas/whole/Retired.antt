@@ -12,6 +12,7 @@ use Rattle.ell_cards.specs.declared.call.Call.{Call}
 use Rattle.ell_cards.specs.declared.view.Known.{Known}
 use Rattle.ell_cards.specs.declared.view.Period.{Period}
 use Rattle.ell_cards.specs.declared.view.Retired.{Retired}
+use Rattle.ell_cards.specs.declared.view.Sight.{Sight}
 use Rattle.ell_cards.specs.declared.view.Slots.{Slots}
 use Rattle.ell_cards.specs.Ages.{IsOut, IsNotedThere, AreRetired, RetiredStaysNoted}
 use Rattle.ell_cards.specs.Calls.{May}
@@ -50,12 +51,12 @@ module _ (plan : TablePlan) (s : Slots) (tree : TableState) (machine : HasMachin
   OutThere words lie x = IsOut plan tree machine uses x × IsNotedThere s words lie x
 
   -- where a pass knows something else of periods, and what was noted is noted
-  pub retired_of_period : (t : WholeState) (id : ℕ) (k : Known) → get_elem? t.views id ≡ some k → (p : Period) (words : List ℕ) (lie lie' : ℕ → ℕ)
+  pub retired_of_period : (t : WholeState) (id : ℕ) (k : Known) → get_elem? t.views id ≡ some k → (g : Sight) (p : Period) (words : List ℕ) (lie lie' : ℕ → ℕ)
       → ((x : ℕ) → IsOut plan tree machine uses x → IsNotedThere s t.words lie x → IsNotedThere s words lie' x)
       → ((c : ℕ) → p.slot ≡ Some c → k.tree.worker.card ≡ Some c → AreRetired machine.words c p.sought.retired (OutThere words lie'))
       → RetiredStaysNoted plan s tree t machine uses lie
-      → RetiredStaysNoted plan s tree (record { words = words; homes = t.homes; views = set t.views id (record { tree = k.tree; period = p }) }) machine uses lie'
-  retired_of_period t id k here p words lie lie' keeps mine h seat c u at slot hand = ⊎_elim
+      → RetiredStaysNoted plan s tree (record { words = words; homes = t.homes; views = set t.views id (record k { period = p; sight = g }) }) machine uses lie'
+  retired_of_period t id k here g p words lie lie' keeps mine h seat c u at slot hand = ⊎_elim
       (λ (e : (seat ≡ id) × (now ≡ u)).
       subst (λ (x : Known). x.period.slot ≡ Some c → x.tree.worker.card ≡ Some c → AreRetired machine.words c x.period.sought.retired (OutThere words lie')) e.1 (mine c) slot hand)
       (λ (e : (seat ≢ id) × (get_elem? t.views seat ≡ some u)).
@@ -63,16 +64,16 @@ module _ (plan : TablePlan) (s : Slots) (tree : TableState) (machine : HasMachin
       (at_set t.views id seat now u at)
     where
       now : Known
-      now = record { tree = k.tree; period = p }
+      now = record k { period = p; sight = g }
 
   -- where the pass has noted no more, and has the slot that it had
-  pub retired_so : (t : WholeState) (id : ℕ) (k : Known) → get_elem? t.views id ≡ some k → (p : Period) → p.slot ≡ k.period.slot → p.sought.retired ≡ k.period.sought.retired
+  pub retired_so : (t : WholeState) (id : ℕ) (k : Known) → get_elem? t.views id ≡ some k → (g : Sight) (p : Period) → p.slot ≡ k.period.slot → p.sought.retired ≡ k.period.sought.retired
       → (words : List ℕ) (lie lie' : ℕ → ℕ)
       → ((x : ℕ) → IsOut plan tree machine uses x → IsNotedThere s t.words lie x → IsNotedThere s words lie' x)
       → RetiredStaysNoted plan s tree t machine uses lie
-      → RetiredStaysNoted plan s tree (record { words = words; homes = t.homes; views = set t.views id (record { tree = k.tree; period = p }) }) machine uses lie'
-  retired_so t id k here p slot same words lie lie' keeps h =
-      retired_of_period t id k here p words lie lie' keeps
+      → RetiredStaysNoted plan s tree (record { words = words; homes = t.homes; views = set t.views id (record k { period = p; sight = g }) }) machine uses lie'
+  retired_so t id k here g p slot same words lie lie' keeps h =
+      retired_of_period t id k here g p words lie lie' keeps
       (λ c has hand. subst (λ r. AreRetired machine.words c r (OutThere words lie')) (sym same)
       (retired_are machine.words machine.words c k.period.sought.retired (OutThere t.words lie) (OutThere words lie') refl refl (λ x is. (is.0, keeps x is.0 is.1)) (h id c k here (sym slot ∙ has) hand))) h
 

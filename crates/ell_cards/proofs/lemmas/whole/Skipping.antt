@@ -7,7 +7,6 @@ use Rattle.atomic_table.specs.Table.{Allows, Act, Valid, carried_after, keeps, s
 use Rattle.ell_cards.specs.declared.call.Call.TheVariants as call
 use Rattle.ell_cards.specs.declared.call.NewNode.{NewNode}
 use Rattle.ell_cards.specs.declared.view.Known.{Known}
-use Rattle.ell_cards.specs.declared.view.Period.{Period}
 use Rattle.ell_cards.specs.declared.view.Slots.{Slots}
 use Rattle.ell_cards.specs.declared.view.View.{View}
 use Rattle.ell_cards.specs.Ages.{HasPeriods}
@@ -62,7 +61,7 @@ abbrev pub SlotIsBefore : Known → ℕ → Type 0
 SlotIsBefore k c = (d : ℕ) → k.period.slot ≡ Some d → d < c
 
 -- the card that was claimed has no slot yet
-aside_now : (c : ℕ) (node : NewNode) (k : Known) → SlotIsBefore k c → LaysAside (record { tree = after_one c node k.tree; period = k.period })
+aside_now : (c : ℕ) (node : NewNode) (k : Known) → SlotIsBefore k c → LaysAside (record k { tree = after_one c node k.tree })
 aside_now c node k before d waits at =
     let same = same_Some c d waits.0 in
     let low = before d at in
@@ -73,7 +72,7 @@ aside_now c node k before d waits at =
 
 -- the table where a pass knows something else of the tree, and the claim word is another one
 abbrev pub claimed_to : WholeState → ℕ → Known → View → ℕ → WholeState
-claimed_to t id k v n = record { words = set t.words 0 n; homes = t.homes; views = set t.views id (record { tree = v; period = k.period }) }
+claimed_to t id k v n = record { words = set t.words 0 n; homes = t.homes; views = set t.views id (record k { tree = v }) }
 
 module _ (plan : TablePlan) (s : Slots) (placed : plan.slots ≡ Some s) where
   -- such a table has a claim word
@@ -132,12 +131,11 @@ module _ (plan : TablePlan) (s : Slots) (placed : plan.slots ≡ Some s) where
         (tied_whole plan t h id k here call.Next tt tt s placed tt unlost tt (λ none. tt) k.period (nothing refl tt (λ some d flags. absurd flags))))
 
   -- what was written before at the claim word and in the seat is gone
-  written_again : (t : WholeState) (id : ℕ) (k l : Known) (v : View) (a n : ℕ) → l.period ≡ k.period
-      → claimed_to (record { words = set t.words 0 a; homes = t.homes; views = set t.views id l }) id l v n ≡ claimed_to t id k v n
-  written_again t id k l v a n same = λ i. record {
+  written_again : (t : WholeState) (id : ℕ) (k : Known) (w v : View) (a n : ℕ) → claimed_to (claimed_to t id k w a) id (record k { tree = w }) v n ≡ claimed_to t id k v n
+  written_again t id k w v a n = λ i. record {
     words = set_twice t.words 0 a n i;
     homes = t.homes;
-    views = (set_twice t.views id l (record { tree = v; period = l.period }) ∙ ap (λ p. set t.views id (record { tree = v; period = p })) same) i;
+    views = set_twice t.views id (record k { tree = w }) (record k { tree = v }) i;
   }
 
   module _ (flat : plan.flat ≡ true) where
@@ -147,8 +145,8 @@ module _ (plan : TablePlan) (s : Slots) (placed : plan.slots ≡ Some s) where
     one_on c node t h id k here unlost aside may is =
         let low = may.1 in
         let limit = h.reached.starts.may.limit in
-        let now : Known = record { tree = after_claim true c node k.tree; period = k.period } in
-        subst (IsWhole plan) (written_again t id k now (after_one c node k.tree) (c + 1) (c + 1) refl)
+        let now : Known = record k { tree = after_claim true c node k.tree } in
+        subst (IsWhole plan) (written_again t id k now.tree (after_one c node k.tree) (c + 1) (c + 1))
         (read_next (claimed_to t id k (after_claim true c node k.tree) (c + 1)) (claim_won t h id k here unlost c node may aside is) id now
         (set_there t.views id now k here) unlost (c + 1) (get_or-set_same t.words 0 (c + 1) 0 (has_words t h)) (omega arith))
 
@@ -159,10 +157,10 @@ module _ (plan : TablePlan) (s : Slots) (placed : plan.slots ≡ Some s) where
     row_whole zero c node t h id k here unlost aside before may is room =
         subst (λ m. IsWhole plan (claimed_to t id k (after_claim true c node k.tree) m)) (omega arith) (claim_won t h id k here unlost c node may aside is)
     row_whole (suc n) c node t h id k here unlost aside before may is room =
-        let now : Known = record { tree = after_one c node k.tree; period = k.period } in
+        let now : Known = record k { tree = after_one c node k.tree } in
         let v = after_row n (c + 1) node (after_one c node k.tree) in
         subst (λ m. IsWhole plan (claimed_to t id k v m)) (omega arith)
-        (subst (IsWhole plan) (written_again t id k now v (c + 1) (c + 1 + n + 1) refl)
+        (subst (IsWhole plan) (written_again t id k now.tree v (c + 1) (c + 1 + n + 1))
         (row_whole n (c + 1) node (claimed_to t id k (after_one c node k.tree) (c + 1)) (one_on c node t h id k here unlost aside may is) id now
         (set_there t.views id now k here) unlost (aside_now c node k before) (λ d at. (let low = before d at in omega arith)) (claims_on plan flat c node k.tree (omega arith) may)
         (get_or-set_same t.words 0 (c + 1) 0 (has_words t h)) (omega arith)))
@@ -179,7 +177,7 @@ module _ (plan : TablePlan) (s : Slots) (placed : plan.slots ≡ Some s) (flat :
       → shown (after_row n c node k.tree) ≡ cut_planned (after_row n c node (shown k.tree))
   row_shown zero c node t h id k here unlost aside before may is room = claims_are_shown plan c node k.tree (whole_apart plan s placed t h id k here)
   row_shown (suc n) c node t h id k here unlost aside before may is room =
-      let now : Known = record { tree = after_one c node k.tree; period = k.period } in
+      let now : Known = record k { tree = after_one c node k.tree } in
       let first : shown (after_one c node k.tree) ≡ cut_planned (after_one c node (shown k.tree)) =
       ap (after call.Next (c + 1)) (claims_are_shown plan c node k.tree (whole_apart plan s placed t h id k here)) in
       row_shown n (c + 1) node (claimed_to t id k (after_one c node k.tree) (c + 1)) (one_on plan s placed flat c node t h id k here unlost aside may is) id now
@@ -199,7 +197,7 @@ module _ (plan : TablePlan) (s : Slots) (placed : plan.slots ≡ Some s) (flat :
 
     abbrev Goes : Bool → Type 0
     Goes b = (w : Known) × (a : Act (Unit {0})) × Valid t.homes [] a × IsWhole plan (stepped t 0 (either b (last + 1) n) id [] w a)
-        × (((shown w.tree ≡ after_claimed_row b first last node v) × IsInside plan (shown w.tree) × IsFresh plan p.slot b last) × (w.period ≡ k.period) × (carried_after {S = Unit {0}} [] a ≡ []))
+        × (((shown w.tree ≡ after_claimed_row b first last node v) × IsInside plan (shown w.tree) × IsFresh plan p.slot b last) × (w.period ≡ k.period) × (carried_after {S = Unit {0}} [] a ≡ []) × (w.sight ≡ k.sight))
 
     by_tree : May plan (call.Claim first node) k.tree
     by_tree = (claim_whole plan k.tree (whole_apart plan s placed t h id k here) first node (subst (λ u. MayClaim (flat_from plan) u first node) (sym is) may), omega arith)
@@ -212,9 +210,9 @@ module _ (plan : TablePlan) (s : Slots) (placed : plan.slots ≡ Some s) (flat :
 
     goes : (b : Bool) (w : View) → IsWhole plan (claimed_to t id k w (either b (last + 1) n)) → shown w ≡ after_claimed_row b first last node v → IsFresh plan p.slot b last → Goes b
     goes b w whole shows fresh =
-        let now : Known = record { tree = w; period = k.period } in
+        let now : Known = record k { tree = w } in
         let names = whole_inside plan s placed (claimed_to t id k w (either b (last + 1) n)) whole id now (set_there t.views id now k here) in
-        (now, keeps, tt, whole, ((shows, (named_shown plan.last_card w names.0, placed_shown _ w names.1), fresh), refl, refl))
+        (now, keeps, tt, whole, ((shows, (named_shown plan.last_card w names.0, placed_shown _ w names.1), fresh), refl, refl, refl))
 
     by : (b : Bool) → (n == first) ≡ b → Goes b
     by true won =
@@ -295,8 +293,8 @@ claim_goes plan p c node may low lays k is slotted unlost id t h homes here smal
     (exchange_does plan (call.Claim c node) c (c + 1) (record { whole = c + 1; is = refl; cut = sym (cut_same (c + 1) low); all = λ none. refl }))
     (λ there none. tt) (λ fill. absurd fill)
     (subst (λ v. MayTell plan (call.Claim c node) v (λ n w. (w ≡ after_claimed_row (n == c) c c node p.view) × IsInside plan w)) (sym is) (claim_tells plan c node p.view))
-    (λ n word. nothing refl tt (λ some d flags. absurd flags)) id t h homes here small in
-    (x.0, x.1, x.2, x.3, ((x.4.0.0, x.4.0.1, fresh), x.4.1, x.4.2))
+    (λ n word. nothing refl tt (λ some d flags. absurd flags)) tt id t h homes here small in
+    (x.0, x.1, x.2, x.3, ((x.4.0.0, x.4.0.1, fresh), x.4.1, x.4.2, x.4.3))
   where
     by : (o : Option Slots) → plan.slots ≡ o → (get_or t.words 0 0 == c) ≡ true → o ≢ None → p.slot ≢ Some c
     by None none won there at = there refl
@@ -313,15 +311,15 @@ claim_goes plan p c node may low lays k is slotted unlost id t h homes here smal
 
 -- what a step on the claim word owes that the rule allows, by what its caller says of the table and the pass
 module _ (t u : TableModel) (p q : PassModel) (same_table : t ≡ u) (same_pass : p ≡ q) (own : q.table ≡ u.id) (size : t.id.words ≡ whole_size t.plan) (fit : SlotsFit t.plan t.plan.slots) where
-  pub claim_owed : (tree : View) → shown tree ≡ p.view → (seat : ℕ) (period : Period) (held : List (ℕ × Unit {0})) (f : ℕ → ℕ) (told : ℕ → View → Type 0)
-      → period.slot ≡ p.slot → period.lost ≡ None → t.id.slots ≡ 0 → held ≡ [] → MayStepOn u.plan q 0 f told
+  pub claim_owed : (k : Known) → shown k.tree ≡ p.view → (seat : ℕ) (held : List (ℕ × Unit {0})) (f : ℕ → ℕ) (told : ℕ → View → Type 0)
+      → k.period.slot ≡ p.slot → k.period.lost ≡ None → t.id.slots ≡ 0 → held ≡ [] → MayStepOn u.plan q 0 f told
       → (p.table ≡ t.id) × (0 < t.id.words)
-      × Allows (IsWhole t.plan) t.id.slots seat (record { tree = tree; period = period }, held) 0 f (λ n x. told n (shown x.0.tree) × (x.0.period ≡ period) × (x.1 ≡ held))
-  claim_owed tree shows seat period held f told slotted unlost none empty rule =
-      let step = subst (λ (m : TableModel). MayStepOn m.plan q 0 f told) (sym same_table) rule (record { tree = tree; period = period })
+      × Allows (IsWhole t.plan) t.id.slots seat (k, held) 0 f (λ n x. told n (shown x.0.tree) × (x.0.period ≡ k.period) × (x.1 ≡ held) × (x.0.sight ≡ k.sight))
+  claim_owed k shows seat held f told slotted unlost none empty rule =
+      let step = subst (λ (m : TableModel). MayStepOn m.plan q 0 f told) (sym same_table) rule k
       (shows ∙ ap (λ (m : PassModel). m.view) same_pass) (slotted ∙ ap (λ (m : PassModel). m.slot) same_pass) unlost in
       let some = size_some t.plan in (
         of_table t u p q same_table same_pass own size fit,
         omega arith,
-        allowed t.plan t.id.slots seat (record { tree = tree; period = period }, held) 0 f (λ n x l. told n (shown x.0.tree) × (x.0.period ≡ period) × (x.1 ≡ l)) none empty step,
+        allowed t.plan t.id.slots seat (k, held) 0 f (λ n x l. told n (shown x.0.tree) × (x.0.period ≡ k.period) × (x.1 ≡ l) × (x.0.sight ≡ k.sight)) none empty step,
       )

@@ -83,7 +83,7 @@ module _ (s : Slots) (t : WholeState) (id : ℕ) (k : Known) (here : get_elem? t
     (least : p.least ≡ k.period.least) (looked : p.looked ≡ k.period.looked) (safe : p.safe ≡ k.period.safe) (lost : p.lost ≡ k.period.lost)
     (clock : get_or words (clock_word s) 0 ≡ get_or t.words (clock_word s) 0) (places : (q : ℕ) → get_or words (place_word s q) 0 ≡ get_or t.words (place_word s q) 0) where
   abbrev now : Known
-  now = record { tree = k.tree; period = p }
+  now = record k { period = p }
 
   abbrev after : WholeState
   after = record { words = words; homes = t.homes; views = set t.views id now }
@@ -116,7 +116,7 @@ module _ (s : Slots) (t : WholeState) (id : ℕ) (k : Known) (here : get_elem? t
       → ((c : ℕ) → stamp_at s lie' words c ≡ free c)
       → PeriodsAreSound s after lie' dead' began was_dead
   slots_after lie' dead' pending free sound pends stamped =
-      periods_after s t id k here lie dead began was_dead h words p clock (λ j u other at q has. places q) (λ q has. inl (gains q has)) lie' dead' began was_dead
+      periods_after s t id k here k.sight lie dead began was_dead h words p clock (λ j u other at q has. places q) (λ q has. inl (gains q has)) lie' dead' began was_dead
       (λ r a at an. h.since id r a k here (sym stands.place ∙ at) (sym stands.announced ∙ an) ∙ sym began_so)
       (λ j r a u other there at an. h.since j r a u there at an)
       (grace_same s.places (record (grace_of s t lie dead began was_dead) { gone = dead'; pending = pending; free = free })
@@ -140,7 +140,7 @@ module _ (s : Slots) (t : WholeState) (id : ℕ) (k : Known) (here : get_elem? t
 
   module _ (c : ℕ) where
     abbrev stamped : Known
-    stamped = record { tree = k.tree; period = after_stamp c reading_now k.period }
+    stamped = record k { period = after_stamp c reading_now k.period }
 
     abbrev died : Grace
     died = record was { gone = put was.gone c true }
@@ -148,7 +148,7 @@ module _ (s : Slots) (t : WholeState) (id : ℕ) (k : Known) (here : get_elem? t
     abbrev pends : Grace
     pends = record died { pending = put was.pending id (Some (c, was.clock)) }
 
-    pub card_stamped : PeriodsAreSound s (record { words = set t.words (clock_word s) (get_or t.words (clock_word s) 0); homes = t.homes; views = set t.views id (record { tree = k.tree; period = after_stamp c (get_or t.words (clock_word s) 0) k.period }) })
+    pub card_stamped : PeriodsAreSound s (record { words = set t.words (clock_word s) (get_or t.words (clock_word s) 0); homes = t.homes; views = set t.views id (record k { period = after_stamp c (get_or t.words (clock_word s) 0) k.period }) })
         lie (put dead c true) began was_dead
     card_stamped =
         slots_after s t id k here lie dead began was_dead h (set t.words (clock_word s) (get_or t.words (clock_word s) 0)) (after_stamp c reading_now k.period)
@@ -163,12 +163,12 @@ module _ (s : Slots) (t : WholeState) (id : ℕ) (k : Known) (here : get_elem? t
 
   -- it knows another reading of the clock, where the words say the same
   pub clock_known : (words : List ℕ) → ((j : ℕ) → get_or words j 0 ≡ get_or t.words j 0) → (n : ℕ) → n ≤ get_or t.words (clock_word s) 0
-      → PeriodsAreSound s (record { words = words; homes = t.homes; views = set t.views id (record { tree = k.tree; period = record (k.period) { reading = Some n } }) }) lie dead began was_dead
+      → PeriodsAreSound s (record { words = words; homes = t.homes; views = set t.views id (record k { period = record (k.period) { reading = Some n } }) }) lie dead began was_dead
   clock_known words again n low =
       slots_after s t id k here lie dead began was_dead h words (record (k.period) { reading = Some n })
       (record { place = refl; other = refl; other_says = refl; announced = refl }) refl (λ m is. (let same = same_Some n m is in omega arith)) (h.each id k here).surveyed refl refl refl refl (again (clock_word s)) (λ q. again (place_word s q))
       lie dead was.pending was.free h.sound
-      (part_same t.views id k here (record { tree = k.tree; period = record (k.period) { reading = Some n } }) (λ p. pending_by p.stamp) refl)
+      (part_same t.views id k here (record k { period = record (k.period) { reading = Some n } }) (λ p. pending_by p.stamp) refl)
       (stamps_same s lie t.words words (λ slot inside. again (slot_word s slot)))
 
   -- the word of a slot
@@ -178,13 +178,13 @@ module _ (s : Slots) (t : WholeState) (id : ℕ) (k : Known) (here : get_elem? t
 
     -- it reads that, whatever its search has read then
     pub slot_read : (sought : Seek)
-        → PeriodsAreSound s (record { words = set t.words (slot_word s slot) (get_or t.words (slot_word s slot) 0); homes = t.homes; views = set t.views id (record { tree = k.tree; period = record (after_read slot (get_or t.words (slot_word s slot) 0) k.period) { sought = sought } }) })
+        → PeriodsAreSound s (record { words = set t.words (slot_word s slot) (get_or t.words (slot_word s slot) 0); homes = t.homes; views = set t.views id (record k { period = record (after_read slot (get_or t.words (slot_word s slot) 0) k.period) { sought = sought } }) })
         lie dead began was_dead
     slot_read sought =
         slots_after s t id k here lie dead began was_dead h (set t.words (slot_word s slot) (get_or t.words (slot_word s slot) 0)) (record (after_read slot found k.period) { sought = sought })
         (record { place = refl; other = refl; other_says = refl; announced = refl }) refl (h.each id k here).reading (h.each id k here).surveyed refl refl refl refl (again (clock_word s)) (λ q. again (place_word s q))
         lie dead was.pending was.free h.sound
-        (part_same t.views id k here (record { tree = k.tree; period = record (after_read slot found k.period) { sought = sought } }) (λ p. pending_by p.stamp) refl)
+        (part_same t.views id k here (record k { period = record (after_read slot found k.period) { sought = sought } }) (λ p. pending_by p.stamp) refl)
         (stamps_same s lie t.words (set t.words (slot_word s slot) (get_or t.words (slot_word s slot) 0)) (λ x low. again (slot_word s x)))
       where
         again : (j : ℕ) → get_or (set t.words (slot_word s slot) (get_or t.words (slot_word s slot) 0)) j 0 ≡ get_or t.words j 0
@@ -219,12 +219,12 @@ module _ (s : Slots) (t : WholeState) (id : ℕ) (k : Known) (here : get_elem? t
 
     -- a word that sets nothing free becomes one that does not either
     pub slot_noted : (sought : Seek) (n' : ℕ) → get_or t.words (slot_word s slot) 0 % 8 ≢ 0 → n' % 8 ≢ 0
-        → PeriodsAreSound s (record { words = set t.words (slot_word s slot) n'; homes = t.homes; views = set t.views id (record { tree = k.tree; period = record (k.period) { sought = sought } }) }) lie dead began was_dead
+        → PeriodsAreSound s (record { words = set t.words (slot_word s slot) n'; homes = t.homes; views = set t.views id (record k { period = record (k.period) { sought = sought } }) }) lie dead began was_dead
     slot_noted sought n' some_bit some_bit' =
         slots_after s t id k here lie dead began was_dead h (turned n') (record (k.period) { sought = sought })
         (record { place = refl; other = refl; other_says = refl; announced = refl }) refl (h.each id k here).reading (h.each id k here).surveyed refl refl refl refl (turned_clock n') (turned_place n')
         lie dead was.pending was.free h.sound
-        (part_same t.views id k here (record { tree = k.tree; period = record (k.period) { sought = sought } }) (λ p. pending_by p.stamp) refl)
+        (part_same t.views id k here (record k { period = record (k.period) { sought = sought } }) (λ p. pending_by p.stamp) refl)
         stays
       where
         stays : (c : ℕ) → stamp_at s lie (turned n') c ≡ stamp_at s lie t.words c
@@ -235,13 +235,13 @@ module _ (s : Slots) (t : WholeState) (id : ℕ) (k : Known) (here : get_elem? t
 
     -- the card that lies there is set free with the stamp that the pass has for it
     pub slot_freed : (sought : Seek) (reading : ℕ) → slot_of (lie slot) ≡ slot → k.period.stamp ≡ Some (record { card = lie slot; reading = reading })
-        → PeriodsAreSound s (record { words = set t.words (slot_word s slot) (free_word reading); homes = t.homes; views = set t.views id (record { tree = k.tree; period = record (k.period) { sought = sought } }) }) lie dead began was_dead
+        → PeriodsAreSound s (record { words = set t.words (slot_word s slot) (free_word reading); homes = t.homes; views = set t.views id (record k { period = record (k.period) { sought = sought } }) }) lie dead began was_dead
     slot_freed sought reading home has =
         slots_after s t id k here lie dead began was_dead h (turned n') (record (k.period) { sought = sought })
         (record { place = refl; other = refl; other_says = refl; announced = refl }) refl (h.each id k here).reading (h.each id k here).surveyed refl refl refl refl (turned_clock n') (turned_place n')
         lie dead was.pending (put was.free card (Some reading))
         (grace_goes_on s.places was (record was { free = put was.free card (Some reading) }) h.sound (frees id card reading pending refl))
-        (part_same t.views id k here (record { tree = k.tree; period = record (k.period) { sought = sought } }) (λ p. pending_by p.stamp) refl)
+        (part_same t.views id k here (record k { period = record (k.period) { sought = sought } }) (λ p. pending_by p.stamp) refl)
         stamp
       where
         n' : ℕ
@@ -301,13 +301,13 @@ module _ (s : Slots) (t : WholeState) (id : ℕ) (k : Known) (here : get_elem? t
 
       -- the pass takes it, for another card there
       pub slot_taken : (turn next : ℕ) → slot_of next ≡ slot
-          → PeriodsAreSound s (record { words = set t.words (slot_word s slot) (taken_word turn); homes = t.homes; views = set t.views id (record { tree = k.tree; period = after_taking next k.period }) }) (put lie slot next) dead began was_dead
+          → PeriodsAreSound s (record { words = set t.words (slot_word s slot) (taken_word turn); homes = t.homes; views = set t.views id (record k { period = after_taking next k.period }) }) (put lie slot next) dead began was_dead
       slot_taken turn next at =
           slots_after s t id k here lie dead began was_dead h (turned n') (after_taking next k.period)
           (record { place = refl; other = refl; other_says = refl; announced = refl }) refl (h.each id k here).reading (h.each id k here).surveyed refl refl refl refl (turned_clock n') (turned_place n')
           lie' dead was.pending (put was.free card None)
           (grace_goes_on s.places was (record was { free = put was.free card None }) h.sound (takes id card (stamp_in found) card_free card_past refl))
-          (part_same t.views id k here (record { tree = k.tree; period = after_taking next k.period }) (λ p. pending_by p.stamp) refl)
+          (part_same t.views id k here (record k { period = after_taking next k.period }) (λ p. pending_by p.stamp) refl)
           stamp
         where
           n' : ℕ

@@ -7,13 +7,17 @@ use lib.ListN.{get_elem?}
 use Rattle.ell_layout.specs.Start.{words_at_start}
 use Rattle.ell_layout.specs.Words.{words_of}
 use Rattle.ell_cards.specs.declared.view.Known.{Known}
+use Rattle.ell_cards.specs.declared.view.Period.{Period}
 use Rattle.ell_cards.specs.declared.view.Slots.{Slots}
 use Rattle.ell_cards.specs.declared.view.View.{View}
 use Rattle.ell_cards.specs.Changes.{first_of}
 use Rattle.ell_cards.specs.Models.{TablePlan, last_slot, last_slot_of}
 use Rattle.ell_cards.specs.Periods.{AreWholeWords, period_by}
+use Rattle.ell_core.proofs.lemmas.outcomes.Decide.{some_not_none}
+use Rattle.ell_cards.specs.Seeing.{HasSeen, AllHaveSeen, AreSilent}
 use Rattle.ell_cards.specs.Seeking.{no_seek}
 use Rattle.ell_cards.specs.Shown.{IsWord, FieldIsWhole, StoresAreWhole}
+use Rattle.ell_cards.specs.Sights.{no_sight}
 use Rattle.ell_cards.specs.Starts.{MayStart, SlotsFit}
 use Rattle.ell_cards.specs.Whole.{first_known, WordsAre, PeriodsAre, IsWhole, PlansFit}
 use Rattle.ell_cards.proofs.lemmas.lifetimes.Openings.{each_first}
@@ -24,7 +28,20 @@ use Rattle.ell_cards.proofs.lemmas.ties.Opens.{tree_opened, reached_opened, peri
 use Rattle.ell_cards.proofs.lemmas.whole.Lifts.{unplanned_fits}
 use Rattle.ell_cards.proofs.lemmas.whole.Opens.{with_zeros}
 use Rattle.ell_cards.proofs.lemmas.whole.Searches.{searches_opened}
+use Rattle.ell_cards.proofs.lemmas.whole.Seeing.{has_none}
 use Rattle.ell_cards.proofs.lemmas.whole.Takings.{takings_opened}
+
+-- the first pass has seen nothing, and made no call
+nothing_seen : (seat : ℕ) → HasSeen [] seat no_sight
+nothing_seen seat = record { part = ([], refl); began = λ b at. absurd (some_not_none at refl); mine = λ a has. absurd (has_none a has) }
+
+first_seen : (v : View) (p : Period) → AllHaveSeen [] (record { tree = v; period = p; sight = no_sight } ∷ [])
+first_seen v p zero u at = subst (λ (x : Known). HasSeen [] 0 x.sight) (some-injective (record { tree = v; period = p; sight = no_sight }) u at) (nothing_seen 0)
+first_seen v p (suc j) u at = absurd (some-ne-none u (sym at))
+
+first_silent : (v : View) (p : Period) → AreSilent (record { tree = v; period = p; sight = no_sight } ∷ [])
+first_silent v p zero u at none = subst (λ (x : Known). x.sight.mine ≡ []) (some-injective (record { tree = v; period = p; sight = no_sight }) u at) refl
+first_silent v p (suc j) u at none = absurd (some-ne-none u (sym at))
 
 -- a table starts so
 pub whole_first : (plan : TablePlan) (may : MayStart plan) (cards words : List ℕ) → ((i : ℕ) → IsWord (get_or cards i 0)) → length cards ≡ table_size (last_slot plan) → words_of cards ≡ words_at_start plan.flat plan.start
@@ -37,6 +54,9 @@ whole_first plan may cards words small size are is = by plan.slots refl may.slot
         record {
           tree = opening cards [] (first_of plan);
           reached = reached_first plan cards may all are;
+          seen = first_seen (first_of plan) (period_by plan.slots);
+          made = λ begin end op said c. absurd (some-ne-none _ (sym c.ends));
+          silent = first_silent (first_of plan) (period_by plan.slots);
           views = refl;
           homes = refl;
           stores = each_first (first_of plan) (λ v. StoresAreWhole v × PlansFit plan.slots v) (unfilled_whole (first_of plan) refl refl, unplanned_fits plan.slots (first_of plan) refl);
@@ -49,6 +69,9 @@ whole_first plan may cards words small size are is = by plan.slots refl may.slot
         let tree = tree_opened plan s cards words may fit all are small opens in record {
           tree = tree;
           reached = reached_opened plan s cards words may fit all are small opens;
+          seen = first_seen (first_of plan) (period_by plan.slots);
+          made = λ begin end op said c. absurd (some-ne-none _ (sym c.ends));
+          silent = first_silent (first_of plan) (period_by plan.slots);
           views = refl;
           homes = refl;
           stores = each_first (first_of plan) (λ v. StoresAreWhole v × PlansFit plan.slots v) (unfilled_whole (first_of plan) refl refl, unplanned_fits plan.slots (first_of plan) refl);
@@ -58,16 +81,16 @@ whole_first plan may cards words small size are is = by plan.slots refl may.slot
                 (field_is_whole f (get_or cards (address c f) 0) (small (address c f))),
           );
           periods = subst (λ o. PeriodsAre plan o tree (opening words [] (first_known plan))) (sym placed)
-              (subst (λ o. PeriodsAre plan (Some s) tree (opening words [] (record { tree = first_of plan; period = period_by o }))) (sym placed)
-              (has, leaks_opened plan s cards words may fit all are small opens, searches_opened s (opening words [] (record { tree = first_of plan; period = period_by (Some s) })) (only (first_of plan)), takings_opened s (opening words [] (record { tree = first_of plan; period = period_by (Some s) })) has.lie (idle_first (first_of plan) refl)));
+              (subst (λ o. PeriodsAre plan (Some s) tree (opening words [] (record { tree = first_of plan; period = period_by o; sight = no_sight }))) (sym placed)
+              (has, leaks_opened plan s cards words may fit all are small opens, searches_opened s (opening words [] (record { tree = first_of plan; period = period_by (Some s); sight = no_sight })) (only (first_of plan)), takings_opened s (opening words [] (record { tree = first_of plan; period = period_by (Some s); sight = no_sight })) has.lie (idle_first (first_of plan) refl)));
         }
       where
         -- the first pass has read nothing, and is in no period
-        only : (v : View) (j : ℕ) (u : Known) → get_elem? (record { tree = v; period = period_by (Some s) } ∷ []) j ≡ some u → (u.period.sought ≡ no_seek) × (u.period.announced ≡ None)
-        only v zero u at = subst (λ (x : Known). (x.period.sought ≡ no_seek) × (x.period.announced ≡ None)) (some-injective (record { tree = v; period = period_by (Some s) }) u at) (refl, refl)
+        only : (v : View) (j : ℕ) (u : Known) → get_elem? (record { tree = v; period = period_by (Some s); sight = no_sight } ∷ []) j ≡ some u → (u.period.sought ≡ no_seek) × (u.period.announced ≡ None)
+        only v zero u at = subst (λ (x : Known). (x.period.sought ≡ no_seek) × (x.period.announced ≡ None)) (some-injective (record { tree = v; period = period_by (Some s); sight = no_sight }) u at) (refl, refl)
         only v (suc j) u at = absurd (some-ne-none u (sym at))
 
         -- nor is it about to set anything free, and it has nothing in hand
-        idle_first : (v : View) → v.worker.operation ≡ None → (j : ℕ) (u : Known) → get_elem? (record { tree = v; period = period_by (Some s) } ∷ []) j ≡ some u → (u.period.stamp ≡ None) × (u.tree.worker.operation ≡ None)
-        idle_first v free zero u at = subst (λ (x : Known). (x.period.stamp ≡ None) × (x.tree.worker.operation ≡ None)) (some-injective (record { tree = v; period = period_by (Some s) }) u at) (refl, free)
+        idle_first : (v : View) → v.worker.operation ≡ None → (j : ℕ) (u : Known) → get_elem? (record { tree = v; period = period_by (Some s); sight = no_sight } ∷ []) j ≡ some u → (u.period.stamp ≡ None) × (u.tree.worker.operation ≡ None)
+        idle_first v free zero u at = subst (λ (x : Known). (x.period.stamp ≡ None) × (x.tree.worker.operation ≡ None)) (some-injective (record { tree = v; period = period_by (Some s); sight = no_sight }) u at) (refl, free)
         idle_first v free (suc j) u at = absurd (some-ne-none u (sym at))

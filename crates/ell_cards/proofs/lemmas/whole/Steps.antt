@@ -15,6 +15,7 @@ use Rattle.ell_grace.proofs.lemmas.Grace.{grace_goes_on}
 use Rattle.ell_cards.specs.declared.view.Known.{Known}
 use Rattle.ell_cards.specs.declared.view.Period.{Period}
 use Rattle.ell_cards.specs.declared.view.Seek.{Seek}
+use Rattle.ell_cards.specs.declared.view.Sight.{Sight}
 use Rattle.ell_cards.specs.declared.view.Slots.{Slots}
 use Rattle.ell_cards.specs.declared.view.Survey.{Survey}
 use Rattle.ell_cards.specs.Periods.{WholeState, clock_word, place_word, slot_word, slots_size, stamp_at, pending_by, period_in, word_at_place, announced_by, place_says, last_reading, after_clock, after_announce, after_retract, after_look_at, after_take, after_give, after_release, settled_at, surveyed_at, HasPlace, own, spare, IsAtRest, PeriodHolds, PeriodsAreSound, grace_of}
@@ -71,10 +72,10 @@ IsNobodys t q = (j : ℕ) (u : Known) → get_elem? t.views j ≡ some u → Has
 
 -- The periods of a table where a pass knows something else of them and the words became other ones, if the places of other
 -- passes say the same and so does the clock, and each place of the pass was its own or nobody's.
-module _ (s : Slots) (t : WholeState) (id : ℕ) (k : Known) (here : get_elem? t.views id ≡ some k) (lie : ℕ → ℕ) (dead : ℕ → Bool) (began : ℕ → ℕ) (was_dead : ℕ → ℕ → Bool)
+module _ (s : Slots) (t : WholeState) (id : ℕ) (k : Known) (here : get_elem? t.views id ≡ some k) (g : Sight) (lie : ℕ → ℕ) (dead : ℕ → Bool) (began : ℕ → ℕ) (was_dead : ℕ → ℕ → Bool)
     (h : PeriodsAreSound s t lie dead began was_dead) (words : List ℕ) (p : Period) where
   abbrev now : Known
-  now = record { tree = k.tree; period = p }
+  now = record k { period = p; sight = g }
 
   abbrev after : WholeState
   after = record { words = words; homes = t.homes; views = set t.views id now }
@@ -140,7 +141,7 @@ module _ (s : Slots) (t : WholeState) (id : ℕ) (k : Known) (here : get_elem? t
     -- whatever it knows of what it sought
     module _ (sought : Seek) where
       abbrev seeks : Known
-      seeks = record { tree = k.tree; period = record (k.period) { sought = sought } }
+      seeks = record k { period = record (k.period) { sought = sought } }
 
       seeking_place : (q : ℕ) → HasPlace seeks.period q → HasPlace k.period q
       seeking_place q (own e) = own e
@@ -161,7 +162,7 @@ module _ (s : Slots) (t : WholeState) (id : ℕ) (k : Known) (here : get_elem? t
 
       pub periods_sought : PeriodsAreSound s (record { words = again; homes = t.homes; views = set t.views id seeks }) lie dead began was_dead
       periods_sought =
-          periods_after s t id k here lie dead began was_dead h again seeks.period (same_at (clock_word s)) (λ j u other at q has. same_at (place_word s q)) (λ q has. inl (seeking_place q has)) lie dead began was_dead
+          periods_after s t id k here k.sight lie dead began was_dead h again seeks.period (same_at (clock_word s)) (λ j u other at q has. same_at (place_word s q)) (λ q has. inl (seeking_place q has)) lie dead began was_dead
           (λ r a at an. h.since id r a k here at an) (λ j r a u other there at an. h.since j r a u there at an)
           (grace_same s.places (grace_of s t lie dead began was_dead)
           (grace_of s (record { words = again; homes = t.homes; views = set t.views id seeks }) lie dead began was_dead)
@@ -178,7 +179,7 @@ module _ (s : Slots) (t : WholeState) (id : ℕ) (k : Known) (here : get_elem? t
   reading_now = get_or t.words (clock_word s) 0
 
   abbrev reads : Known
-  reads = record { tree = k.tree; period = after_clock reading_now k.period }
+  reads = record k { period = after_clock reading_now k.period }
 
   -- the grace periods as they are, and after a scan has begun
   abbrev was : Grace
@@ -206,7 +207,7 @@ module _ (s : Slots) (t : WholeState) (id : ℕ) (k : Known) (here : get_elem? t
 
   pub periods_read : PeriodsAreSound s (record { words = set t.words (clock_word s) (get_or t.words (clock_word s) 0); homes = t.homes; views = set t.views id reads }) lie dead began was_dead
   periods_read =
-      periods_after s t id k here lie dead began was_dead h (again (clock_word s) (omega arith)) reads.period (same_at (clock_word s) (omega arith) (clock_word s))
+      periods_after s t id k here k.sight lie dead began was_dead h (again (clock_word s) (omega arith)) reads.period (same_at (clock_word s) (omega arith) (clock_word s))
       (λ j u other at q has. same_at (clock_word s) (omega arith) (place_word s q)) gains lie dead began was_dead
       (λ r a at an. h.since id r a k here at an) (λ j r a u other there at an. h.since j r a u there at an)
       (grace_same s.places scanned
@@ -263,7 +264,7 @@ module _ (s : Slots) (t : WholeState) (id : ℕ) (k : Known) (here : get_elem? t
     found = get_or t.words (place_word s q) 0
 
     abbrev sees : Known
-    sees = record { tree = k.tree; period = after_look_at s.places found k.period }
+    sees = record k { period = after_look_at s.places found k.period }
 
     abbrev kept : List ℕ
     kept = again (place_word s q) (omega arith)
@@ -366,7 +367,7 @@ module _ (s : Slots) (t : WholeState) (id : ℕ) (k : Known) (here : get_elem? t
 
     pub periods_seen : PeriodsAreSound s (record { words = set t.words (place_word s q) (get_or t.words (place_word s q) 0); homes = t.homes; views = set t.views id sees }) lie dead began was_dead
     periods_seen =
-        periods_after s t id k here lie dead began was_dead h kept sees.period (kept_at (clock_word s)) (λ j u other at r has. kept_at (place_word s r)) gains lie dead began was_dead
+        periods_after s t id k here k.sight lie dead began was_dead h kept sees.period (kept_at (clock_word s)) (λ j u other at r has. kept_at (place_word s r)) gains lie dead began was_dead
         (λ r a at an. h.since id r a k here at an) (λ j r a u other there at an. h.since j r a u there at an)
         (seen_sound (nat_lt (k.period.looked + 1) s.places) refl)
         sees_holds
@@ -424,7 +425,7 @@ module _ (s : Slots) (t : WholeState) (id : ℕ) (k : Known) (here : get_elem? t
     module _ (p : Period) (least : p.least ≡ k.period.least) (looked : p.looked ≡ k.period.looked) (safe : p.safe ≡ k.period.safe)
         (stamp : p.stamp ≡ k.period.stamp) where
       abbrev knows : Known
-      knows = record { tree = k.tree; period = p }
+      knows = record k { period = p }
 
       abbrev turns : WholeState
       turns = record { words = turned; homes = t.homes; views = set t.views id knows }
@@ -462,10 +463,10 @@ module _ (s : Slots) (t : WholeState) (id : ℕ) (k : Known) (here : get_elem? t
 
   -- a reading of the clock is announced at the place of the pass
   pub periods_announced : (q reading : ℕ) → k.period.place ≡ Some q → k.period.reading ≡ Some reading
-      → PeriodsAreSound s (record { words = set t.words (place_word s q) (reading + 2); homes = t.homes; views = set t.views id (record { tree = k.tree; period = after_announce reading (get_or t.words (clock_word s) 0) k.period }) })
+      → PeriodsAreSound s (record { words = set t.words (place_word s q) (reading + 2); homes = t.homes; views = set t.views id (record k { period = after_announce reading (get_or t.words (clock_word s) 0) k.period }) })
       lie dead (put began q (get_or t.words (clock_word s) 0)) (put was_dead q dead)
   periods_announced q reading placed was =
-      periods_after s t id k here lie dead began was_dead h (turned q (reading + 2) below) (after_announce reading (get_or t.words (clock_word s) 0) k.period) (turned_clock q (reading + 2) below) (others_have_none q (reading + 2) below (own placed)) gains
+      periods_after s t id k here k.sight lie dead began was_dead h (turned q (reading + 2) below) (after_announce reading (get_or t.words (clock_word s) 0) k.period) (turned_clock q (reading + 2) below) (others_have_none q (reading + 2) below (own placed)) gains
       lie dead (put began q (get_or t.words (clock_word s) 0)) (put was_dead q dead)
       (λ r a at an. (let e : r ≡ q = same_Some r q (sym at ∙ placed) in
       ap (put began q (get_or t.words (clock_word s) 0)) e ∙ put_same began q (get_or t.words (clock_word s) 0)))
@@ -494,9 +495,9 @@ module _ (s : Slots) (t : WholeState) (id : ℕ) (k : Known) (here : get_elem? t
 
   -- the announcement of a pass at rest is taken away
   pub periods_retracted : (q : ℕ) → k.period.place ≡ Some q → IsAtRest k.tree → k.period.lost ≡ None
-      → PeriodsAreSound s (record { words = set t.words (place_word s q) 1; homes = t.homes; views = set t.views id (record { tree = k.tree; period = after_retract k.period }) }) lie dead began was_dead
+      → PeriodsAreSound s (record { words = set t.words (place_word s q) 1; homes = t.homes; views = set t.views id (record k { period = after_retract k.period }) }) lie dead began was_dead
   periods_retracted q placed rest unlost =
-      periods_after s t id k here lie dead began was_dead h (turned q 1 below) (after_retract k.period) (turned_clock q 1 below) (others_have_none q 1 below (own placed)) gains
+      periods_after s t id k here k.sight lie dead began was_dead h (turned q 1 below) (after_retract k.period) (turned_clock q 1 below) (others_have_none q 1 below (own placed)) gains
       lie dead began was_dead
       (λ r a at an. absurd (some_not_none an refl)) (λ j r a u other there at an. h.since j r a u there at an)
       (ended q 1 below (after_retract k.period) refl refl refl refl refl)
@@ -522,9 +523,9 @@ module _ (s : Slots) (t : WholeState) (id : ℕ) (k : Known) (here : get_elem? t
 
   -- a place that no pass has is taken
   pub periods_taken : (q : ℕ) → q < s.places → get_or t.words (place_word s q) 0 ≡ 0
-      → PeriodsAreSound s (record { words = set t.words (place_word s q) 1; homes = t.homes; views = set t.views id (record { tree = k.tree; period = after_take q 0 k.period }) }) lie dead began was_dead
+      → PeriodsAreSound s (record { words = set t.words (place_word s q) 1; homes = t.homes; views = set t.views id (record k { period = after_take q 0 k.period }) }) lie dead began was_dead
   periods_taken q below empty =
-      periods_after s t id k here lie dead began was_dead h (turned q 1 below) (after_take q 0 k.period) (turned_clock q 1 below)
+      periods_after s t id k here k.sight lie dead began was_dead h (turned q 1 below) (after_take q 0 k.period) (turned_clock q 1 below)
       (λ j u other at r has. place_else q 1 below j r u at has (λ e. nobody j u at (subst (HasPlace u.period) e has))) gains
       lie dead began was_dead
       (λ r a at an. h.since id r a k here at an) (λ j r a u other there at an. h.since j r a u there at an)
@@ -550,9 +551,9 @@ module _ (s : Slots) (t : WholeState) (id : ℕ) (k : Known) (here : get_elem? t
 
   -- the other place of the pass is given back
   pub periods_given : (q : ℕ) → k.period.other ≡ Some q
-      → PeriodsAreSound s (record { words = set t.words (place_word s q) 0; homes = t.homes; views = set t.views id (record { tree = k.tree; period = after_give k.period }) }) lie dead began was_dead
+      → PeriodsAreSound s (record { words = set t.words (place_word s q) 0; homes = t.homes; views = set t.views id (record k { period = after_give k.period }) }) lie dead began was_dead
   periods_given q has =
-      periods_after s t id k here lie dead began was_dead h (turned q 0 below) (after_give k.period) (turned_clock q 0 below) (others_have_none q 0 below (spare has)) gains
+      periods_after s t id k here k.sight lie dead began was_dead h (turned q 0 below) (after_give k.period) (turned_clock q 0 below) (others_have_none q 0 below (spare has)) gains
       lie dead began was_dead
       (λ r a at an. h.since id r a k here at an) (λ j r a u other there at an. h.since j r a u there at an)
       (ended q 0 below (after_give k.period) refl refl refl refl refl)
@@ -578,9 +579,9 @@ module _ (s : Slots) (t : WholeState) (id : ℕ) (k : Known) (here : get_elem? t
 
   -- the place of a pass that announces nothing is given back, as the pass is given up
   pub periods_released : (q : ℕ) → k.period.place ≡ Some q → k.period.announced ≡ None
-      → PeriodsAreSound s (record { words = set t.words (place_word s q) 0; homes = t.homes; views = set t.views id (record { tree = k.tree; period = after_release k.period }) }) lie dead began was_dead
+      → PeriodsAreSound s (record { words = set t.words (place_word s q) 0; homes = t.homes; views = set t.views id (record k { period = after_release k.period }) }) lie dead began was_dead
   periods_released q placed quiet =
-      periods_after s t id k here lie dead began was_dead h (turned q 0 below) (after_release k.period) (turned_clock q 0 below) (others_have_none q 0 below (own placed)) gains
+      periods_after s t id k here k.sight lie dead began was_dead h (turned q 0 below) (after_release k.period) (turned_clock q 0 below) (others_have_none q 0 below (own placed)) gains
       lie dead began was_dead
       (λ r a at an. absurd (some_not_none at refl)) (λ j r a u other there at an. h.since j r a u there at an)
       (ended q 0 below (after_release k.period) refl refl refl refl refl)

@@ -113,10 +113,10 @@ module _ (plan : TablePlan) (s : Slots) (tree : TableState) (t : WholeState) (id
           retired = it.retired h.retired;
         };
         leaks = it.leaks unlost;
-        searches = λ was. searches_turned s t was id k here (record { tree = k.tree; period = after_taking c k.period }) (set t.words (slot_word s (slot_of c)) (taken_word (turn_of c))) t.homes
+        searches = λ was. searches_turned s t was id k here (record k { period = after_taking c k.period }) (set t.words (slot_word s (slot_of c)) (taken_word (turn_of c))) t.homes
             (let same = get_or-set_other t.words (slot_word s (slot_of c)) (clock_word s) (taken_word (turn_of c)) 0 (λ e. (let behind_clock = clock_before_slots s (slot_of c) in omega arith)) in omega arith)
             refl (λ a an. (an, refl)) (slot_of c) (taken_word (turn_of c)) inside (omega arith) refl (inl (taken_bits (turn_of c)));
-        takings = λ was. takings_taken s t h.lie was id k here (record { tree = k.tree; period = after_taking c k.period }) t.homes (slot_of c) (taken_word (turn_of c)) c inside (omega arith)
+        takings = λ was. takings_taken s t h.lie was id k here (record k { period = after_taking c k.period }) t.homes (slot_of c) (taken_word (turn_of c)) c inside (omega arith)
             (get_or-set_other t.words (slot_word s (slot_of c)) (clock_word s) (taken_word (turn_of c)) 0 (λ e. (let behind_clock = clock_before_slots s (slot_of c) in omega arith)))
             (taken_bits (turn_of c)) fresh late refl refl refl;
       }
@@ -204,7 +204,7 @@ module _ (plan : TablePlan) (s : Slots) (placed : plan.slots ≡ Some s) (k : Kn
   owns_any word is id t h homes here small =
       let may = subst (λ i. MayGoOn plan k i (λ n. n) (λ n p. (p ≡ after_own c n k.period) × (could_take n k.period.safe ≡ false → FewMissed p))) (sym is) owns_slot in
       let x = may id t h homes here small in
-      (x.0, x.1, x.2, x.3, ((λ d has. x.4.0.0 ∙ ap (λ e. after_own e (get_or t.words word 0) k.period) (one d has), λ none. few_in x.0.period (x.4.0.1 none)), x.4.1, x.4.2))
+      (x.0, x.1, x.2, x.3, ((λ d has. x.4.0.0 ∙ ap (λ e. after_own e (get_or t.words word 0) k.period) (one d has), λ none. few_in x.0.period (x.4.0.1 none)), x.4.1, x.4.2, x.4.3))
 
   pub takes_any : k.period.lost ≡ None → s.last < turn_size → (n word turn : ℕ) → n % 8 ≡ 0 → stamp_in n < k.period.safe
       → ((r : SlotRead) → k.period.sought.found ≡ Some r → r.slot ≡ slot_of c → r.word ≡ n) → word ≡ slot_word s (slot_of c) → turn ≡ turn_of c
@@ -216,4 +216,4 @@ module _ (plan : TablePlan) (s : Slots) (placed : plan.slots ≡ Some s) (k : Kn
       (subst (λ u. MayGoOn plan k (slot_word s (slot_of c)) (λ m. either (m == n) (taken_word u) m) (λ m p. (p ≡ (if m == n then after_taking c k.period else after_missing c m k.period)) × ((m == n) ≡ false → FewMissed p))) (sym at)
       (takes_slot unlost low n free safe found)) in
       let x = may id t h homes here small in
-      (x.0, x.1, x.2, x.3, ((λ d has. x.4.0.0 ∙ ap (λ e. if get_or t.words word 0 == n then after_taking e k.period else after_missing e (get_or t.words word 0) k.period) (one d has), λ other. few_in x.0.period (x.4.0.1 other)), x.4.1, x.4.2))
+      (x.0, x.1, x.2, x.3, ((λ d has. x.4.0.0 ∙ ap (λ e. if get_or t.words word 0 == n then after_taking e k.period else after_missing e (get_or t.words word 0) k.period) (one d has), λ other. few_in x.0.period (x.4.0.1 other)), x.4.1, x.4.2, x.4.3))

@@ -44,7 +44,7 @@ grace_same places w w' clock gone word began was_gone pending least seen safe fr
 -- the periods of a table where a word of its cards became another one, and a pass knows something else of the tree
 module _ (s : WholeState) (id : ℕ) (k : Known) (here : get_elem? s.views id ≡ some k) (v : View) where
   abbrev now : Known
-  now = record { tree = v; period = k.period }
+  now = record k { tree = v }
 
   place_stays : (sl : Slots) (i n : ℕ) → i < table_size sl.last → (q : ℕ) → get_or (set s.words i n) (place_word sl q) 0 ≡ get_or s.words (place_word sl q) 0
   place_stays sl i n low q = get_or-set_other s.words i (place_word sl q) n 0 (let before = before_clock sl i low in omega arith)

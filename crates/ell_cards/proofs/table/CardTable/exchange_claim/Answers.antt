@@ -7,7 +7,7 @@ use Rattle.ell_cards.proofs.table.CardTable.exchange_claim.Goals as goal
 
 pub compare_exchange-found-requires : goal.compare_exchange-found-requires
 compare_exchange-found-requires g c =
-    claim_owed _ _ _ _ c.self.view_is c.pass.view_is c.requires.own c.self.invariant.0 c.self.invariant.8 c.pass.inside.seat.me.0.tree refl c.pass.inside.seat.id c.pass.inside.seat.me.0.period c.pass.inside.seat.me.1
+    claim_owed _ _ _ _ c.self.view_is c.pass.view_is c.requires.own c.self.invariant.0 c.self.invariant.8 c.pass.inside.seat.me.0 refl c.pass.inside.seat.id c.pass.inside.seat.me.1
     (λ n. either (n == c.args.card) c.args.next n) g.J.Telling.then refl c.pass.invariant.2.lost c.self.invariant.1 c.pass.invariant.1 c.requires.rule
 
 pub invariant_of-pass : goal.invariant_of-pass

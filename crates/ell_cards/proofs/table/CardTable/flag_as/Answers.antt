@@ -5,7 +5,7 @@ use Rattle.ell_cards.specs.Models.{PassModel}
 use Rattle.ell_cards.specs.Shown.{shown}
 use Rattle.ell_cards.proofs.lemmas.seats.Opened.{owed, stepped}
 use Rattle.ell_cards.proofs.lemmas.shown.CutWords.{cut_same}
-use Rattle.ell_cards.proofs.lemmas.whole.Calling.{exchange_does, exchange_stores, flag_notes, flag_taken}
+use Rattle.ell_cards.proofs.lemmas.whole.Calling.{exchange_calm, exchange_does, exchange_stores, flag_notes, flag_taken}
 use Rattle.ell_cards.proofs.lemmas.whole.Lifts.{stores_word, plain_shown}
 use Rattle.ell_cards.proofs.lemmas.whole.Places.{still_place, flagging_lost, flagging_stands, stands_on}
 use Rattle.ell_cards.proofs.table.CardTable.flag_as.Goals as goal
@@ -13,12 +13,12 @@ use Rattle.ell_cards.proofs.table.CardTable.flag_as.Goals as goal
 pub compare_exchange-found-requires : goal.compare_exchange-found-requires
 compare_exchange-found-requires g c =
     let period = c.pass.inside.seat.me.0.period in
-    owed _ _ _ _ c.self.view_is c.pass.view_is c.requires.own c.self.invariant.0 c.self.invariant.8 c.pass.inside.seat.me.0.tree refl c.pass.inside.seat.id period refl refl c.pass.inside.seat.me.1 c.pass.inside.keys.items c.pass.inside.share c.pass.inside.standing c.args.word
+    owed _ _ _ _ c.self.view_is c.pass.view_is c.requires.own c.self.invariant.0 c.self.invariant.8 c.pass.inside.seat.me.0 refl c.pass.inside.seat.id refl refl c.pass.inside.seat.me.1 c.pass.inside.keys.items c.pass.inside.share c.pass.inside.standing c.args.word
     (λ n. either (n == c.args.expected) c.args.value n) g.J.Noting.then (λ n. g.J.Noting.notes n period) c.args.call c.self.invariant.1 c.pass.invariant.1 c.pass.invariant.0 c.pass.invariant.2
     (stores_word c.args.call (Exchange c.args.expected c.args.value) c.requires.atomic tt (plain_shown c.args.call (exchange_stores c.args.call c.args.expected c.args.value c.requires.atomic))) c.requires.word c.requires.may c.requires.kept
     (exchange_does c.args.self.now.plan c.args.call c.args.expected c.args.value (record { whole = c.args.value; is = c.requires.atomic; cut = sym (cut_same c.args.value (omega arith)); all = λ none. refl }))
     (λ placed none. c.requires.quiet) (λ fill. absurd (exchange_stores c.args.call c.args.expected c.args.value c.requires.atomic fill)) c.requires.tells
-    (λ n small. flag_notes c.args.call c.args.card c.args.expected c.args.value n period (g.J.Noting.notes n period) c.requires.atomic c.requires.flags c.args.self.now.plan.slots (c.requires.notes n period))
+    (λ n small. flag_notes c.args.call c.args.card c.args.expected c.args.value n period (g.J.Noting.notes n period) c.requires.atomic c.requires.flags c.args.self.now.plan.slots (c.requires.notes n period)) (exchange_calm c.args.call c.args.expected c.args.value c.requires.atomic)
 
 pub invariant_of-pass : goal.invariant_of-pass
 invariant_of-pass g c =

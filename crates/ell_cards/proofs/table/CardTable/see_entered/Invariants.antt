@@ -5,4 +5,5 @@ abbrev pub ghosts-load_entered_as : goal.ghosts-load_entered_as
 ghosts-load_entered_as g a = record {
   then = λ n w. IsTaken a.self.now.plan a.call a.pass.now.view n w;
   notes = λ n p. after_entering a.call p;
+  call = a.call;
 }

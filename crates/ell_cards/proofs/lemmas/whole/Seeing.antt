@@ -1,0 +1,458 @@
+-- What passes have seen of the history stays a beginning of it.
+use Rattle.std.proofs.Common.{◌≡◌, ◌≢◌, ℕ, zero, suc, ◌+◌, ◌<◌, ne_eqb, eq-eqb, option_map, ◌≤◌, Bool, true, false, Some, None, List, [], ◌∷◌, ◌++◌, length, set, take, if◌then◌else◌, nat_le, inl, inr, ◌⊎◌, refl, sym, ap, ◌∙◌, subst, arith, append-nil}
+use Rattle.std.proofs.lemmas.List.{append_assoc}
+use Rattle.std.proofs.lemmas.Bool.{cases_eq, cases_lt}
+use Rattle.std.proofs.lemmas.Option.{same_Some}
+use mathlib.Core.Option.{some, some-injective, some-ne-none}
+use lib.ListN.{get_elem?}
+use Rattle.atomic_table.proofs.Lists.{at_set, at_snoc, at_map, set_else}
+use Rattle.ell_ops.specs.declared.op.Op.{Op}
+use Rattle.ell_ops.specs.declared.reply.Reply.{Reply}
+use Rattle.ell_cards.specs.declared.call.Call.{Call}
+use Rattle.ell_cards.specs.declared.call.Call.TheVariants as call
+use Rattle.ell_cards.specs.declared.view.Act.{Act}
+use Rattle.ell_cards.specs.declared.view.Event.{Event}
+use Rattle.ell_cards.specs.declared.view.Event.TheVariants.{Begins, Ends, Quiet}
+use Rattle.ell_cards.specs.declared.view.Known.{Known}
+use Rattle.ell_cards.specs.declared.view.Sight.{Sight}
+use Rattle.ell_cards.specs.declared.view.View.{View}
+use Rattle.ell_ops.specs.Contents.{contents_of}
+use Rattle.ell_cards.specs.Histories.{IsCall, IsLinearizable, event_of, history_of}
+use Rattle.ell_cards.specs.Linearizing.{IsAnswered, KeepsOnBetween}
+use Rattle.ell_cards.specs.Models.{TablePlan, Does, IsFree, whole_share, Has, latest, earlier}
+use Rattle.ell_cards.specs.Calls.{May, after}
+use Rattle.ell_cards.specs.Changes.{deed_taking, taken_by, with_answer}
+use Rattle.ell_cards.specs.Whole.{trees_of}
+use Rattle.ell_cards.proofs.lemmas.runs.Spent.{IsAllThere, all_there, answers_stay}
+use Rattle.ell_cards.proofs.lemmas.runs.Accounts.{ended_only, lin}
+use Rattle.ell_cards.proofs.lemmas.seats.Seats.{set_there}
+use Rattle.std.specs.Option.{option_or}
+use Rattle.ell_cards.specs.Seeing.{BeganAt, HasSeen, AllHaveSeen, IsMadeBy, AreMade, AreSilent, HasWholeStory, begin_in, last_begin, with_act, marked, SeesEnd, Marks, IsCalm}
+use Rattle.ell_cards.specs.Shown.{shown, shown_call}
+use Rattle.ell_cards.specs.Sights.{IsPart, longer}
+use Rattle.ell_cards.specs.Starts.{IsReached}
+use Rattle.ell_cards.specs.States.{TableState}
+use Rattle.ell_cards.specs.Turns.{Turn, Makes}
+use Rattle.ell_cards.proofs.lemmas.runs.Histories.{linear_of, call_of, begin_at, histories_are_linearizable}
+use Rattle.ell_cards.proofs.lemmas.runs.LinearizingAnswers.{behind}
+use Rattle.ell_cards.proofs.lemmas.runs.LinearizingPoints.{begun_of}
+use Rattle.ell_cards.proofs.lemmas.runs.LinearizingStates.{at_end, state_at, run_to}
+
+-- the history of one turn more
+pub history_snoc : (ts : List Turn) (t : Turn) → history_of (ts ++ t ∷ []) ≡ history_of ts ++ event_of t ∷ []
+history_snoc [] t = refl
+history_snoc (u ∷ us) t = ap (λ l. event_of u ∷ l) (history_snoc us t)
+
+history_long : (ts : List Turn) → length (history_of ts) ≡ length ts
+history_long [] = refl
+history_long (u ∷ us) = ap suc (history_long us)
+
+-- what stands in a list stands in a longer one
+at_more : {A : Type 0} (a b : List A) (n : ℕ) (x : A) → get_elem? a n ≡ some x → get_elem? (a ++ b) n ≡ some x
+at_more [] b n x e = absurd (some-ne-none x (sym e))
+at_more (y ∷ ys) b zero x e = e
+at_more (y ∷ ys) b (suc n) x e = at_more ys b n x e
+
+at_inside : {A : Type 0} (a : List A) (n : ℕ) (x : A) → get_elem? a n ≡ some x → n < length a
+at_inside [] n x e = absurd (some-ne-none x (sym e))
+at_inside (y ∷ ys) zero x e = omega arith
+at_inside (y ∷ ys) (suc n) x e = (let less = at_inside ys n x e in omega arith)
+
+ahead_of : {A : Type 0} (a b : List A) (n : ℕ) → n < length a → get_elem? (a ++ b) n ≡ get_elem? a n
+ahead_of [] b n less = absurd (omega arith)
+ahead_of (x ∷ xs) b zero less = refl
+ahead_of (x ∷ xs) b (suc n) less = ahead_of xs b n (omega arith)
+
+-- a call stays one, and was one if it had ended
+pub call_more : (h more : List Event) (begin end : ℕ) (op : Op) (said : Reply) → IsCall h begin end op said → IsCall (h ++ more) begin end op said
+call_more h more begin end op said c = record {
+  seat = c.seat;
+  begins = at_more h more begin (Begins c.seat op) c.begins;
+  later = c.later;
+  none = λ k o low high e. c.none k o low high (sym (ahead_of h more k (let less = at_inside h end (Ends c.seat said) c.ends in omega arith)) ∙ e);
+  ends = at_more h more end (Ends c.seat said) c.ends;
+}
+
+call_less : (h more : List Event) (begin end : ℕ) (op : Op) (said : Reply) → end < length h → IsCall (h ++ more) begin end op said → IsCall h begin end op said
+call_less h more begin end op said less c = record {
+  seat = c.seat;
+  begins = sym (ahead_of h more begin (let later = c.later in omega arith)) ∙ c.begins;
+  later = c.later;
+  none = λ k o low high e. c.none k o low high (at_more h more k (Begins c.seat o) e);
+  ends = sym (ahead_of h more end less) ∙ c.ends;
+}
+
+pub part_on : (seen h more : List Event) → IsPart seen h → IsPart seen (h ++ more)
+part_on seen h more p = (p.0 ++ more, ap (λ l. l ++ more) p.1 ∙ append_assoc seen p.0 more)
+
+pub seen_on : (h more : List Event) (seat : ℕ) (g : Sight) → HasSeen h seat g → HasSeen (h ++ more) seat g
+seen_on h more seat g is = record {
+  part = part_on g.seen h more is.part;
+  began = λ b at. (let was = is.began b at in (was.0, at_more h more b (Begins seat was.0) was.1));
+  mine = λ a has. call_more h more a.begin a.end a.op a.said (is.mine a has);
+}
+
+pub all_on : (h more : List Event) (views : List Known) → AllHaveSeen h views → AllHaveSeen (h ++ more) views
+all_on h more views all seat k at = seen_on h more seat k.sight (all seat k at)
+
+pub all_set : (h : List Event) (views : List Known) (id : ℕ) (k : Known) → AllHaveSeen h views → HasSeen h id k.sight → AllHaveSeen h (set views id k)
+all_set h views id k all mine seat u at = elim (at_set views id seat k u at) [
+  | inl e ↦ subst (λ i. HasSeen h i u.sight) (sym e.0) (subst (λ (x : Known). HasSeen h id x.sight) e.1 mine)
+  | inr e ↦ all seat u e.1
+]
+
+pub all_snoc : (h : List Event) (views : List Known) (k : Known) → AllHaveSeen h views → ((seat : ℕ) → HasSeen h seat k.sight) → AllHaveSeen h (views ++ k ∷ [])
+all_snoc h views k all mine seat u at = elim (at_snoc views k u seat at) [
+  | inl there ↦ all seat u there
+  | inr e ↦ subst (λ (x : Known). HasSeen h seat x.sight) e (mine seat)
+]
+
+-- the longer of two beginnings is one
+pub longer_part : (h a b : List Event) → IsPart a h → IsPart b h → IsPart (longer a b) h
+longer_part h a b one other = by (nat_le (length a) (length b))
+  where
+    by : (c : Bool) → IsPart (if c then b else a) h
+    by true = other
+    by false = one
+
+whole_part : (h : List Event) → IsPart h h
+whole_part h = ([], sym (append-nil h))
+
+-- what a pass has seen after a step call goes by what is shown
+pub marks_shown : (c : Call) (v : View) (old new : Sight) → Marks c v old new → Marks (shown_call c) (shown v) old new
+marks_shown (call.Begin op) v old new m = m
+marks_shown (call.Answer said) v old new m = λ op does. m op does
+marks_shown _ v old new m = m
+
+pub marks_viewed : (c : Call) (v : View) (old new : Sight) → Marks c v old new → Marks c (shown v) old new
+marks_viewed (call.Begin op) v old new m = m
+marks_viewed (call.Answer said) v old new m = λ op does. m op does
+marks_viewed _ v old new m = m
+
+-- a call that neither begins nor answers leaves it
+pub calm_marks : (c : Call) → IsCalm c → (v : View) (old new : Sight) → Marks c v old new → new ≡ old
+calm_marks (call.Begin op) calm v old new m = absurd calm
+calm_marks (call.Answer said) calm v old new m = absurd calm
+calm_marks _ calm v old new m = m
+
+-- lists of calls
+pub has_none : (a : Act) → Has [] a → ⊥
+has_none a h = elim h [ ]
+
+pub has_first : (x : Act) (xs : List Act) (a : Act) → Has (x ∷ xs) a → (x ≡ a) ⊎ Has xs a
+has_first x xs a (latest _ _) = inl refl
+has_first x xs a (earlier _ _ _ h) = inr h
+
+pub has_left : (xs ys : List Act) (a : Act) → Has xs a → Has (xs ++ ys) a
+has_left [] ys a h = absurd (has_none a h)
+has_left (x ∷ xs) ys a (latest _ _) = latest x (xs ++ ys)
+has_left (x ∷ xs) ys a (earlier _ _ _ h) = earlier a x (xs ++ ys) (has_left xs ys a h)
+
+pub has_right : (xs ys : List Act) (a : Act) → Has ys a → Has (xs ++ ys) a
+has_right [] ys a h = h
+has_right (x ∷ xs) ys a h = earlier a x (xs ++ ys) (has_right xs ys a h)
+
+pub has_either : (xs ys : List Act) (a : Act) → Has (xs ++ ys) a → Has xs a ⊎ Has ys a
+has_either [] ys a h = inr h
+has_either (x ∷ xs) ys a (latest _ _) = inl (latest x xs)
+has_either (x ∷ xs) ys a (earlier _ _ _ h) = elim (has_either xs ys a h) [
+  | inl one ↦ inl (earlier a x xs one)
+  | inr one ↦ inr one
+]
+
+-- where a pass began last
+no_begin : (seat : ℕ) (e : Event) → ((o : Op) → e ≢ Begins seat o) → begin_in seat e ≡ None
+no_begin seat (Begins s op) none = ap (λ b. if b then Some (0, op) else None) (ne_eqb s seat (λ same. none op (ap (λ x. Begins x op) same)))
+no_begin seat (Ends s said) none = refl
+no_begin seat Quiet none = refl
+
+none_begins : (seat : ℕ) (h : List Event) → ((k : ℕ) (o : Op) → get_elem? h k ≡ some (Begins seat o) → ⊥) → last_begin seat h ≡ None
+none_begins seat [] none = refl
+none_begins seat (e ∷ es) none =
+    ap (λ l. option_or (option_map (λ (x : ℕ × Op). (x.0 + 1, x.1)) l) (begin_in seat e)) (none_begins seat es (λ k. none (suc k)))
+    ∙ no_begin seat e (λ o is. none 0 o (ap (λ (x : Event). some x) is))
+
+last_is : (seat : ℕ) (h : List Event) (b : ℕ) (op : Op) → get_elem? h b ≡ some (Begins seat op) → ((k : ℕ) (o : Op) → b < k → get_elem? h k ≡ some (Begins seat o) → ⊥) → last_begin seat h ≡ Some (b, op)
+last_is seat [] b op at none = absurd (some-ne-none (Begins seat op) (sym at))
+last_is seat (e ∷ es) zero op at none =
+    ap (λ l. option_or (option_map (λ (x : ℕ × Op). (x.0 + 1, x.1)) l) (begin_in seat e)) (none_begins seat es (λ k o. none (suc k) o (omega arith)))
+    ∙ (ap (begin_in seat) (some-injective e (Begins seat op) at) ∙ ap (λ b. if b then Some (0, op) else None) (eq-eqb seat seat refl))
+last_is seat (e ∷ es) (suc b) op at none =
+    ap (λ l. option_or (option_map (λ (x : ℕ × Op). (x.0 + 1, x.1)) l) (begin_in seat e)) (last_is seat es b op at (λ k o less. none (suc k) o (omega arith)))
+    ∙ (let same : b + 1 ≡ suc b = omega arith in ap (λ n. Some (n, op)) same)
+
+-- calls that were answered by passes
+pub made_set : (h : List Event) (views : List Known) (id : ℕ) (k now : Known) → get_elem? views id ≡ some k → ((a : Act) → Has k.sight.mine a → Has now.sight.mine a) → AreMade h views → AreMade h (set views id now)
+made_set h views id k now here more all begin end op said c =
+    let m = all begin end op said c in
+    elim (cases_eq m.seat id) [
+      | inl same ↦ record {
+        seat = id;
+        knows = now;
+        there = set_there views id now k here;
+        has = more _ (subst (λ (x : Known). Has x.sight.mine (record { begin = begin; end = end; op = op; said = said })) (some-injective m.knows k (sym m.there ∙ (ap (get_elem? views) same ∙ here))) m.has);
+      }
+      | inr other ↦ record { seat = m.seat; knows = m.knows; there = set_else views id m.seat now other ∙ m.there; has = m.has }
+    ]
+
+pub made_snoc : (h : List Event) (views : List Known) (k : Known) → AreMade h views → AreMade h (views ++ k ∷ [])
+made_snoc h views k all begin end op said c =
+    let m = all begin end op said c in record { seat = m.seat; knows = m.knows; there = at_more views (k ∷ []) m.seat m.knows m.there; has = m.has }
+
+pub made_joined : (h : List Event) (views : List Known) (id other : ℕ) (k l both spent : Known) → get_elem? views id ≡ some k → get_elem? views other ≡ some l → other ≢ id
+    → ((a : Act) → Has k.sight.mine a → Has both.sight.mine a) → ((a : Act) → Has l.sight.mine a → Has both.sight.mine a) → AreMade h views → AreMade h (set (set views id both) other spent)
+made_joined h views id other k l both spent here there aside left right all begin end op said c =
+    let m = all begin end op said c in
+    let a : Act = record { begin = begin; end = end; op = op; said = said } in
+    let now : get_elem? (set (set views id both) other spent) id ≡ some both = set_else (set views id both) other id spent (λ e. aside (sym e)) ∙ set_there views id both k here in
+    elim (cases_eq m.seat id) [
+      | inl same ↦ record {
+        seat = id;
+        knows = both;
+        there = now;
+        has = left a (subst (λ (x : Known). Has x.sight.mine a) (some-injective m.knows k (sym m.there ∙ (ap (get_elem? views) same ∙ here))) m.has);
+      }
+      | inr apart ↦ elim (cases_eq m.seat other) [
+        | inl same ↦ record {
+          seat = id;
+          knows = both;
+          there = now;
+          has = right a (subst (λ (x : Known). Has x.sight.mine a) (some-injective m.knows l (sym m.there ∙ (ap (get_elem? views) same ∙ there))) m.has);
+        }
+        | inr far ↦ record { seat = m.seat; knows = m.knows; there = set_else (set views id both) other m.seat spent far ∙ (set_else views id m.seat both apart ∙ m.there); has = m.has }
+      ]
+    ]
+
+-- one event more: what ends there was answered
+made_more : (h : List Event) (e : Event) (views : List Known) → AreMade h views
+    → ((begin : ℕ) (op : Op) (said : Reply) → IsCall (h ++ e ∷ []) begin (length h) op said → IsMadeBy views (record { begin = begin; end = length h; op = op; said = said }))
+    → AreMade (h ++ e ∷ []) views
+made_more h e views all last begin end op said c = elim (cases_lt end (length h)) [
+  | inl less ↦ all begin end op said (call_less h (e ∷ []) begin end op said less c)
+  | inr most ↦
+      let inside = at_inside (h ++ e ∷ []) end (Ends c.seat said) c.ends in
+      let long = one_longer h e in
+      let same : length h ≡ end = omega arith in
+      subst (λ n. IsMadeBy views (record { begin = begin; end = n; op = op; said = said })) same (last begin op said (subst (λ n. IsCall (h ++ e ∷ []) begin n op said) (sym same) c))
+]
+  where
+    one_longer : (h : List Event) (e : Event) → length (h ++ e ∷ []) ≡ length h + 1
+    one_longer [] e = refl
+    one_longer (x ∷ xs) e = (let rest = one_longer xs e in omega arith)
+
+no_end : (h : List Event) (e : Event) → ((seat : ℕ) (said : Reply) → e ≢ Ends seat said) → (begin : ℕ) (op : Op) (said : Reply) → IsCall (h ++ e ∷ []) begin (length h) op said → ⊥
+no_end h e none begin op said c = none c.seat said (some-injective e (Ends c.seat said) (sym (behind h (e ∷ []) 0 (length h) (omega arith)) ∙ c.ends))
+
+pub made_quiet : (h : List Event) (views : List Known) → AreMade h views → AreMade (h ++ Quiet ∷ []) views
+made_quiet h views all = made_more h Quiet views all (λ begin op said c. absurd (no_end h Quiet (λ seat said e. cc) begin op said c))
+
+-- two calls that end together are one
+one_call : (h : List Event) (begin other end : ℕ) (op o : Op) (said r : Reply) → IsCall h begin end op said → IsCall h other end o r → (begin ≡ other) × (op ≡ o) × (said ≡ r)
+one_call h begin other end op o said r c d =
+    let both = ends_same c.seat d.seat said r (some-injective (Ends c.seat said) (Ends d.seat r) (sym c.ends ∙ d.ends)) in
+    let its = subst (λ n. get_elem? h other ≡ some (Begins n o)) (sym both.0) d.begins in
+    let place : begin ≡ other = elim (cases_lt begin other) [
+      | inl low ↦ absurd (c.none other o low d.later its)
+      | inr most ↦ elim (cases_lt other begin) [
+        | inl low ↦ absurd (d.none begin op low c.later (subst (λ n. get_elem? h begin ≡ some (Begins n op)) both.0 c.begins))
+        | inr least ↦ omega arith
+      ]
+    ] in
+    (place, begins_same c.seat op o (some-injective (Begins c.seat op) (Begins c.seat o) (sym c.begins ∙ (ap (get_elem? h) place ∙ its))), both.1)
+  where
+    ends_same : (a b : ℕ) (x y : Reply) → Ends a x ≡ Ends b y → (a ≡ b) × (x ≡ y)
+    ends_same a b x y e = (cc, cc)
+
+    begins_same : (a : ℕ) (x y : Op) → Begins a x ≡ Begins a y → x ≡ y
+    begins_same a x y e = cc
+
+-- who was answered nothing has no calls
+pub silent_set : (views : List Known) (id : ℕ) (k : Known) → AreSilent views → (k.tree.answers ≡ [] → k.sight.mine ≡ []) → AreSilent (set views id k)
+silent_set views id k all mine seat u at = elim (at_set views id seat k u at) [
+  | inl e ↦ subst (λ (x : Known). x.tree.answers ≡ [] → x.sight.mine ≡ []) e.1 mine
+  | inr e ↦ all seat u e.1
+]
+
+pub silent_snoc : (views : List Known) (k : Known) → AreSilent views → (k.tree.answers ≡ [] → k.sight.mine ≡ []) → AreSilent (views ++ k ∷ [])
+silent_snoc views k all mine seat u at = elim (at_snoc views k u seat at) [
+  | inl there ↦ all seat u there
+  | inr e ↦ subst (λ (x : Known). x.tree.answers ≡ [] → x.sight.mine ≡ []) e mine
+]
+
+pub both_none : {A : Type 0} (xs ys : List A) → xs ++ ys ≡ [] → (xs ≡ []) × (ys ≡ [])
+both_none [] ys e = (refl, e)
+both_none (x ∷ xs) ys e = absurd (cc)
+
+pub silent_call : (plan : TablePlan) (c : Call) (n : ℕ) (v : View) (seat : ℕ) (h : List Event) (g : Sight) → May plan c v → (v.answers ≡ [] → g.mine ≡ []) → (after c n v).answers ≡ [] → (marked c seat h g).mine ≡ []
+silent_call plan (call.Begin op) n v seat h g may was none = was none
+silent_call plan (call.Answer said) n v seat h g may was none =
+    let op = may.op in
+    let same : (after (call.Answer said) n v).answers ≡ deed_taking op said (taken_by (Some op) v.worker.card said v.told) v.answers ∷ v.answers =
+    ap (λ o. with_answer o said (taken_by o v.worker.card said v.told) v.answers) may.busy in
+    absurd (filled _ v.answers (sym same ∙ none))
+  where
+    filled : {A : Type 0} (x : A) (xs : List A) → x ∷ xs ≡ [] → ⊥
+    filled x xs e = cc
+silent_call plan c n v seat h g may was none = was (sym (answers_stay c n v tt) ∙ none)
+
+-- the call that a pass answers is one of the history up to its answer, which it began no earlier than it began last
+module _ (plan : TablePlan) (s : TableState) (h : IsReached plan s) (id : ℕ) (v : View) (here : get_elem? s.views id ≡ some v) where
+  abbrev past : List Event
+  past = history_of h.turns
+
+  abbrev ends_call : (said : Reply) (op : Op) → Does v op → (g : Sight) → HasSeen past id g → SeesEnd op said g (marked (call.Answer said) id past g)
+  ends_call said op does g is =
+      let turns = h.turns ++ Makes id (call.Answer said) ∷ [] in
+      let b = begun_of plan h.first h.starts h.turns s h.run (length h.turns) (omega arith) id op
+      (record { view = v; there = subst (λ (x : TableState). get_elem? x.views id ≡ some v) (at_end plan h.first h.turns s h.run) here; does = does }) in
+      let ended : IsAnswered turns b.begin (length h.turns) op said = record {
+        seat = id;
+        begins = at_more h.turns (Makes id (call.Answer said) ∷ []) b.begin (Makes id (call.Begin op)) b.begins;
+        later = b.later;
+        on = λ k t low high e. b.on k t low high (before k t high e);
+        answers = behind h.turns (Makes id (call.Answer said) ∷ []) 0 (length h.turns) (omega arith);
+      } in
+      let its : IsCall (past ++ Ends id said ∷ []) b.begin (length past) op said =
+      subst (λ l. IsCall l b.begin (length past) op said) (history_snoc h.turns (Makes id (call.Answer said)))
+      (subst (λ n. IsCall (history_of turns) b.begin n op said) (sym (history_long h.turns)) (call_of turns b.begin (length h.turns) op said ended)) in
+      record {
+        seat = id;
+        before = past;
+        more = is.part;
+        seen = refl;
+        begin = b.begin;
+        call = its;
+        last = λ n at. no_later n (is.began n at) b.begin b.on;
+        begun = refl;
+        mine = ap (λ o. with_act o (length past) said g.mine) (last_is id past b.begin op (begins_it b.begin b.begins) (λ k o late at. none_later k o b.begin b.on late at));
+      }
+    where
+      before : (k : ℕ) (t : Turn) → k < length h.turns → get_elem? (h.turns ++ Makes id (call.Answer said) ∷ []) k ≡ some t → get_elem? h.turns k ≡ some t
+      before k t less e = sym (inside_of h.turns (Makes id (call.Answer said) ∷ []) k less) ∙ e
+        where
+          inside_of : {A : Type 0} (a b : List A) (n : ℕ) → n < length a → get_elem? (a ++ b) n ≡ get_elem? a n
+          inside_of [] b n less = absurd (omega arith)
+          inside_of (x ∷ xs) b zero less = refl
+          inside_of (x ∷ xs) b (suc n) less = inside_of xs b n (omega arith)
+
+      begins_it : (n : ℕ) → get_elem? h.turns n ≡ some (Makes id (call.Begin op)) → get_elem? past n ≡ some (Begins id op)
+      begins_it n at = at_map event_of h.turns n (Makes id (call.Begin op)) at
+
+      none_later : (k : ℕ) (o : Op) (begin : ℕ) → KeepsOnBetween id h.turns begin (length h.turns) → begin < k → get_elem? past k ≡ some (Begins id o) → ⊥
+      none_later k o begin on late at =
+          let inside = at_inside past k (Begins id o) at in
+          let long = history_long h.turns in
+          (on k (Makes id (call.Begin o)) late (omega arith) (begin_at h.turns k id o at)).0 refl
+
+      no_later : (n : ℕ) → BeganAt past id n → (begin : ℕ) → KeepsOnBetween id h.turns begin (length h.turns) → n ≤ begin
+      no_later n began begin on = elim (cases_lt begin n) [
+        | inl late ↦
+            let inside = at_inside past n (Begins id began.0) began.1 in
+            let long = history_long h.turns in
+            absurd ((on n (Makes id (call.Begin began.0)) late (omega arith) (begin_there n began.0 began.1)).0 refl)
+        | inr most ↦ most
+      ]
+        where
+          begin_there : (n : ℕ) (op : Op) → get_elem? past n ≡ some (Begins id op) → get_elem? h.turns n ≡ some (Makes id (call.Begin op))
+          begin_there n op at = begin_at h.turns n id op at
+
+  -- what the call leaves has seen a beginning of the history, and its calls are some of it
+  pub marked_seen : (c : Call) → May plan c v → (g : Sight) → HasSeen past id g → HasSeen (past ++ event_of (Makes id c) ∷ []) id (marked c id past g)
+  marked_seen (call.Begin op) may g is = record {
+    part = whole_part (past ++ Begins id op ∷ []);
+    began = λ b at. (let same : length past ≡ b = same_Some (length past) b at in
+        (op, ap (get_elem? (past ++ Begins id op ∷ [])) (sym same) ∙ behind past (Begins id op ∷ []) 0 (length past) (omega arith)));
+    mine = λ a has. call_more past (Begins id op ∷ []) a.begin a.end a.op a.said (is.mine a has);
+  }
+  marked_seen (call.Answer said) may g is =
+      let e = ends_call said may.op may.busy g is in record {
+        part = whole_part (past ++ Ends id said ∷ []);
+        began = (seen_on past (Ends id said ∷ []) id g is).began;
+        mine = λ a has. elim (has_first (record { begin = e.begin; end = length past; op = may.op; said = said }) g.mine a (subst (λ l. Has l a) e.mine has)) [
+          | inl same ↦ subst (λ (x : Act). IsCall (past ++ Ends id said ∷ []) x.begin x.end x.op x.said) same e.call
+          | inr was ↦ call_more past (Ends id said ∷ []) a.begin a.end a.op a.said (is.mine a was)
+        ];
+      }
+  marked_seen _ may g is = seen_on past (Quiet ∷ []) id g is
+
+  -- and each call of the history was answered by a pass
+  pub made_by : (c : Call) → May plan c v → (views : List Known) (k : Known) → get_elem? views id ≡ some k → (now : Known) → now.sight ≡ marked c id past k.sight → HasSeen past id k.sight
+      → AreMade past views → AreMade (past ++ event_of (Makes id c) ∷ []) (set views id now)
+  made_by (call.Begin op) may views k at now is seen all =
+      made_more past (Begins id op) (set views id now)
+      (made_set past views id k now at (λ a has. subst (λ l. Has l a) (sym (ap (λ (g : Sight). g.mine) is)) has) all)
+      (λ begin o said c. absurd (no_end past (Begins id op) (λ seat r e. cc) begin o said c))
+  made_by (call.Answer said) may views k at now is seen all =
+      let e = ends_call said may.op may.busy k.sight seen in
+      let its : now.sight.mine ≡ record { begin = e.begin; end = length past; op = may.op; said = said } ∷ k.sight.mine =
+      ap (λ (g : Sight). g.mine) is ∙ e.mine in
+      made_more past (Ends id said) (set views id now)
+      (made_set past views id k now at (λ a has. subst (λ l. Has l a) (sym its) (earlier a _ k.sight.mine has)) all)
+      (λ begin o r c. (let one = one_call (past ++ Ends id said ∷ []) e.begin begin (length past) may.op o said r e.call c in record {
+        seat = id;
+        knows = now;
+        there = set_there views id now k at;
+        has = subst (λ l. Has l (record { begin = begin; end = length past; op = o; said = r })) (sym its)
+            (subst (λ (x : Act). Has (record { begin = e.begin; end = length past; op = may.op; said = said } ∷ k.sight.mine) x) (λ i. record { begin = one.0 i; end = length past; op = one.1 i; said = one.2 i }) (latest _ k.sight.mine));
+      }))
+  made_by _ may views k at now is seen all =
+      made_quiet past (set views id now)
+      (made_set past views id k now at (λ a has. subst (λ l. Has l a) (sym (ap (λ (g : Sight). g.mine) is)) has) all)
+
+  -- what a step call lets a pass see
+  pub marks_now : (c : Call) (g : Sight) → HasSeen past id g → Marks c v g (marked c id past g)
+  marks_now (call.Begin op) g is = record { seat = id; before = past; more = is.part; seen = refl; begun = refl; mine = refl }
+  marks_now (call.Answer said) g is = λ op does. ends_call said op does g is
+  marks_now _ g is = refl
+
+-- a beginning of a history is that of the first turns of the run
+first_turns : (turns : List Turn) (seen rest : List Event) → history_of turns ≡ seen ++ rest → history_of (take (length seen) turns) ≡ seen
+first_turns turns [] rest is = refl
+first_turns [] (e ∷ es) rest is = absurd (cc)
+first_turns (t ∷ ts) (e ∷ es) rest is =
+    let head : event_of t ≡ e = cc in
+    let tail : history_of ts ≡ es ++ rest = cc in
+    (λ i. head i ∷ first_turns ts es rest tail i)
+
+-- what a pass has seen is linearizable
+pub seen_linear : (plan : TablePlan) (s : TableState) (h : IsReached plan s) (seat : ℕ) (g : Sight) → HasSeen (history_of h.turns) seat g → IsLinearizable (contents_of plan.start) g.seen
+seen_linear plan s h seat g is =
+    let n = length g.seen in
+    subst (IsLinearizable (contents_of plan.start)) (first_turns h.turns g.seen is.part.0 is.part.1)
+    (histories_are_linearizable plan h.first h.starts (take n h.turns) (state_at plan h.first h.turns s h.run n) (run_to plan h.first h.turns s h.run n)).linear
+
+-- of what two passes have seen one is a beginning of the other
+pub seen_in_line : (h : List Event) (a b : List Event) → IsPart a h → IsPart b h → IsPart a b ⊎ IsPart b a
+seen_in_line h [] b one other = inl (b, refl)
+seen_in_line h (x ∷ xs) [] one other = inr (x ∷ xs, refl)
+seen_in_line [] (x ∷ xs) (y ∷ ys) one other = absurd (cc)
+seen_in_line (z ∷ zs) (x ∷ xs) (y ∷ ys) one other =
+    let same : x ≡ y = (let a : z ≡ x = cc in let b : z ≡ y = cc in sym a ∙ b) in
+    elim (seen_in_line zs xs ys (one.0, cc) (other.0, cc)) [
+      | inl p ↦ inl (p.0, (λ i. sym same i ∷ p.1 i))
+      | inr p ↦ inr (p.0, (λ i. same i ∷ p.1 i))
+    ]
+
+-- what a pass with the whole share knows of the whole history
+pub whole_story : (plan : TablePlan) (s : TableState) (h : IsReached plan s) (views : List Known) → trees_of views ≡ s.views → plan.shared ≡ true
+    → AllHaveSeen (history_of h.turns) views → AreMade (history_of h.turns) views → AreSilent views
+    → (seat : ℕ) (k : Known) → get_elem? views seat ≡ some k → k.tree.share ≡ whole_share → IsFree k.tree → HasWholeStory (contents_of plan.start) (history_of h.turns) k.sight.mine
+whole_story plan s h views same mode seen made silent seat k here whole free = record {
+  linear = linear_of plan h.first h.turns s (lin plan h.first h.starts h.turns s h.run);
+  calls = (seen seat k here).mine;
+  all = λ item at.
+      let e = ended_only plan h.first h.starts h.turns s h.run there.free item at in
+      let m = made item.begin e.0 item.op item.reply (call_of h.turns item.begin e.0 item.op item.reply e.1) in (
+        e.0,
+        elim (there.silent m.seat m.knows.tree (tree_of views same m.seat m.knows m.there)) [
+          | inl is ↦ subst (λ (x : Known). Has x.sight.mine (record { begin = item.begin; end = e.0; op = item.op; said = item.reply })) (some-injective m.knows k (sym m.there ∙ (ap (get_elem? views) is ∙ here))) m.has
+          | inr none ↦ absurd (has_none _ (subst (λ l. Has l (record { begin = item.begin; end = e.0; op = item.op; said = item.reply })) (silent m.seat m.knows m.there none) m.has))
+        ],
+      );
+}
+  where
+    tree_of : (l : List Known) → trees_of l ≡ s.views → (j : ℕ) (u : Known) → get_elem? l j ≡ some u → get_elem? s.views j ≡ some u.tree
+    tree_of l same j u at = ap (λ v. get_elem? v j) (sym same) ∙ at_map (λ (x : Known). x.tree) l j u at
+
+    there : IsAllThere s seat
+    there = all_there plan s mode h seat k.tree (ap (λ v. get_elem? v seat) (sym same) ∙ at_map (λ (x : Known). x.tree) views seat k here) whole free

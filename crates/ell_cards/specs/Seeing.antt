@@ -1,0 +1,121 @@
+use Rattle.std.specs.Prelude.{◌≡◌, ℕ, ◌+◌, ◌≤◌, ◌==◌, if◌then◌else◌, option_map, Option, Some, None, List, [], ◌∷◌, ◌++◌, length}
+use Rattle.std.specs.Option.{option_or}
+use mathlib.Core.Option.{some}
+use lib.ListN.{get_elem?}
+use Rattle.ell_ops.specs.declared.op.Op.{Op}
+use Rattle.ell_ops.specs.declared.reply.Reply.{Reply}
+use Rattle.ell_ops.specs.Contents.{Contents}
+use Rattle.ell_cards.specs.declared.call.Call.{Call}
+use Rattle.ell_cards.specs.declared.call.Call.TheVariants as call
+use Rattle.ell_cards.specs.declared.view.Act.{Act}
+use Rattle.ell_cards.specs.declared.view.Event.{Event}
+use Rattle.ell_cards.specs.declared.view.Event.TheVariants.{Begins, Ends}
+use Rattle.ell_cards.specs.declared.view.Known.{Known}
+use Rattle.ell_cards.specs.declared.view.Sight.{Sight}
+use Rattle.ell_cards.specs.declared.view.View.{View}
+use Rattle.ell_cards.specs.Histories.{IsCall, IsLinearizable}
+use Rattle.ell_cards.specs.Linearizing.{Item, HasItem}
+use Rattle.ell_cards.specs.Models.{Has}
+use Rattle.ell_cards.specs.Sights.{IsPart}
+
+-- the pass in a seat began an operation there
+abbrev pub BeganAt : List Event → ℕ → ℕ → Type 0
+BeganAt history seat b = (op : Op) × (get_elem? history b ≡ some (Begins seat op))
+
+-- what the pass in a seat has seen is a beginning of the history, in which it began an operation where it says, and its
+-- calls are calls of the history
+pub record HasSeen (history : List Event) (seat : ℕ) (g : Sight) : Type 0 where
+  pub part : IsPart g.seen history
+  pub began : (b : ℕ) → g.begun ≡ Some b → BeganAt history seat b
+  pub mine : (a : Act) → Has g.mine a → IsCall history a.begin a.end a.op a.said
+
+-- so it is of each pass of a table
+abbrev pub AllHaveSeen : List Event → List Known → Type 0
+AllHaveSeen history views = (seat : ℕ) (k : Known) → get_elem? views seat ≡ some k → HasSeen history seat k.sight
+
+-- a pass of the table answered a call
+pub record IsMadeBy (views : List Known) (a : Act) : Type 0 where
+  pub seat : ℕ
+  pub knows : Known
+  pub there : get_elem? views seat ≡ some knows
+  pub has : Has knows.sight.mine a
+
+-- each call of the history is one that a pass answered
+abbrev pub AreMade : List Event → List Known → Type 0
+AreMade history views = (begin end : ℕ) (op : Op) (said : Reply) → IsCall history begin end op said
+    → IsMadeBy views (record { begin = begin; end = end; op = op; said = said })
+
+-- a pass that was answered nothing has no calls
+abbrev pub AreSilent : List Known → Type 0
+AreSilent views =
+    (seat : ℕ) (k : Known) → get_elem? views seat ≡ some k → k.tree.answers ≡ [] → k.sight.mine ≡ []
+
+-- the operation that an event begins, if the pass in the seat begins one there
+abbrev pub begin_in : ℕ → Event → Option (ℕ × Op)
+begin_in seat (Begins s op) = if s == seat then Some (0, op) else None
+begin_in seat _ = None
+
+-- where the pass in a seat began an operation last, and which
+abbrev pub last_begin : ℕ → List Event → Option (ℕ × Op)
+last_begin seat [] = None
+last_begin seat (e ∷ es) = option_or (option_map (λ x. (x.0 + 1, x.1)) (last_begin seat es)) (begin_in seat e)
+
+-- the calls with one more, which ends here
+abbrev pub with_act : Option (ℕ × Op) → ℕ → Reply → List Act → List Act
+with_act None end said mine = mine
+with_act (Some b) end said mine = record { begin = b.0; end = end; op = b.1; said = said } ∷ mine
+
+-- what a pass notes of the history, which is this up to its step: where it begins an operation or answers it, it has
+-- seen all of it
+abbrev pub marked : Call → ℕ → List Event → Sight → Sight
+marked (call.Begin op) seat history g =
+    record g { seen = history ++ Begins seat op ∷ []; begun = Some (length history) }
+marked (call.Answer said) seat history g =
+    record g {
+      seen = history ++ Ends seat said ∷ [];
+      mine = with_act (last_begin seat history) (length history) said g.mine;
+    }
+marked _ seat history g = g
+
+-- The pass begins an operation, and has seen the history up to that: it begins behind all that the pass had seen.
+pub record SeesBegin (op : Op) (old new : Sight) : Type 0 where
+  pub seat : ℕ
+  pub before : List Event
+  pub more : IsPart old.seen before
+  pub seen : new.seen ≡ before ++ Begins seat op ∷ []
+  pub begun : new.begun ≡ Some (length before)
+  pub mine : new.mine ≡ old.mine
+
+-- The pass answers an operation, and has seen the history up to that: its last call is the pass's own, which it began no
+-- earlier than the operation that it had begun last.
+pub record SeesEnd (op : Op) (said : Reply) (old new : Sight) : Type 0 where
+  pub seat : ℕ
+  pub before : List Event
+  pub more : IsPart old.seen before
+  pub seen : new.seen ≡ before ++ Ends seat said ∷ []
+  pub begin : ℕ
+  pub call : IsCall new.seen begin (length before) op said
+  pub last : (b : ℕ) → old.begun ≡ Some b → b ≤ begin
+  pub begun : new.begun ≡ old.begun
+  pub mine : new.mine ≡ record { begin = begin; end = length before; op = op; said = said } ∷ old.mine
+
+-- what a pass that knows this of the tree has seen after a step call, where it had seen that before
+abbrev pub Marks : Call → View → Sight → Sight → Type 0
+Marks (call.Begin op) v old new = SeesBegin op old new
+Marks (call.Answer said) v old new = (op : Op) → v.worker.operation ≡ Some op → SeesEnd op said old new
+Marks _ v old new = new ≡ old
+
+-- a step call that neither begins an operation nor answers one
+abbrev pub IsCalm : Call → Type 0
+IsCalm (call.Begin op) = ⊥
+IsCalm (call.Answer said) = ⊥
+IsCalm _ = Unit {0}
+
+-- What a pass with the whole share, which has nothing in hand, may know of all that was done with its table up to now,
+-- where only the plan's keys have owners: this is one history, which is linearizable; the pass's calls are some of it;
+-- and its order has no others.
+pub record HasWholeStory (start : Contents) (history : List Event) (mine : List Act) : Type 0 where
+  pub linear : IsLinearizable start history
+  pub calls : (a : Act) → Has mine a → IsCall history a.begin a.end a.op a.said
+  pub all : (item : Item) → HasItem linear.order item
+      → (end : ℕ) × Has mine (record { begin = item.begin; end = end; op = item.op; said = item.reply })

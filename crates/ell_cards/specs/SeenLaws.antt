@@ -1,0 +1,31 @@
+use Rattle.std.specs.Prelude.{◌≡◌, ℕ, ◌⊎◌, true}
+use mathlib.Core.Option.{some}
+use lib.ListN.{get_elem?}
+use Rattle.ell_ops.specs.Contents.{contents_of}
+use Rattle.ell_cards.specs.declared.view.Known.{Known}
+use Rattle.ell_cards.specs.Histories.{IsLinearizable, history_of}
+use Rattle.ell_cards.specs.Models.{TablePlan, IsFree, whole_share}
+use Rattle.ell_cards.specs.Periods.{WholeState}
+use Rattle.ell_cards.specs.Seeing.{HasWholeStory}
+use Rattle.ell_cards.specs.Sights.{IsPart}
+use Rattle.ell_cards.specs.Whole.{IsWhole}
+
+-- what each pass has seen of its table's history is linearizable
+abbrev pub SeenIsLinearizable : Type 0
+SeenIsLinearizable =
+    (plan : TablePlan) (t : WholeState) → IsWhole plan t → (seat : ℕ) (k : Known) → get_elem? t.views seat ≡ some k
+    → IsLinearizable (contents_of plan.start) k.sight.seen
+
+-- and of what two passes have seen one is a beginning of the other
+abbrev pub SeenIsInLine : Type 0
+SeenIsInLine =
+    (plan : TablePlan) (t : WholeState) → IsWhole plan t → (i j : ℕ) (k l : Known)
+    → get_elem? t.views i ≡ some k → get_elem? t.views j ≡ some l
+    → IsPart k.sight.seen l.sight.seen ⊎ IsPart l.sight.seen k.sight.seen
+
+-- a pass with the whole share made all calls
+abbrev pub WholeStoriesAreTold : Type 0
+WholeStoriesAreTold =
+    (plan : TablePlan) (t : WholeState) (h : IsWhole plan t) → plan.shared ≡ true
+    → (seat : ℕ) (k : Known) → get_elem? t.views seat ≡ some k → k.tree.share ≡ whole_share → IsFree k.tree
+    → HasWholeStory (contents_of plan.start) (history_of h.reached.turns) k.sight.mine
