@@ -19,9 +19,11 @@ use Rattle.ell_cards.specs.declared.glance.Glance.{Glance}
 use Rattle.ell_cards.specs.declared.view.Told.{Told}
 use Rattle.ell_cards.specs.declared.view.View.{View}
 use Rattle.ell_cards.specs.declared.view.Seek.{Seek}
+use Rattle.ell_cards.specs.declared.view.Sight.{Sight}
 use Rattle.ell_cards.specs.declared.view.Survey.{Survey}
 use Rattle.ell_cards.specs.declared.view.Slots.{Slots}
 use Rattle.ell_cards.specs.Seeking.{begun_seek, no_seek, no_survey}
+use Rattle.ell_cards.specs.Sights.{given_sight}
 use Rattle.ell_cards.specs.declared.call.NewNode.{NewNode}
 
 -- what a table opens with: the keys that may have owners, the start pairs, the last card, if all other keys are
@@ -59,7 +61,7 @@ pub record TableModel : Type 0 where
 -- the table that a pass belongs to, what is shown of what it knows, the atomic steps made through it, its label,
 -- its safe number: every pass that is in a period began it when the clock was that at least; and, if the table has
 -- places, whether it is in a period itself, what it saw when it looked at all places last, the card whose slot it has
--- taken last, and what it has read in its last search for one
+-- taken last, and what it has read in its last search for one; and what it knows of the table's history
 pub record PassModel : Type 0 where
   pub table : TableId
   pub view : View
@@ -70,6 +72,7 @@ pub record PassModel : Type 0 where
   pub surveyed : Survey
   pub slot : Option ℕ
   pub sought : Seek
+  pub sight : Sight
 
 -- the ledger of a pass: each key of its own with whether it is present, and with which value
 abbrev pub ledger : PassModel → Ledger
@@ -103,6 +106,10 @@ some_more n steps = min (steps + n) 18446744073709551615
 abbrev pub Sees : PassModel → PassModel → View → Type 0
 Sees old new v = new ≡ record old { view = v }
 
+-- or knows more of the history, too
+abbrev pub SeesOn : PassModel → PassModel → View → Type 0
+SeesOn old new v = new ≡ record old { view = v; sight = new.sight }
+
 -- the pass counted so many steps, and made none
 abbrev pub Counts : PassModel → PassModel → ℕ → Type 0
 Counts old new n = new ≡ record old { steps = some_more n old.steps }
@@ -111,14 +118,19 @@ Counts old new n = new ≡ record old { steps = some_more n old.steps }
 abbrev pub Steps : PassModel → PassModel → View → Type 0
 Steps old new v = new ≡ record old { view = v; steps = one_more old.steps }
 
--- the pass made one step by which it began an operation, and knows this now; if there are places, it is in a period, and
--- slots that it could not take are counted anew
+-- or knows more of the history, too
+abbrev pub StepsOn : PassModel → PassModel → View → Type 0
+StepsOn old new v = new ≡ record old { view = v; steps = one_more old.steps; sight = new.sight }
+
+-- the pass made one step by which it began an operation, and knows this now, and more of the history; if there are
+-- places, it is in a period, and slots that it could not take are counted anew
 abbrev pub BeginsBy : Option Slots → PassModel → PassModel → View → Type 0
 BeginsBy slots old new v = new ≡ record old {
   view = v;
   steps = one_more old.steps;
   inside = is_some slots;
   sought = begun_seek old.sought;
+  sight = new.sight;
 }
 
 -- or by which it began a look, and did not count the step
@@ -129,8 +141,13 @@ LooksBy slots old new v = new ≡ record old { view = v; inside = is_some slots 
 abbrev pub EndsBy : PassModel → PassModel → View → Type 0
 EndsBy old new v = new ≡ record old { view = v; steps = one_more old.steps; inside = false }
 
+-- and by which it answered an operation: it knows more of the history
+abbrev pub AnswersBy : PassModel → PassModel → View → Type 0
+AnswersBy old new v =
+    new ≡ record old { view = v; steps = one_more old.steps; inside = false; sight = new.sight }
+
 -- the pass came from another one by a step that both count, and knows this; it is in no period, has looked at no place
--- yet, and has taken and sought no slot
+-- yet, has taken and sought no slot, and has seen of the history what the other one has
 abbrev pub StepsOut : PassModel → PassModel → View → Type 0
 StepsOut old new v =
     new ≡ record {
@@ -143,6 +160,7 @@ StepsOut old new v =
       surveyed = no_survey;
       slot = None;
       sought = no_seek;
+      sight = given_sight old.sight;
     }
 
 -- of a list, the last first, one is this

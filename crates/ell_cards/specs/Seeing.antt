@@ -1,10 +1,10 @@
-use Rattle.std.specs.Prelude.{◌≡◌, ℕ, ◌+◌, ◌≤◌, ◌==◌, if◌then◌else◌, option_map, Option, Some, None, List, [], ◌∷◌, ◌++◌, length}
+use Rattle.std.specs.Prelude.{◌≡◌, ◌≢◌, ℕ, ◌+◌, ◌≤◌, ◌==◌, if◌then◌else◌, true, option_map, Option, Some, None, List, [], ◌∷◌, ◌++◌, length}
 use Rattle.std.specs.Option.{option_or}
 use mathlib.Core.Option.{some}
 use lib.ListN.{get_elem?}
 use Rattle.ell_ops.specs.declared.op.Op.{Op}
 use Rattle.ell_ops.specs.declared.reply.Reply.{Reply}
-use Rattle.ell_ops.specs.Contents.{Contents}
+use Rattle.ell_ops.specs.Contents.{contents_of}
 use Rattle.ell_cards.specs.declared.call.Call.{Call}
 use Rattle.ell_cards.specs.declared.call.Call.TheVariants as call
 use Rattle.ell_cards.specs.declared.view.Act.{Act}
@@ -15,7 +15,7 @@ use Rattle.ell_cards.specs.declared.view.Sight.{Sight}
 use Rattle.ell_cards.specs.declared.view.View.{View}
 use Rattle.ell_cards.specs.Histories.{IsCall, IsLinearizable}
 use Rattle.ell_cards.specs.Linearizing.{Item, HasItem}
-use Rattle.ell_cards.specs.Models.{Has}
+use Rattle.ell_cards.specs.Models.{Has, IsFree, TablePlan, whole_share}
 use Rattle.ell_cards.specs.Sights.{IsPart}
 
 -- the pass in a seat began an operation there
@@ -44,6 +44,21 @@ pub record IsMadeBy (views : List Known) (a : Act) : Type 0 where
 abbrev pub AreMade : List Event → List Known → Type 0
 AreMade history views = (begin end : ℕ) (op : Op) (said : Reply) → IsCall history begin end op said
     → IsMadeBy views (record { begin = begin; end = end; op = op; said = said })
+
+-- no call of a list begins there
+abbrev pub BeginsElse : ℕ → List Act → Type 0
+BeginsElse begin mine = (a : Act) → Has mine a → a.begin ≢ begin
+
+-- each call of a list stands in it once: no two of its calls begin together
+abbrev pub AreApart : List Act → Type 0
+AreApart [] = Unit {0}
+AreApart (a ∷ mine) = BeginsElse a.begin mine × AreApart mine
+
+-- and in the lists of all passes of a table
+pub record AreAllApart (views : List Known) : Type 0 where
+  pub each : (seat : ℕ) (k : Known) → get_elem? views seat ≡ some k → AreApart k.sight.mine
+  pub others : (i j : ℕ) (k l : Known) → get_elem? views i ≡ some k → get_elem? views j ≡ some l → i ≢ j
+      → (a b : Act) → Has k.sight.mine a → Has l.sight.mine b → a.begin ≢ b.begin
 
 -- a pass that was answered nothing has no calls
 abbrev pub AreSilent : List Known → Type 0
@@ -111,11 +126,18 @@ IsCalm (call.Begin op) = ⊥
 IsCalm (call.Answer said) = ⊥
 IsCalm _ = Unit {0}
 
--- What a pass with the whole share, which has nothing in hand, may know of all that was done with its table up to now,
--- where only the plan's keys have owners: this is one history, which is linearizable; the pass's calls are some of it;
--- and its order has no others.
-pub record HasWholeStory (start : Contents) (history : List Event) (mine : List Act) : Type 0 where
-  pub linear : IsLinearizable start history
-  pub calls : (a : Act) → Has mine a → IsCall history a.begin a.end a.op a.said
-  pub all : (item : Item) → HasItem linear.order item
-      → (end : ℕ) × Has mine (record { begin = item.begin; end = end; op = item.op; said = item.reply })
+-- a pass has seen more of the history, and has the calls that it had
+pub record HasSeenMore (old new : Sight) : Type 0 where
+  pub more : IsPart old.seen new.seen
+  pub begun : new.begun ≡ old.begun
+  pub mine : new.mine ≡ old.mine
+
+-- What a pass knows that has seen all of its table's history up to now: the history is linearizable; the calls that the
+-- pass was answered, it and those that were joined to it, are calls of it, and no two are one; and where only the plan's
+-- keys have owners, and the pass has the whole share and nothing in hand, the order has no others.
+pub record HasSeenAll (plan : TablePlan) (v : View) (g : Sight) : Type 0 where
+  pub linear : IsLinearizable (contents_of plan.start) g.seen
+  pub calls : (a : Act) → Has g.mine a → IsCall g.seen a.begin a.end a.op a.said
+  pub apart : AreApart g.mine
+  pub all : plan.shared ≡ true → v.share ≡ whole_share → IsFree v → (item : Item) → HasItem linear.order item
+      → (end : ℕ) × Has g.mine (record { begin = item.begin; end = end; op = item.op; said = item.reply })

@@ -1,12 +1,12 @@
-use Rattle.std.specs.Prelude.{◌≡◌, ℕ, ◌⊎◌, true}
+use Rattle.std.specs.Prelude.{◌≡◌, ℕ, ◌⊎◌}
 use mathlib.Core.Option.{some}
 use lib.ListN.{get_elem?}
 use Rattle.ell_ops.specs.Contents.{contents_of}
 use Rattle.ell_cards.specs.declared.view.Known.{Known}
 use Rattle.ell_cards.specs.Histories.{IsLinearizable, history_of}
-use Rattle.ell_cards.specs.Models.{TablePlan, IsFree, whole_share}
+use Rattle.ell_cards.specs.Models.{TablePlan}
 use Rattle.ell_cards.specs.Periods.{WholeState}
-use Rattle.ell_cards.specs.Seeing.{HasWholeStory}
+use Rattle.ell_cards.specs.Seeing.{HasSeenAll}
 use Rattle.ell_cards.specs.Sights.{IsPart}
 use Rattle.ell_cards.specs.Whole.{IsWhole}
 
@@ -23,9 +23,8 @@ SeenIsInLine =
     → get_elem? t.views i ≡ some k → get_elem? t.views j ≡ some l
     → IsPart k.sight.seen l.sight.seen ⊎ IsPart l.sight.seen k.sight.seen
 
--- a pass with the whole share made all calls
-abbrev pub WholeStoriesAreTold : Type 0
-WholeStoriesAreTold =
-    (plan : TablePlan) (t : WholeState) (h : IsWhole plan t) → plan.shared ≡ true
-    → (seat : ℕ) (k : Known) → get_elem? t.views seat ≡ some k → k.tree.share ≡ whole_share → IsFree k.tree
-    → HasWholeStory (contents_of plan.start) (history_of h.reached.turns) k.sight.mine
+-- and what is said of a pass that has seen all of it is so of each
+abbrev pub HistoriesAreTold : Type 0
+HistoriesAreTold =
+    (plan : TablePlan) (t : WholeState) (h : IsWhole plan t) → (seat : ℕ) (k : Known) → get_elem? t.views seat ≡ some k
+    → HasSeenAll plan k.tree (record k.sight { seen = history_of h.reached.turns })

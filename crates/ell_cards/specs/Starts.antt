@@ -17,6 +17,7 @@ use Rattle.ell_cards.specs.declared.call.Call.TheVariants as call
 use Rattle.ell_cards.specs.declared.view.Slots.{Slots}
 use Rattle.ell_cards.specs.Models.{TablePlan, TableModel, PassModel}
 use Rattle.ell_cards.specs.Seeking.{no_seek, no_survey}
+use Rattle.ell_cards.specs.Sights.{no_sight}
 use Rattle.ell_cards.specs.Changes.{first_of}
 use Rattle.ell_cards.specs.States.{TableState}
 use Rattle.ell_cards.specs.Turns.{Turn, Makes, TableTurns, TableRun}
@@ -65,7 +66,7 @@ pub record Starts (plan : TablePlan) (s : TableState) : Type 0 where
   pub is : s ≡ opening s.words [] (first_of plan)
 
 -- a table is opened by a plan: it has the plan, and its one pass knows what a first pass does, has made no step, is in no
--- period, and has looked at no place
+-- period, has looked at no place, and has seen nothing of the history, which is empty
 pub record OpensBy (plan : TablePlan) (made : TableModel × PassModel) : Type 0 where
   pub table : made.0.plan ≡ plan
   pub pass : made.1
@@ -79,6 +80,7 @@ pub record OpensBy (plan : TablePlan) (made : TableModel × PassModel) : Type 0 
         surveyed = no_survey;
         slot = None;
         sought = no_seek;
+        sight = no_sight;
       }
 
 -- every such plan has a table

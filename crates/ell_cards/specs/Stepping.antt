@@ -17,6 +17,7 @@ use Rattle.ell_cards.specs.Depths.{deepest, IsShallow}
 use Rattle.ell_cards.specs.Naming.{IsNamed, IsPlaced}
 use Rattle.ell_cards.specs.Calls.{Exchange, atomic_of, after, May, Tells}
 use Rattle.ell_cards.specs.Apart.{IsApart}
+use Rattle.ell_cards.specs.Seeing.{Marks}
 use Rattle.ell_cards.specs.Seeking.{begun_seek}
 use Rattle.ell_cards.specs.Shown.{cut_word, cut_by, shown, shown_call, CanBeShown}
 use Rattle.ell_cards.specs.States.{TableState}
@@ -119,7 +120,7 @@ KeepsPass plan v then =
     × IsInside plan w
 
 -- a pass made one step that it has not counted yet: its table, its label, its safe number, whether it is in a period,
--- what it saw at the places, its slot and its search for one are as they were
+-- what it saw at the places, its slot and its search for one are as they were, and so is what it knows of the history
 pub record SeesBy (old new : PassModel) : Type 0 where
   pub table : new.table ≡ old.table
   pub steps : new.steps ≡ old.steps
@@ -129,9 +130,21 @@ pub record SeesBy (old new : PassModel) : Type 0 where
   pub surveyed : new.surveyed ≡ old.surveyed
   pub slot : new.slot ≡ old.slot
   pub sought : new.sought ≡ old.sought
+  pub sight : new.sight ≡ old.sight
 
--- so it is after a step call that begins an operation or a look, but that it is in a period if there are places, and
--- for the count of slots that it could not take
+-- so it is after one by which it may know more of the history, but for that
+pub record SeesOnBy (old new : PassModel) : Type 0 where
+  pub table : new.table ≡ old.table
+  pub steps : new.steps ≡ old.steps
+  pub label : new.label ≡ old.label
+  pub safe : new.safe ≡ old.safe
+  pub inside : new.inside ≡ old.inside
+  pub surveyed : new.surveyed ≡ old.surveyed
+  pub slot : new.slot ≡ old.slot
+  pub sought : new.sought ≡ old.sought
+
+-- and after one that begins an operation or a look, but that it is in a period if there are places, for the count of
+-- slots that it could not take, and that it knows more of the history if it begins an operation
 pub record EntersBy (slots : Option Slots) (c : Call) (old new : PassModel) : Type 0 where
   pub table : new.table ≡ old.table
   pub steps : new.steps ≡ old.steps
@@ -141,13 +154,15 @@ pub record EntersBy (slots : Option Slots) (c : Call) (old new : PassModel) : Ty
   pub surveyed : new.surveyed ≡ old.surveyed
   pub slot : new.slot ≡ old.slot
   pub sought : new.sought ≡ entered_seek c old.sought
+  pub marks : Marks c old.view old.sight new.sight
 
 -- the pass made one step that it has not counted yet, by a call that begins an operation or a look, and knows this now
 abbrev pub Enters : Option Slots → Call → PassModel → PassModel → View → Type 0
-Enters slots c old new v = new ≡ record old { view = v; inside = is_some slots; sought = entered_seek c old.sought }
+Enters slots c old new v =
+    new ≡ record old { view = v; inside = is_some slots; sought = entered_seek c old.sought; sight = new.sight }
 
 -- a pass made one step: its table, its label, its safe number, whether it is in a period, what it saw at the places,
--- its slot and its search for one are as they were
+-- its slot and its search for one are as they were, and so is what it knows of the history
 pub record StepsBy (old new : PassModel) : Type 0 where
   pub table : new.table ≡ old.table
   pub steps : new.steps ≡ one_more old.steps
@@ -157,6 +172,7 @@ pub record StepsBy (old new : PassModel) : Type 0 where
   pub surveyed : new.surveyed ≡ old.surveyed
   pub slot : new.slot ≡ old.slot
   pub sought : new.sought ≡ old.sought
+  pub sight : new.sight ≡ old.sight
 
 -- a pass made one step by a call, and knows what the call tells by some word that it found
 abbrev pub StepsBySome : PassModel → PassModel → Call → Type 0

@@ -16,7 +16,7 @@ use Rattle.ell_cards.specs.Searches.{SearchesAreSound}
 use Rattle.ell_cards.specs.Takings.{TakingsAreSound}
 use Rattle.ell_cards.specs.Shown.{shown_word, FieldIsWhole, StoresAreWhole}
 use Rattle.ell_cards.specs.Histories.{history_of}
-use Rattle.ell_cards.specs.Seeing.{AllHaveSeen, AreMade, AreSilent}
+use Rattle.ell_cards.specs.Seeing.{AllHaveSeen, AreAllApart, AreMade, AreSilent}
 use Rattle.ell_cards.specs.Sights.{no_sight, joined_sight}
 use Rattle.ell_cards.specs.Starts.{IsReached}
 use Rattle.ell_cards.specs.States.{TableState}
@@ -78,6 +78,7 @@ pub record IsWhole (plan : TablePlan) (t : WholeState) : Type 0 where
   pub seen : AllHaveSeen (history_of reached.turns) t.views
   pub made : AreMade (history_of reached.turns) t.views
   pub silent : AreSilent t.views
+  pub apart : AreAllApart t.views
   pub views : trees_of t.views ≡ tree.views
   pub homes : tree.homes ≡ t.homes
   pub words : WordsAre plan.slots t.words tree.words

@@ -18,7 +18,7 @@ ghost use Rattle.ell_cards.specs.Changing.{CallsHaveTheirPoint, CallsAnswerAsAMa
 ghost use Rattle.ell_cards.specs.Linearizing.{RunsAreLinearizable, LastAnswersAreOfCalls};
 ghost use Rattle.ell_cards.specs.Accounts.{WholeAccountsAreOfOneThread};
 ghost use Rattle.ell_cards.specs.Histories.{HistoriesAreLinearizable};
-ghost use Rattle.ell_cards.specs.SeenLaws.{SeenIsInLine, SeenIsLinearizable, WholeStoriesAreTold};
+ghost use Rattle.ell_cards.specs.SeenLaws.{HistoriesAreTold, SeenIsInLine, SeenIsLinearizable};
 ghost use Rattle.ell_cards.specs.Stories.{StoriesAreTold};
 ghost use Rattle.ell_cards.specs.Placing.{LooksHavePlaces};
 ghost use Rattle.ell_cards.specs.LayingDown.{LaidDownCallsChangeNothing, LaidDownLastChangesNothing};
@@ -308,9 +308,10 @@ pub fn seen_is_history()
     ensures linear { SeenIsLinearizable }
     // Of what two passes of a table have seen one is a beginning of the other.
     ensures line { SeenIsInLine }
-    // Where keys are shared, and a pass with nothing in hand has the whole share, the history of its table is linearizable;
-    // the pass's calls are calls of it; and the order has no others.
-    ensures whole { WholeStoriesAreTold }
+    // The history of a table is linearizable; the calls that a pass was answered, it and those that were joined to it, are
+    // calls of it, and no two are one; and where keys are shared, and a pass with nothing in hand has the whole share, the
+    // order has no others.
+    ensures all { HistoriesAreTold }
 {}
 
 /// Every run from a start is linearizable by a sequence of its calls in which each look at a key has a place: it finds

@@ -17,6 +17,7 @@ ghost use Rattle.ell_cards.specs.Inside.{IsNewTable};
 ghost use Rattle.ell_cards.specs.Stepping.{MaySplit, MayHave, PartsShare};
 ghost use Rattle.ell_cards.specs.Periods.{AreWholeWords, most_claims, last_for, slot_word, slots_of, slots_size, whole_size, words_of_free_slots};
 ghost use Rattle.ell_cards.specs.Shown.{IsWord};
+ghost use Rattle.ell_cards.specs.Sights.{joined_sight};
 ghost use Rattle.ell_cards.specs.SlotWords.{taken_word};
 ghost use Rattle.ell_cards.specs.Starts.{MayStart, OpensBy, most_places};
 ghost use Rattle.ell_cards.specs.Whole.{IsWhole, first_known};
@@ -219,9 +220,11 @@ impl<M: Memory> CardTable<M> {
         requires free { IsFree pass.view }
         requires ascending { IsStrictlyIncreasing left_keys.now }
         requires owned { All (λ k. ledger_of pass.view.worker.ledger k ≢ None) left_keys.now }
-        // The left part gets these keys, as they were, and keeps the safe number and the slot.
+        // The left part gets these keys, as they were, and keeps the safe number, the slot, and what the pass knows of
+        // the history.
         ensures left { IfOk result (λ parts. Steps pass parts.0 (left_view left_keys.now pass.view)) }
-        // The right part gets the other keys, and a piece of the share, and has the safe number 0, and no slot.
+        // The right part gets the other keys, and a piece of the share, and has the safe number 0, no slot, and no calls;
+        // it has seen of the history what the pass has.
         ensures right { IfOk result (λ parts. StepsOut pass parts.1 (right_view left_keys.now pass.view)) }
         // Without places, `TooManyPasses` is returned exactly if the tree shares keys and the share is the least one;
         // the only other error is `NoMemory`. The pass is then returned as it was.
@@ -311,11 +314,13 @@ impl<M: Memory> CardTable<M> {
         requires right { right.table ≡ self.now.id }
         requires left_free { IsFree left.view }
         requires right_free { IsFree right.view }
-        // The pass is the left one, with the keys and the shares of both. Its count of steps in a row is one more than
-        // the greater of the two counts.
+        // The pass is the left one, with the keys and the shares of both; it has seen the longer one of the beginnings of
+        // the history that they have seen, and has the calls of both. Its count of steps in a row is one more than the
+        // greater of the two counts.
         ensures joined { IfOk result (λ both. both ≡ record left {
           view = joined_view left.view right.view;
           steps = one_more (max left.steps right.steps);
+          sight = joined_sight left.sight right.sight;
         }) }
         // If an allocation fails, both passes are returned as they were.
         ensures refused { IfErr result (λ refused. (refused.0 ≡ left) × (refused.1 ≡ right)) }

@@ -94,6 +94,7 @@ impl<M: Memory> Model for Pass<M> {
       surveyed = p.seat.me.0.period.surveyed;
       slot = p.seat.me.0.period.slot;
       sought = p.seat.me.0.period.sought;
+      sight = p.seat.me.0.sight;
     } };
 
     ghost invariant = { IsPass };

@@ -101,6 +101,7 @@ impl<M: Memory> CardTable<M> {
         requires rule { MayGoOn self.now.plan seat.old.me.0 word (λ n. n) J.then }
         ensures told { J.then result seat.new.me.0.period }
         ensures tree { seat.new.me.0.tree ≡ seat.old.me.0.tree }
+        ensures sight { seat.new.me.0.sight ≡ seat.old.me.0.sight }
         ensures seat { (seat.new.table_id ≡ seat.old.table_id) × (seat.new.me.1 ≡ []) }
     {
         self.table.load::<InPeriod<J>>(seat, word)
@@ -115,6 +116,7 @@ impl<M: Memory> CardTable<M> {
         requires rule { MayGoOn self.now.plan seat.old.me.0 word (λ n. value) (λ n. J.then value) }
         ensures told { J.then value seat.new.me.0.period }
         ensures tree { seat.new.me.0.tree ≡ seat.old.me.0.tree }
+        ensures sight { seat.new.me.0.sight ≡ seat.old.me.0.sight }
         ensures seat { (seat.new.table_id ≡ seat.old.table_id) × (seat.new.me.1 ≡ []) }
     {
         self.table.store::<InPeriod<J>>(seat, word, value)
@@ -135,6 +137,7 @@ impl<M: Memory> CardTable<M> {
         requires rule { MayGoOn self.now.plan seat.old.me.0 word (λ n. either (n == expected) value n) J.then }
         ensures told { J.then result seat.new.me.0.period }
         ensures tree { seat.new.me.0.tree ≡ seat.old.me.0.tree }
+        ensures sight { seat.new.me.0.sight ≡ seat.old.me.0.sight }
         ensures seat { (seat.new.table_id ≡ seat.old.table_id) × (seat.new.me.1 ≡ []) }
     {
         self.table
@@ -173,6 +176,7 @@ impl<M: Memory> CardTable<M> {
         ensures later { (n : ℕ) → seat.old.me.0.period.reading ≡ Some n → n ≤ result }
         ensures since { seat.old.me.0.period.surveyed.clock ≤ result }
         ensures tree { seat.new.me.0.tree ≡ seat.old.me.0.tree }
+        ensures sight { seat.new.me.0.sight ≡ seat.old.me.0.sight }
         ensures seat { (seat.new.table_id ≡ seat.old.table_id) × (seat.new.me.1 ≡ []) }
     {
         self.period_load::<Brand>(seat, self.clock_address(slots))
@@ -189,6 +193,7 @@ impl<M: Memory> CardTable<M> {
         requires quiet { seat.old.me.0.period.announced ≡ None }
         ensures announced { (clock : ℕ) × (reading ≤ clock) × (seat.new.me.0.period ≡ after_announce reading clock seat.old.me.0.period) }
         ensures tree { seat.new.me.0.tree ≡ seat.old.me.0.tree }
+        ensures sight { seat.new.me.0.sight ≡ seat.old.me.0.sight }
         ensures seat { (seat.new.table_id ≡ seat.old.table_id) × (seat.new.me.1 ≡ []) }
     {
         self.period_store::<Brand>(seat, self.place_address(slots, place), reading + 2)
@@ -204,6 +209,7 @@ impl<M: Memory> CardTable<M> {
         requires unlost { seat.old.me.0.period.lost ≡ None }
         ensures announced { seat.new.me.0.period ≡ after_retract seat.old.me.0.period }
         ensures tree { seat.new.me.0.tree ≡ seat.old.me.0.tree }
+        ensures sight { seat.new.me.0.sight ≡ seat.old.me.0.sight }
         ensures seat { (seat.new.table_id ≡ seat.old.table_id) × (seat.new.me.1 ≡ []) }
     {
         self.period_store::<Brand>(seat, self.place_address(slots, place), 1)
@@ -223,6 +229,7 @@ impl<M: Memory> CardTable<M> {
         ensures sought { seat.new.me.0.period.sought ≡ seat.old.me.0.period.sought }
         ensures lost { seat.new.me.0.period.lost ≡ seat.old.me.0.period.lost }
         ensures tree { seat.new.me.0.tree ≡ seat.old.me.0.tree }
+        ensures sight { seat.new.me.0.sight ≡ seat.old.me.0.sight }
         ensures seat { (seat.new.table_id ≡ seat.old.table_id) × (seat.new.me.1 ≡ []) }
     {
         let _ = &self.table;
@@ -265,6 +272,7 @@ impl<M: Memory> CardTable<M> {
         ensures taken { result ≡ true → seat.new.me.0.period ≡ after_take place 0 seat.old.me.0.period }
         ensures lost { result ≡ false → seat.new.me.0.period ≡ seat.old.me.0.period }
         ensures tree { seat.new.me.0.tree ≡ seat.old.me.0.tree }
+        ensures sight { seat.new.me.0.sight ≡ seat.old.me.0.sight }
         ensures seat { (seat.new.table_id ≡ seat.old.table_id) × (seat.new.me.1 ≡ []) }
     {
         self.period_exchange::<Brand>(seat, self.place_address(slots, place), 0, 1) == 0
@@ -279,6 +287,7 @@ impl<M: Memory> CardTable<M> {
         ensures taken { IfSome result (λ q. (seat.new.me.0.period ≡ after_take q 0 seat.old.me.0.period) × (self.now.plan.slots ≢ None)) }
         ensures lost { result ≡ None → seat.new.me.0.period ≡ seat.old.me.0.period }
         ensures tree { seat.new.me.0.tree ≡ seat.old.me.0.tree }
+        ensures sight { seat.new.me.0.sight ≡ seat.old.me.0.sight }
         ensures seat { (seat.new.table_id ≡ seat.old.table_id) × (seat.new.me.1 ≡ []) }
     {
         let slots = self.slots?;
@@ -299,6 +308,7 @@ impl<M: Memory> CardTable<M> {
         requires none { self.now.plan.slots ≡ None → place ≡ None }
         ensures given { seat.new.me.0.period ≡ (if is_some place then after_give seat.old.me.0.period else seat.old.me.0.period) }
         ensures tree { seat.new.me.0.tree ≡ seat.old.me.0.tree }
+        ensures sight { seat.new.me.0.sight ≡ seat.old.me.0.sight }
         ensures seat { (seat.new.table_id ≡ seat.old.table_id) × (seat.new.me.1 ≡ []) }
     {
         let (Some(slots), Some(place)) = (self.slots, place) else {
@@ -316,6 +326,7 @@ impl<M: Memory> CardTable<M> {
         requires quiet { seat.old.me.0.period.announced ≡ None }
         ensures free { seat.new.me.0.period ≡ after_release seat.old.me.0.period }
         ensures tree { seat.new.me.0.tree ≡ seat.old.me.0.tree }
+        ensures sight { seat.new.me.0.sight ≡ seat.old.me.0.sight }
         ensures seat { (seat.new.table_id ≡ seat.old.table_id) × (seat.new.me.1 ≡ []) }
     {
         self.period_store::<Brand>(seat, self.place_address(slots, place), 0)
@@ -330,6 +341,7 @@ impl<M: Memory> CardTable<M> {
         requires low { reading < last_reading }
         ensures period { seat.new.me.0.period ≡ after_tick reading seat.old.me.0.period }
         ensures tree { seat.new.me.0.tree ≡ seat.old.me.0.tree }
+        ensures sight { seat.new.me.0.sight ≡ seat.old.me.0.sight }
         ensures seat { (seat.new.table_id ≡ seat.old.table_id) × (seat.new.me.1 ≡ []) }
     {
         self.period_exchange::<Brand>(seat, self.clock_address(slots), reading, reading + 1);
@@ -351,6 +363,7 @@ impl<M: Memory> CardTable<M> {
         ensures sought { seat.new.me.0.period.sought ≡ seat.old.me.0.period.sought }
         ensures lost { seat.new.me.0.period.lost ≡ seat.old.me.0.period.lost }
         ensures tree { seat.new.me.0.tree ≡ seat.old.me.0.tree }
+        ensures sight { seat.new.me.0.sight ≡ seat.old.me.0.sight }
         ensures seat { (seat.new.table_id ≡ seat.old.table_id) × (seat.new.me.1 ≡ []) }
     {
         let reading = self.read_clock(seat, slots);
@@ -368,6 +381,7 @@ impl<M: Memory> CardTable<M> {
         requires there { place < slots.places }
         ensures looked { seat.new.me.0.period ≡ after_look_at slots.places result seat.old.me.0.period }
         ensures tree { seat.new.me.0.tree ≡ seat.old.me.0.tree }
+        ensures sight { seat.new.me.0.sight ≡ seat.old.me.0.sight }
         ensures seat { (seat.new.table_id ≡ seat.old.table_id) × (seat.new.me.1 ≡ []) }
     {
         self.period_load::<Brand>(seat, self.place_address(slots, place))
@@ -389,6 +403,7 @@ impl<M: Memory> CardTable<M> {
         ensures sought { seat.new.me.0.period.sought ≡ seat.old.me.0.period.sought }
         ensures lost { seat.new.me.0.period.lost ≡ seat.old.me.0.period.lost }
         ensures tree { seat.new.me.0.tree ≡ seat.old.me.0.tree }
+        ensures sight { seat.new.me.0.sight ≡ seat.old.me.0.sight }
         ensures seat { (seat.new.table_id ≡ seat.old.table_id) × (seat.new.me.1 ≡ []) }
     {
         let _ = &self.table;

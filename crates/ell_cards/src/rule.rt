@@ -118,6 +118,42 @@ impl<J: Marking> Play<(), Known> for Marked<J> {
         × Marks J.call (shown old.0.tree) old.0.sight new.0.sight };
 }
 
+/// What a step tells, as `Telling`, and the plan of the table, whose history the pass sees by it. The caller of the step picks
+/// both.
+pub(crate) trait TellingAll {
+    ghost use Rattle.std.specs.Prelude.{ℕ};
+    ghost use Rattle.ell_cards.specs.Models.{TablePlan};
+    ghost use Rattle.ell_cards.specs.declared.view.View.{View};
+
+    ghost then: { ℕ → View → Type 0 };
+
+    ghost plan: { TablePlan };
+}
+
+impl TellingAll for Brand {
+    ghost use Rattle.std.specs.Prelude.{[], None, ⊤, false};
+
+    ghost then = { λ found v. ⊤ };
+
+    ghost plan = { record { keys = []; start = []; last_card = 0; shared = false; flat = false; slots = None } };
+}
+
+/// A step that tells what its caller picked, by which the pass sees all of the table's history, and that leaves what the pass
+/// knows of periods, and takes no slot.
+pub(crate) struct All<J> {
+    told: PhantomData<J>,
+}
+
+impl<J: TellingAll> Play<(), Known> for All<J> {
+    ghost use Rattle.std.specs.Prelude.{◌≡◌};
+    ghost use Rattle.ell_cards.specs.Seeing.{HasSeenAll, HasSeenMore};
+    ghost use Rattle.ell_cards.specs.Shown.{shown};
+
+    ghost then = { λ step old found new. J.then found (shown new.0.tree)
+        × (new.0.period ≡ old.0.period) × (new.1 ≡ old.1)
+        × HasSeenMore old.0.sight new.0.sight × HasSeenAll J.plan (shown old.0.tree) new.0.sight };
+}
+
 /// What a step tells of the word that it found and of what the pass knows of periods after it. The caller of the step picks
 /// it.
 pub(crate) trait PeriodTelling {

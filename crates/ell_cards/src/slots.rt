@@ -48,6 +48,7 @@ impl<M: Memory> CardTable<M> {
         requires slot { slot ≤ slots.last }
         ensures read { seat.new.me.0.period ≡ after_read slot result seat.old.me.0.period }
         ensures tree { seat.new.me.0.tree ≡ seat.old.me.0.tree }
+        ensures sight { seat.new.me.0.sight ≡ seat.old.me.0.sight }
         ensures seat { (seat.new.table_id ≡ seat.old.table_id) × (seat.new.me.1 ≡ []) }
     {
         self.period_load::<Brand>(seat, self.slot_address(slots, slot))
@@ -68,6 +69,7 @@ impl<M: Memory> CardTable<M> {
         requires rule { MayGoOn self.now.plan seat.old.me.0 (clock_word slots) (λ n. n) J.then }
         ensures told { J.then result seat.new.me.0.period }
         ensures tree { seat.new.me.0.tree ≡ seat.old.me.0.tree }
+        ensures sight { seat.new.me.0.sight ≡ seat.old.me.0.sight }
         ensures seat { (seat.new.table_id ≡ seat.old.table_id) × (seat.new.me.1 ≡ []) }
     {
         let _ = (slot, word);
@@ -87,6 +89,7 @@ impl<M: Memory> CardTable<M> {
         ensures inside { (c : ℕ) → seat.old.me.0.period.slot ≡ Some c → slot_of c ≤ slots.last }
         ensures late { seat.old.me.0.period.announced ≢ None → seat.old.me.0.period.began ≤ result }
         ensures tree { seat.new.me.0.tree ≡ seat.old.me.0.tree }
+        ensures sight { seat.new.me.0.sight ≡ seat.old.me.0.sight }
         ensures seat { (seat.new.table_id ≡ seat.old.table_id) × (seat.new.me.1 ≡ []) }
     {
         self.stamp_load::<Brand>(seat, slots, slot, word)
@@ -109,6 +112,7 @@ impl<M: Memory> CardTable<M> {
         requires rule { MayGoOn self.now.plan seat.old.me.0 (slot_word slots (slot_of card)) (λ n. n) J.then }
         ensures told { J.then result seat.new.me.0.period }
         ensures tree { seat.new.me.0.tree ≡ seat.old.me.0.tree }
+        ensures sight { seat.new.me.0.sight ≡ seat.old.me.0.sight }
         ensures seat { (seat.new.table_id ≡ seat.old.table_id) × (seat.new.me.1 ≡ []) }
     {
         let _ = (nodes, taken_out);
@@ -136,6 +140,7 @@ impl<M: Memory> CardTable<M> {
             (λ n. either (n == word) other n) J.then }
         ensures told { J.then result seat.new.me.0.period }
         ensures tree { seat.new.me.0.tree ≡ seat.old.me.0.tree }
+        ensures sight { seat.new.me.0.sight ≡ seat.old.me.0.sight }
         ensures seat { (seat.new.table_id ≡ seat.old.table_id) × (seat.new.me.1 ≡ []) }
     {
         let _ = (nodes, taken_out);
@@ -162,6 +167,7 @@ impl<M: Memory> CardTable<M> {
         ensures may { is_done taken_out card nodes result ≡ false →
             MayNote seat.old.me.0.tree taken_out card nodes result }
         ensures tree { seat.new.me.0.tree ≡ seat.old.me.0.tree }
+        ensures sight { seat.new.me.0.sight ≡ seat.old.me.0.sight }
         ensures seat { (seat.new.table_id ≡ seat.old.table_id) × (seat.new.me.1 ≡ []) }
     {
         self.load_noted::<Brand>(seat, slots, card, nodes, taken_out)
@@ -192,6 +198,7 @@ impl<M: Memory> CardTable<M> {
             after_noting (result == word) taken_out card nodes result seat.old.me.0.period }
         ensures next { MayNoteNext seat.old.me.0.tree taken_out card nodes word result }
         ensures tree { seat.new.me.0.tree ≡ seat.old.me.0.tree }
+        ensures sight { seat.new.me.0.sight ≡ seat.old.me.0.sight }
         ensures seat { (seat.new.table_id ≡ seat.old.table_id) × (seat.new.me.1 ≡ []) }
     {
         self.exchange_noted::<Brand>(seat, slots, card, nodes, taken_out, word, noted)
@@ -220,6 +227,7 @@ impl<M: Memory> CardTable<M> {
             (after_stamp (card_by (slot_of card) word) reading seat.old.me.0.period)) }
         ensures next { MayNoteNext seat.old.me.0.tree taken_out card nodes word result }
         ensures tree { seat.new.me.0.tree ≡ seat.old.me.0.tree }
+        ensures sight { seat.new.me.0.sight ≡ seat.old.me.0.sight }
         ensures seat { (seat.new.table_id ≡ seat.old.table_id) × (seat.new.me.1 ≡ []) }
     {
         let reading = self.stamp(seat, slots, slot_of(card), word);
@@ -257,6 +265,7 @@ impl<M: Memory> CardTable<M> {
         ensures safe { seat.new.me.0.period.safe ≡ seat.old.me.0.period.safe }
         ensures surveyed { seat.new.me.0.period.surveyed ≡ seat.old.me.0.period.surveyed }
         ensures tree { seat.new.me.0.tree ≡ seat.old.me.0.tree }
+        ensures sight { seat.new.me.0.sight ≡ seat.old.me.0.sight }
         ensures seat { (seat.new.table_id ≡ seat.old.table_id) × (seat.new.me.1 ≡ []) }
     {
         let noted = nodes.noted_in(word);
@@ -290,6 +299,7 @@ impl<M: Memory> CardTable<M> {
         ensures safe { seat.new.me.0.period.safe ≡ seat.old.me.0.period.safe }
         ensures surveyed { seat.new.me.0.period.surveyed ≡ seat.old.me.0.period.surveyed }
         ensures tree { seat.new.me.0.tree ≡ seat.old.me.0.tree }
+        ensures sight { seat.new.me.0.sight ≡ seat.old.me.0.sight }
         ensures seat { (seat.new.table_id ≡ seat.old.table_id) × (seat.new.me.1 ≡ []) }
     {
         let mut word = self.read_to_note(seat, slots, card, nodes, taken_out);
@@ -317,6 +327,7 @@ impl<M: Memory> CardTable<M> {
         ensures period { (reading : ℕ) ×
             (seat.new.me.0.period ≡ after_freeing (after_stamp card reading seat.old.me.0.period)) }
         ensures tree { seat.new.me.0.tree ≡ seat.old.me.0.tree }
+        ensures sight { seat.new.me.0.sight ≡ seat.old.me.0.sight }
         ensures seat { (seat.new.table_id ≡ seat.old.table_id) × (seat.new.me.1 ≡ []) }
     {
         let word = 8 * turn_of(card) + 7;
@@ -338,6 +349,7 @@ impl<M: Memory> CardTable<M> {
         ensures safe { seat.new.me.0.period.safe ≡ seat.old.me.0.period.safe }
         ensures surveyed { seat.new.me.0.period.surveyed ≡ seat.old.me.0.period.surveyed }
         ensures tree { seat.new.me.0.tree ≡ seat.old.me.0.tree }
+        ensures sight { seat.new.me.0.sight ≡ seat.old.me.0.sight }
         ensures seat { (seat.new.table_id ≡ seat.old.table_id) × (seat.new.me.1 ≡ []) }
     {
         let Some(slots) = self.slots else {
@@ -426,6 +438,7 @@ impl<M: Memory> CardTable<M> {
         ensures few { could_take result seat.old.me.0.period.safe ≡ false →
             seat.new.me.0.period.sought.missed ≤ slots.last + 1 }
         ensures tree { seat.new.me.0.tree ≡ seat.old.me.0.tree }
+        ensures sight { seat.new.me.0.sight ≡ seat.old.me.0.sight }
         ensures seat { (seat.new.table_id ≡ seat.old.table_id) × (seat.new.me.1 ≡ []) }
     {
         self.period_load::<Brand>(seat, self.slot_address(slots, slot_of(card)))
@@ -450,6 +463,7 @@ impl<M: Memory> CardTable<M> {
             (n : ℕ) × (seat.new.me.0.period ≡ after_missing card n seat.old.me.0.period) }
         ensures few { result ≡ false → seat.new.me.0.period.sought.missed ≤ slots.last + 1 }
         ensures tree { seat.new.me.0.tree ≡ seat.old.me.0.tree }
+        ensures sight { seat.new.me.0.sight ≡ seat.old.me.0.sight }
         ensures seat { (seat.new.table_id ≡ seat.old.table_id) × (seat.new.me.1 ≡ []) }
     {
         let address = self.slot_address(slots, slot_of(card));
@@ -492,6 +506,7 @@ impl<M: Memory> CardTable<M> {
         requires rule { MayGoOn self.now.plan seat.old.me.0 (slot_word slots (slot_of card)) (λ n. n) J.then }
         ensures told { J.then result seat.new.me.0.period }
         ensures tree { seat.new.me.0.tree ≡ seat.old.me.0.tree }
+        ensures sight { seat.new.me.0.sight ≡ seat.old.me.0.sight }
         ensures seat { (seat.new.table_id ≡ seat.old.table_id) × (seat.new.me.1 ≡ []) }
     {
         let _ = (begins, for_delete);
@@ -516,6 +531,7 @@ impl<M: Memory> CardTable<M> {
         ensures read { seat.new.me.0.period ≡ after_seek slots begins for_delete card
             seat.old.me.0.tree.made result seat.old.me.0.period }
         ensures tree { seat.new.me.0.tree ≡ seat.old.me.0.tree }
+        ensures sight { seat.new.me.0.sight ≡ seat.old.me.0.sight }
         ensures seat { (seat.new.table_id ≡ seat.old.table_id) × (seat.new.me.1 ≡ []) }
     {
         self.load_sought::<Brand>(seat, slots, card, begins, for_delete)

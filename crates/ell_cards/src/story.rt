@@ -1,11 +1,11 @@
 //! What a pass may know of all that was done with its table.
 ghost use Rattle.std.specs.Prelude.{◌≡◌, ℕ};
 ghost use Rattle.ell_cards.specs.declared.call.Call.TheVariants as call;
-ghost use Rattle.ell_cards.specs.Models.{Sees};
+ghost use Rattle.ell_cards.specs.Models.{SeesOn};
 ghost use Rattle.ell_cards.specs.Calls.{after};
+ghost use Rattle.ell_cards.specs.Seeing.{HasSeenAll, HasSeenMore};
 ghost use Rattle.ell_cards.specs.Stories.{HasStory};
 
-use crate::call::Call;
 use crate::memory::Memory;
 use crate::pass::Pass;
 use crate::table::CardTable;
@@ -21,9 +21,14 @@ impl<M: Memory> CardTable<M> {
         // answered, it and the passes that were joined to it, and no others if it has the whole share. Each delete
         // stands where the key had the value that it took.
         ensures story { HasStory self.now.plan pass.new.view }
+        // The pass has seen all of the table's history, and has the calls that it had. The history is linearizable; the
+        // calls that the pass was answered, it and the passes that were joined to it, are calls of it, and no two are
+        // one; and the order has no others if keys are shared, and the pass has the whole share and nothing in hand.
+        ensures all { HasSeenAll self.now.plan pass.new.view pass.new.sight }
+        ensures more { HasSeenMore pass.old.sight pass.new.sight }
         // It loads the claim word.
-        ensures step { (n : ℕ) × Sees pass.old pass.new (after call.Next n pass.old.view) }
+        ensures step { (n : ℕ) × SeesOn pass.old pass.new (after call.Next n pass.old.view) }
     {
-        self.load_as::<Brand>(pass, Call::Next, 0);
+        self.load_all_as::<Brand>(pass);
     }
 }

@@ -6,7 +6,7 @@ ghost use Rattle.ell_core.specs.state.Facts.{card_of_fact};
 ghost use Rattle.ell_word.specs.Node.{greatest_card, greatest_number};
 ghost use Rattle.ell_word.specs.Link.{IsLink, greatest_tag, linked, tag_unit};
 ghost use Rattle.ell_cards.specs.declared.view.Told.TheVariants.{Expects};
-ghost use Rattle.ell_cards.specs.Models.{flat_from, IsTold, Knows, Sees, TableModel, Steps};
+ghost use Rattle.ell_cards.specs.Models.{flat_from, IsTold, Knows, Sees, TableModel, Steps, StepsOn};
 ghost use Rattle.ell_cards.specs.Apart.{NamesLowBits};
 ghost use Rattle.ell_cards.specs.Changes.{after_fill};
 ghost use Rattle.ell_cards.specs.Naming.{IsNamed, IsPlaced};
@@ -17,17 +17,18 @@ ghost use Rattle.ell_cards.specs.Looking.{KeysAreFixed, ValuesAreFixed, ReadsIts
 ghost use Rattle.ell_cards.specs.declared.view.Period.{Period};
 ghost use Rattle.ell_cards.specs.Periods.{after_flagging, whole_size};
 ghost use Rattle.ell_cards.specs.Tied.{FlagsNone, FlagsCard};
-ghost use Rattle.ell_cards.specs.Seeing.{IsCalm};
+ghost use Rattle.ell_cards.specs.declared.call.Call.TheVariants as call;
+ghost use Rattle.ell_cards.specs.Seeing.{HasSeenAll, HasSeenMore, IsCalm, Marks};
 ghost use Rattle.ell_cards.specs.Starts.{SlotsFit};
 ghost use Rattle.ell_cards.specs.Shown.{IsNoClaim, StoresWord, cut_word, shown_word};
 ghost use Rattle.ell_cards.specs.Skipping.{MayStepOn};
 ghost use Rattle.ell_cards.specs.SlotWords.{slot_of};
-ghost use Rattle.ell_cards.specs.Stepping.{Enters, EntersBy, Exchanges, IsQuiet, MayInTable, MayTell, KeepsPass, SeesBy, StepsBy, after_entering};
+ghost use Rattle.ell_cards.specs.Stepping.{Enters, EntersBy, Exchanges, IsQuiet, MayInTable, MayTell, KeepsPass, SeesBy, SeesOnBy, StepsBy, after_entering};
 
 use crate::call::Call;
 use crate::memory::Memory;
 use crate::pass::{Pass, one_more};
-use crate::rule::{By, Marked, Marking, Noted, Noting, Telling};
+use crate::rule::{All, By, Marked, Marking, Noted, Noting, Telling, TellingAll};
 use crate::view::Slots;
 use ell_layout::Field;
 use ell_word::{Link, TURN_SIZE, child_word};
@@ -199,7 +200,8 @@ impl<M: Memory> CardTable<M> {
         requires notes { (n : ℕ) (p : Period) → J.notes n p ≡ p }
         requires marks { J.call ≡ call }
         ensures told { J.then result pass.new.view }
-        ensures step { SeesBy pass.old pass.new }
+        ensures step { SeesOnBy pass.old pass.new }
+        ensures marks { Marks call pass.old.view pass.old.sight pass.new.sight }
     {
         let _ = call;
         self.table.load::<Marked<J>>(&mut pass.seat, word)
@@ -214,13 +216,28 @@ impl<M: Memory> CardTable<M> {
         requires word { word ≡ place_of call }
         requires kept { MayInTable self.now.plan pass.old call }
         requires atomic { atomic_of call ≡ Load }
-        ensures step { Steps pass.old pass.new (after call result pass.old.view) }
+        ensures step { StepsOn pass.old pass.new (after call result pass.old.view) }
+        ensures marks { Marks call pass.old.view pass.old.sight pass.new.sight }
         ensures tells { Tells self.now.plan call pass.old.view result }
         ensures values { ValuesAreFixed pass.old.view }
     {
         let found = self.load_marked_as::<Brand>(pass, call, word);
         pass.count(1);
         found
+    }
+
+    // Loads the claim word by a step that is not counted, by which the pass sees all of the table's history.
+    pub(crate) fn load_all_as<J: TellingAll>(&self, pass: &mut Pass<M>) -> u64
+        requires own { pass.old.table ≡ self.now.id }
+        requires tells { MayTell self.now.plan call.Next pass.old.view J.then }
+        requires keeps { KeepsPass self.now.plan pass.old.view J.then }
+        requires plan { J.plan ≡ self.now.plan }
+        ensures told { J.then result pass.new.view }
+        ensures step { SeesOnBy pass.old pass.new }
+        ensures more { HasSeenMore pass.old.sight pass.new.sight }
+        ensures all { HasSeenAll self.now.plan pass.old.view pass.new.sight }
+    {
+        self.table.load::<All<J>>(&mut pass.seat, 0)
     }
 
     // Loads a word, a step that is not counted, after the pass has begun a period if there are places and it is in none.
@@ -253,6 +270,7 @@ impl<M: Memory> CardTable<M> {
         requires kept { MayInTable self.now.plan pass.old call }
         requires atomic { atomic_of call ≡ Load }
         ensures step { Enters self.now.plan.slots call pass.old pass.new (after call result pass.old.view) }
+        ensures marks { Marks call pass.old.view pass.old.sight pass.new.sight }
         ensures tells { Tells self.now.plan call pass.old.view result }
         ensures shallow { (x : ℕ) → IsShallow (deepest self.now.plan) pass.new.view x }
     {

@@ -8,11 +8,13 @@ ghost use Rattle.ell_layout.specs.Words.{IsLeaf};
 ghost use Rattle.ell_core.specs.statements.Effects.{AnswersAsMap};
 ghost use Rattle.ell_core.specs.acts.Searching.{MayStop};
 ghost use Rattle.ell_cards.specs.declared.view.Told.TheVariants.{Met};
-ghost use Rattle.ell_cards.specs.Models.{BeginsBy, EndsBy, LooksBy, Sees, Steps, flat_from, IsTold, InTable, EndWasUnknown, IsFree};
+ghost use Rattle.ell_cards.specs.Models.{AnswersBy, BeginsBy, Does, EndsBy, LooksBy, Sees, Steps, flat_from, IsTold, InTable, EndWasUnknown, IsFree};
 ghost use Rattle.ell_cards.specs.Changes.{after_begin, after_again, after_leave, after_answer, after_rest, after_upd};
 ghost use Rattle.ell_cards.specs.declared.call.Call.TheVariants as call;
 ghost use Rattle.ell_cards.specs.Guards.{MayBegin, MayAnswer, MayRead, MayGoDown, MayLookDown};
 ghost use Rattle.ell_cards.specs.Calls.{after, TellsKey, TellsLedgerValue};
+ghost use Rattle.ell_ops.specs.declared.op.Op.{Op};
+ghost use Rattle.ell_cards.specs.Seeing.{SeesBegin, SeesEnd};
 ghost use Rattle.ell_cards.specs.Stepping.{LetsGo};
 ghost use Rattle.ell_cards.specs.Looking.{IsKnownInRun, KeysAreFixed, ValuesAreFixed, ReadsItsOwn, MissesItsOwn};
 
@@ -35,6 +37,8 @@ impl<M: Memory> CardTable<M> {
         // It makes one step and counts it. The pass then knows exactly what this call tells, is in a period if there are
         // places, and counts slots that it could not take from here on.
         ensures step { BeginsBy self.now.plan.slots pass.old pass.new (after_begin (Some op) pass.old.view) }
+        // It has seen its table's history up to this step, and so behind all that it had seen before.
+        ensures begins { SeesBegin op pass.old.sight pass.new.sight }
     {
         self.see_entered(pass, Call::Begin(op), root_key());
         pass.count(1);
@@ -78,7 +82,10 @@ impl<M: Memory> CardTable<M> {
         // Where there are places, the pass has noted all that its card in hand made dead.
         requires noted { LetsGo self.now.plan pass.old }
         // It makes one step and counts it. The pass then knows exactly what this call tells, and is in no period.
-        ensures step { EndsBy pass.old pass.new (after_answer said pass.old.view) }
+        ensures step { AnswersBy pass.old pass.new (after_answer said pass.old.view) }
+        // It has seen its table's history up to this step, by which a call of the pass has ended that it began no earlier
+        // than the operation that it had begun last.
+        ensures ends { (op : Op) → Does pass.old.view op → SeesEnd op said pass.old.sight pass.new.sight }
         // The claims that the pass has tried were of cards of the table.
         ensures least { pass.old.view.next_at_least ≤ self.now.plan.last_card + 1 }
         // The answer on a key that the pass owns is that of the ledger, which becomes what the operation makes of it.

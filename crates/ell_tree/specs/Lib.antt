@@ -66,6 +66,11 @@ pub mod Called
 -- what passes were answered, as of one thread, and the history of a tree
 pub use Rattle.ell_cards.specs.Accounts
 pub use Rattle.ell_cards.specs.Stories
+pub use Rattle.ell_cards.specs.Seeing
+pub use Rattle.ell_cards.specs.Sights
+pub use Rattle.ell_cards.specs.declared.view.Act
+pub use Rattle.ell_cards.specs.declared.view.Event
+pub use Rattle.ell_cards.specs.declared.view.Sight
 pub use Rattle.ell_cards.specs.Linearizing
 pub use Rattle.ell_cards.specs.Histories
 pub use Rattle.ell_cards.specs.declared.view.View

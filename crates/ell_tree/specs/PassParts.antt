@@ -2,6 +2,7 @@ use Rattle.std.specs.Prelude.{◌≡◌, ℕ, ◌+◌, ◌-◌, ◌%◌, ◌^◌
 use Rattle.ell_ops.specs.KeySet.{set_of}
 use Rattle.ell_ops.specs.Contents.{contents_of}
 use Rattle.ell_cards.specs.Models.{PassModel, given_share, one_more, whole_share}
+use Rattle.ell_cards.specs.Sights.{given_sight, joined_sight, no_sight}
 pub use Rattle.ell_cards.specs.Changes.{later_reading, ownable_if, inherited}
 pub use Rattle.std.specs.Option.{option_or}
 use Rattle.ell_tree.specs.CardsTaken.{cards_taken}
@@ -11,7 +12,7 @@ pub use Rattle.ell_core.specs.state.Opening.{start_entry}
 use Rattle.ell_core.specs.declared.view.Entry.{Entry}
 
 -- the first pass of a tree: it owns the keys of the tree's plan, of which the start keys are present with their values,
--- and the others absent; and it has the whole share
+-- and the others absent; it has the whole share, and has seen nothing of the tree's history
 pub record IsFirst (t : TreeModel) (p : PassModel) : Type 0 where
   pub own : p.table ≡ t.id
   pub ledger : (k : ℕ) → ledger p k ≡ (if set_of t.plan.keys k then Some (start_entry t.plan.start k) else None)
@@ -31,9 +32,10 @@ pub record IsFirst (t : TreeModel) (p : PassModel) : Type 0 where
   pub ownable : p.view.worker.shared ≡ ownable_if t.plan.shared t.plan.keys
   pub idle : IsIdle p
   pub outside : p.inside ≡ false
+  pub sight : p.sight ≡ no_sight
 
--- the left part of a pass: it has these keys as the pass had them, and keeps the counts and the safe number; of the
--- steps made, the split is its own
+-- the left part of a pass: it has these keys as the pass had them, and keeps the counts, the safe number, and what the
+-- pass knows of the history; of the steps made, the split is its own
 pub record IsLeftPart (keys : List ℕ) (p part : PassModel) : Type 0 where
   pub own : part.table ≡ p.table
   pub ledger : (k : ℕ) → ledger part k ≡ (if set_of keys k then ledger p k else None)
@@ -51,8 +53,10 @@ pub record IsLeftPart (keys : List ℕ) (p part : PassModel) : Type 0 where
   pub ownable : part.view.worker.shared ≡ p.view.worker.shared
   pub idle : IsIdle part
   pub inside : part.inside ≡ p.inside
+  pub sight : part.sight ≡ p.sight
 
--- the right part: it has the other keys, and counts anew; it is in no period, and has looked at no place yet
+-- the right part: it has the other keys, and counts anew; it is in no period, has looked at no place yet, and has seen of
+-- the history what the pass has, with no calls of its own
 pub record IsRightPart (keys : List ℕ) (p part : PassModel) : Type 0 where
   pub own : part.table ≡ p.table
   pub ledger : (k : ℕ) → ledger part k ≡ (if set_of keys k then None else ledger p k)
@@ -70,14 +74,15 @@ pub record IsRightPart (keys : List ℕ) (p part : PassModel) : Type 0 where
   pub ownable : part.view.worker.shared ≡ p.view.worker.shared
   pub idle : IsIdle part
   pub outside : part.inside ≡ false
+  pub sight : part.sight ≡ given_sight p.sight
 
 -- an entry of one ledger, or else of another
 abbrev pub or_else : Option Entry → Option Entry → Option Entry
 or_else (Some present) other = Some present
 or_else None other = other
 
--- two passes in one: it has the keys of both, adds the counts, and has the later reading of the claim word, and the left
--- one's safe number
+-- two passes in one: it has the keys and the calls of both, adds the counts, and has the later reading of the claim word,
+-- the left one's safe number, and the longer one of the beginnings of the history that they have seen
 pub record IsUnion (left right both : PassModel) : Type 0 where
   pub own : both.table ≡ left.table
   pub ledger : (k : ℕ) → ledger both k ≡ or_else (ledger left k) (ledger right k)
@@ -97,3 +102,4 @@ pub record IsUnion (left right both : PassModel) : Type 0 where
   pub ownable : both.view.worker.shared ≡ option_or left.view.worker.shared right.view.worker.shared
   pub idle : IsIdle both
   pub inside : both.inside ≡ left.inside
+  pub sight : both.sight ≡ joined_sight left.sight right.sight

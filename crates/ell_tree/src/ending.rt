@@ -4,6 +4,7 @@ ghost use Rattle.std.specs.List.{All};
 ghost use Rattle.ell_ops.specs.Contents.{contents_of};
 ghost use Rattle.ell_cards.specs.Accounts.{AreOfOneThread};
 ghost use Rattle.ell_cards.specs.Models.{whole_share};
+ghost use Rattle.ell_cards.specs.Seeing.{HasSeenAll, HasSeenMore};
 ghost use Rattle.ell_cards.specs.Stories.{HasStory};
 ghost use Rattle.ell_tree.specs.CardsTaken.{TakesNoCard};
 ghost use Rattle.ell_tree.specs.Closing.{ClosesTo};
@@ -17,9 +18,9 @@ use ell_ops::NoMemory;
 use std::alloc::{AllocError, Allocator};
 
 impl<M: Memory> Tree<M> {
-    /// Reads one word, so that the pass knows what follows from the answers up to now (`story`): there is an order of
-    /// calls in which all replies fit, and which has the calls that the pass was answered. Whatever a program concludes
-    /// from the answers of several threads, it concludes from this, once it has joined their passes.
+    /// Reads one word, so that the pass knows all that was done with the tree up to now: its one history, which is
+    /// linearizable, and which has the calls that the pass was answered (`all`). Whatever a program concludes from the
+    /// answers of several threads, it concludes from this, once it has joined their passes.
     pub fn story(&self, pass: &mut Pass<M>)
         requires own { pass.old.table ≡ self.now.id }
         // There is an order of calls in which all replies fit: that of a linearizable history, which need not be that of
@@ -27,6 +28,11 @@ impl<M: Memory> Tree<M> {
         // if keys are shared, and the pass has the whole share and nothing in hand. Each delete stands where the key had
         // the value that it took.
         ensures story { HasStory self.now.plan pass.new.view }
+        // The pass has seen all of the tree's history, and has the calls that it had. The history is linearizable; the
+        // calls that the pass was answered, it and the passes that were joined to it, are calls of it, and no two are
+        // one; and its order has no others if keys are shared, and the pass has the whole share and nothing in hand.
+        ensures all { HasSeenAll self.now.plan pass.new.view pass.new.sight }
+        ensures more { HasSeenMore pass.old.sight pass.new.sight }
         // It makes one step. The pass keeps its tree, its label, its keys and what it has in hand, its share, and what
         // it was answered.
         ensures table { pass.new.table ≡ pass.old.table }

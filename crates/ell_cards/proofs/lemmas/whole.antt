@@ -63,3 +63,9 @@ pub mod InUse
 pub mod InVain
 -- what passes have seen of the history
 pub mod Seeing
+-- each call stands once in the calls of passes
+pub mod OwnCalls
+-- and what a pass may know of the history after a step call
+pub mod Sighting
+-- and after a load by which it sees all of it
+pub mod Telling

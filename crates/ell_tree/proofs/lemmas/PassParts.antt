@@ -9,6 +9,7 @@ use Rattle.ell_cards.specs.Changes.{first_of, left_view, right_view, united_ledg
 use Rattle.ell_cards.proofs.lemmas.lifetimes.Parts.{part_on, part_off}
 use Rattle.ell_core.specs.state.Machine.{entry_of}
 use Rattle.ell_cards.specs.Seeking.{no_seek, no_survey}
+use Rattle.ell_cards.specs.Sights.{joined_sight, no_sight}
 use Rattle.ell_cards.specs.Starts.{OpensBy}
 use Rattle.ell_cards.specs.Accounts.{own_calls}
 use Rattle.ell_cards.proofs.lemmas.runs.Deeds.{none_own, own_both}
@@ -45,7 +46,7 @@ start_value_is None = refl
 -- a first pass has all keys, the start keys present with their values
 pub first_pass : (plan : TablePlan) (made : TableModel × PassModel) → (plan.shared ≡ false → All (λ k. set_of plan.keys k ≡ true) (keys_of plan.start))
     → OpensBy plan made → IsFirst made.0 made.1
-first_pass plan made given opens = subst (IsFirst made.0) (sym opens.pass) (subst (λ p. IsFirst (record { id = made.0.id; plan = p }) (record { table = made.0.id; view = first_of plan; steps = 0; label = 0; safe = 0; inside = false; surveyed = no_survey; slot = None; sought = no_seek })) (sym opens.table) (record {
+first_pass plan made given opens = subst (IsFirst made.0) (sym opens.pass) (subst (λ p. IsFirst (record { id = made.0.id; plan = p }) (record { table = made.0.id; view = first_of plan; steps = 0; label = 0; safe = 0; inside = false; surveyed = no_survey; slot = None; sought = no_seek; sight = no_sight })) (sym opens.table) (record {
   own = refl;
   ledger = λ k. ledger_at_start plan.keys plan.start k;
   each = λ k among. ap value_in (ledger_at_start plan.keys plan.start k ∙ ap (λ b. if b then Some (start_entry plan.start k) else None) among)
@@ -66,6 +67,7 @@ first_pass plan made given opens = subst (IsFirst made.0) (sym opens.pass) (subs
   milestones = λ cards. milestones_none cards;
   idle = refl;
   outside = refl;
+  sight = refl;
 }))
 
 -- the parts of a ledger
@@ -101,6 +103,7 @@ left_part keys p part s = subst (IsLeftPart keys p) (sym s) (record {
   ownable = refl;
   idle = refl;
   inside = refl;
+  sight = refl;
 })
 
 pub right_part : (keys : List ℕ) (p part : PassModel) → StepsOut p part (right_view keys p.view) → IsRightPart keys p part
@@ -121,6 +124,7 @@ right_part keys p part s = subst (IsRightPart keys p) (sym s) (record {
   ownable = refl;
   idle = refl;
   outside = refl;
+  sight = refl;
 })
 
 -- two ledgers in one
@@ -135,7 +139,7 @@ both_ledger l m k = elim (ledger_united l m k) [
 ]
 
 pub union : (left right both : PassModel)
-    → both ≡ record left { view = joined_view left.view right.view; steps = one_more (max left.steps right.steps) }
+    → both ≡ record left { view = joined_view left.view right.view; steps = one_more (max left.steps right.steps); sight = joined_sight left.sight right.sight }
     → IsUnion left right both
 union left right both e = subst (IsUnion left right) (sym e) (record {
   own = refl;
@@ -158,4 +162,5 @@ union left right both e = subst (IsUnion left right) (sym e) (record {
   ownable = refl;
   idle = refl;
   inside = refl;
+  sight = refl;
 })

@@ -15,11 +15,11 @@ use Rattle.ell_cards.specs.declared.view.Slots.{Slots}
 use Rattle.ell_cards.specs.declared.call.NewNode.{NewNode}
 use Rattle.ell_cards.specs.declared.view.View.{View}
 use Rattle.ell_cards.specs.declared.view.Told.TheVariants.{Met, Info}
-use Rattle.ell_cards.specs.Models.{KnowsCard, PassModel, Sees, Steps}
+use Rattle.ell_cards.specs.Models.{KnowsCard, PassModel, Sees, SeesOn, Steps}
 use Rattle.ell_cards.specs.Changes.{ledger_keys, with_entry, answered_ledger, after_claim, after_mark, after_flag, is_mark_of, with_fact, unmarking}
 use Rattle.ell_cards.specs.Calls.{word_of, after, May}
 use Rattle.ell_cards.specs.Naming.{IsNamed}
-use Rattle.ell_cards.specs.Stepping.{Enters, EntersBy, KeepsPass, SeesBy, StepsBy, IsTaken, SameShare}
+use Rattle.ell_cards.specs.Stepping.{Enters, EntersBy, KeepsPass, SeesBy, SeesOnBy, StepsBy, IsTaken, SameShare}
 use Rattle.ell_cards.proofs.lemmas.seats.LedgersStay.{claim_ledger, flag_ledger, mark_ledger, claim_list, flag_list, mark_list}
 use Rattle.ell_core.specs.declared.view.Entry.{Entry}
 use Rattle.ell_core.specs.declared.view.Entry.TheVariants.{Present, Absent}
@@ -135,12 +135,16 @@ word_fits plan _ v may last named = omega arith
 
 -- a pass after one step that took this call, before it counts the step
 pub sees_by : (old new : PassModel) (v : View) → SeesBy old new → new.view ≡ v → Sees old new v
-sees_by old new v by known = λ t. record { table = by.table t; view = known t; steps = by.steps t; label = by.label t; safe = by.safe t; inside = by.inside t; surveyed = by.surveyed t; slot = by.slot t; sought = by.sought t }
+sees_by old new v by known = λ t. record { table = by.table t; view = known t; steps = by.steps t; label = by.label t; safe = by.safe t; inside = by.inside t; surveyed = by.surveyed t; slot = by.slot t; sought = by.sought t; sight = by.sight t }
 
--- so it is after one that may have begun an operation
+-- or one by which it may have seen more of the history
+pub sees_on_by : (old new : PassModel) (v : View) → SeesOnBy old new → new.view ≡ v → SeesOn old new v
+sees_on_by old new v by known = λ t. record { table = by.table t; view = known t; steps = by.steps t; label = by.label t; safe = by.safe t; inside = by.inside t; surveyed = by.surveyed t; slot = by.slot t; sought = by.sought t; sight = new.sight }
+
+-- and after one that may have begun an operation
 pub enters_by : (slots : Option Slots) (c : Call) (old new : PassModel) (v : View) → EntersBy slots c old new → new.view ≡ v → Enters slots c old new v
-enters_by slots c old new v by known = λ t. record { table = by.table t; view = known t; steps = by.steps t; label = by.label t; safe = by.safe t; inside = by.inside t; surveyed = by.surveyed t; slot = by.slot t; sought = by.sought t }
+enters_by slots c old new v by known = λ t. record { table = by.table t; view = known t; steps = by.steps t; label = by.label t; safe = by.safe t; inside = by.inside t; surveyed = by.surveyed t; slot = by.slot t; sought = by.sought t; sight = new.sight }
 
 -- a pass after one step that took this call
 pub steps_by : (old new : PassModel) (v : View) → StepsBy old new → new.view ≡ v → Steps old new v
-steps_by old new v by known = λ t. record { table = by.table t; view = known t; steps = by.steps t; label = by.label t; safe = by.safe t; inside = by.inside t; surveyed = by.surveyed t; slot = by.slot t; sought = by.sought t }
+steps_by old new v by known = λ t. record { table = by.table t; view = known t; steps = by.steps t; label = by.label t; safe = by.safe t; inside = by.inside t; surveyed = by.surveyed t; slot = by.slot t; sought = by.sought t; sight = by.sight t }

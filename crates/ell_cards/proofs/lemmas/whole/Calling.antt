@@ -40,7 +40,7 @@ use Rattle.ell_cards.specs.Periods.{WholeState, IsAtRest, slots_size, after_flag
 use Rattle.ell_cards.specs.Apart.{IsApart}
 use Rattle.ell_cards.specs.Shown.{IsWord, cut_word, cut_by, shown_word, shown_words, shown, shown_call, FieldIsWhole, FillIsWhole, CanBeShown, StoresAreWhole, StoresWord}
 use Rattle.ell_cards.specs.Histories.{event_of, history_of}
-use Rattle.ell_cards.specs.Seeing.{AllHaveSeen, AreMade, Marks, IsCalm, marked}
+use Rattle.ell_cards.specs.Seeing.{AllHaveSeen, AreMade, AreSilent, Marks, IsCalm, marked}
 use Rattle.ell_cards.specs.Seeking.{begun_seek}
 use Rattle.ell_cards.specs.SlotWords.{slot_of}
 use Rattle.ell_cards.specs.Starts.{SlotsFit}
@@ -50,7 +50,7 @@ use Rattle.ell_cards.specs.Tied.{HasWon, MayInMemory, IsTied, FlagsCard, FlagsNo
 use Rattle.ell_cards.specs.Ties.{card_touched, ExpectsNear, FindsTied, IsTiedByAges, TouchesTied, memory_after}
 use Rattle.ell_cards.specs.Touching.{touched_by}
 use Rattle.ell_cards.specs.Turns.{Makes, found_by, view_after, state_after}
-use Rattle.ell_cards.specs.Whole.{FieldsAreWhole, WordsAre, PeriodsAre, AllStoresAreWhole, IsWhole, PlansFit}
+use Rattle.ell_cards.specs.Whole.{FieldsAreWhole, WordsAre, PeriodsAre, AllStoresAreWhole, IsWhole, PlansFit, trees_of}
 use Rattle.ell_cards.proofs.lemmas.runs.Reaching.{reached_kept, call_on}
 use Rattle.ell_cards.proofs.lemmas.seats.Named.{kept_named, named_more}
 use Rattle.ell_cards.proofs.lemmas.seats.Placed.{named_placed}
@@ -75,7 +75,8 @@ use Rattle.ell_cards.proofs.lemmas.whole.Lifts.{IsFill, is_its_own, can_be_shown
 use Rattle.ell_cards.proofs.lemmas.whole.Rests.{stays_at_rest}
 use Rattle.ell_cards.proofs.lemmas.whole.Retired.{HadInHand, held_before, retired_on}
 use Rattle.ell_cards.proofs.lemmas.whole.Seats.{lie_same}
-use Rattle.ell_cards.proofs.lemmas.whole.Seeing.{history_snoc, all_on, all_set, marked_seen, made_by, silent_set, silent_call, marks_now, marks_shown, marks_viewed, calm_marks}
+use Rattle.ell_cards.proofs.lemmas.whole.Seeing.{history_snoc, all_on, all_set, silent_set, marks_now, marks_shown, calm_marks}
+use Rattle.ell_cards.proofs.lemmas.whole.Sighting.{Sighted, sighted}
 use Rattle.ell_cards.proofs.lemmas.whole.Trees.{tree_at, slots_stay, tree_periods, clock_stays}
 use Rattle.ell_cards.proofs.lemmas.words.Slotted.{slot_inside}
 use Rattle.ell_cards.proofs.lemmas.whole.Searches.{SameRow, searches_same}
@@ -138,6 +139,18 @@ module _ (plan : TablePlan) (s : WholeState) (h : IsWhole plan s) (id : ℕ) (k 
   pub few_plain : plan.slots ≡ None → plan.last_card ≤ greatest_card
   few_plain none = subst (SlotsFit plan) none h.reached.starts.may.slots
 
+  -- the history of the table
+  abbrev past : List Event
+  past = history_of h.reached.turns
+
+  -- what the pass may know of it after a call, so that the table's rule is kept
+  abbrev pub Sees : Call → Sight → Type 0
+  Sees c g = Sighted plan h.tree h.reached id k.tree tree_here s.views c g
+
+  -- as what the call lets it see
+  pub marked_so : (c : Call) → May plan c k.tree → Sees c (marked c id past k.sight)
+  marked_so = sighted plan h.tree h.reached id k.tree tree_here s.views k here refl h.seen h.made h.silent h.apart
+
   -- a call that it may make
   module _ (c : Call) (may : May plan c k.tree) (fills : FillIsWhole c k.tree) where
     -- what the pass knows after it, where it notes this of periods, and that of the history
@@ -147,20 +160,18 @@ module _ (plan : TablePlan) (s : WholeState) (h : IsWhole plan s) (id : ℕ) (k 
     abbrev knows : Known
     knows = noting k.period k.sight
 
-    abbrev past : List Event
-    past = history_of h.reached.turns
+    next_history : history_of (h.reached.turns ++ Makes id c ∷ []) ≡ past ++ event_of (Makes id c) ∷ []
+    next_history = history_snoc h.reached.turns (Makes id c)
 
-    abbrev noted : Period → Known
-    noted p = noting p (marked c id past k.sight)
+    pub seen_after : (p : Period) (g : Sight) → Sees c g → AllHaveSeen (history_of (h.reached.turns ++ Makes id c ∷ [])) (set s.views id (noting p g))
+    seen_after p g is = subst (λ l. AllHaveSeen l (set s.views id (noting p g))) (sym next_history)
+        (all_set (past ++ event_of (Makes id c) ∷ []) s.views id (noting p g) (all_on past (event_of (Makes id c) ∷ []) s.views h.seen) is.seen)
 
-    seen_after : (p : Period) → AllHaveSeen (history_of (h.reached.turns ++ Makes id c ∷ [])) (set s.views id (noted p))
-    seen_after p = subst (λ l. AllHaveSeen l (set s.views id (noted p))) (sym (history_snoc h.reached.turns (Makes id c)))
-        (all_set (past ++ event_of (Makes id c) ∷ []) s.views id (noted p) (all_on past (event_of (Makes id c) ∷ []) s.views h.seen)
-        (marked_seen plan h.tree h.reached id k.tree tree_here c may k.sight (h.seen id k here)))
+    pub made_after : (p : Period) (g : Sight) → Sees c g → AreMade (history_of (h.reached.turns ++ Makes id c ∷ [])) (set s.views id (noting p g))
+    made_after p g is = subst (λ l. AreMade l (set s.views id (noting p g))) (sym next_history) (is.made (noting p g) refl)
 
-    made_after : (p : Period) → AreMade (history_of (h.reached.turns ++ Makes id c ∷ [])) (set s.views id (noted p))
-    made_after p = subst (λ l. AreMade l (set s.views id (noted p))) (sym (history_snoc h.reached.turns (Makes id c)))
-        (made_by plan h.tree h.reached id k.tree tree_here c may s.views k here (noted p) refl (h.seen id k here) h.made)
+    pub silent_after : (p : Period) (g : Sight) → Sees c g → AreSilent (set s.views id (noting p g))
+    silent_after p g is = silent_set s.views id (noting p g) h.silent (is.silent (found_by h.tree c))
 
     abbrev after : TableState
     after = state_after h.tree id k.tree c
@@ -183,17 +194,21 @@ module _ (plan : TablePlan) (s : WholeState) (h : IsWhole plan s) (id : ℕ) (k 
         (λ (t : (j ≢ id) × (get_elem? h.tree.views j ≡ some v)). h.stores j v t.1)
         (at_set h.tree.views id j (view_after h.tree k.tree c) v at)
 
+    pub views_after : (p : Period) (g : Sight) → trees_of (set s.views id (noting p g)) ≡ after.views
+    views_after p g = map-set (λ (l : Known). l.tree) s.views id (noting p g) ∙ ap (λ l. set l id (view_after h.tree k.tree c)) h.views
+
     -- the state after the step, by its words and its periods
-    whole_after : (p : Period) (i n : ℕ) → WordsAre plan.slots (set s.words i n) after.words
-        → PeriodsAre plan plan.slots after (record { words = set s.words i n; homes = homes_after s.homes [] keeps; views = set s.views id (noted p) })
-        → IsWhole plan (stepped s i n id [] (noted p) keeps)
-    whole_after p i n words periods = record {
+    whole_after : (p : Period) (g : Sight) → Sees c g → (i n : ℕ) → WordsAre plan.slots (set s.words i n) after.words
+        → PeriodsAre plan plan.slots after (record { words = set s.words i n; homes = homes_after s.homes [] keeps; views = set s.views id (noting p g) })
+        → IsWhole plan (stepped s i n id [] (noting p g) keeps)
+    whole_after p g sees i n words periods = record {
       tree = after;
       reached = call_on plan h.tree h.reached id c k.tree tree_here may;
-      seen = seen_after p;
-      made = made_after p;
-      silent = silent_set s.views id (noted p) h.silent (silent_call plan c (found_by h.tree c) k.tree id past k.sight may (h.silent id k here));
-      views = map-set (λ (l : Known). l.tree) s.views id (noted p) ∙ ap (λ l. set l id (view_after h.tree k.tree c)) h.views;
+      seen = seen_after p g sees;
+      made = made_after p g sees;
+      silent = silent_after p g sees;
+      apart = sees.apart (noting p g) refl;
+      views = views_after p g;
       homes = h.homes;
       words = words;
       stores = stores_after;
@@ -225,10 +240,10 @@ module _ (plan : TablePlan) (s : WholeState) (h : IsWhole plan s) (id : ℕ) (k 
       pub plain_found : get_or s.words (place_of c) 0 ≡ found_by h.tree c
       plain_found = (λ i. get_or (same_words i) (word_at c may i) 0)
 
-      pub plain_whole : (p : Period) → IsWhole plan (stepped s (place_of c) left id [] (noted p) keeps)
-      plain_whole p = whole_after p (place_of c) left
+      pub plain_whole : (p : Period) (g : Sight) → Sees c g → IsWhole plan (stepped s (place_of c) left id [] (noting p g) keeps)
+      plain_whole p g sees = whole_after p g sees (place_of c) left
           (subst (λ o. WordsAre o (set s.words (place_of c) left) after.words) (sym none) (λ i. set (same_words i) (word_at c may i) left))
-          (subst (λ o. PeriodsAre plan o after (record { words = set s.words (place_of c) left; homes = homes_after s.homes [] keeps; views = set s.views id (noted p) })) (sym none) tt)
+          (subst (λ o. PeriodsAre plan o after (record { words = set s.words (place_of c) left; homes = homes_after s.homes [] keeps; views = set s.views id (noting p g) })) (sym none) tt)
 
       pub plain_named : IsNamed plan.last_card (view_after h.tree k.tree c)
       plain_named = kept_named plan after (reached_kept plan after (call_on plan h.tree h.reached id c k.tree tree_here may)) id (view_after h.tree k.tree c) tree_there
@@ -424,13 +439,13 @@ module _ (plan : TablePlan) (s : WholeState) (h : IsWhole plan s) (id : ℕ) (k 
           in_period : k.period.announced ≢ None
           in_period quiet = flags_by_hand plan c d k.tree may flags ((has.periods.each id k here).rests quiet).empty
 
-      pub tied_whole : (p : Period) → Notes plan.slots c (found_by h.tree c) k.period p → IsWhole plan (stepped s (place_of c) cut id [] (noted p) keeps)
-      tied_whole p notes = whole_after p (place_of c) cut
+      pub tied_whole : (p : Period) (g : Sight) → Sees c g → Notes plan.slots c (found_by h.tree c) k.period p → IsWhole plan (stepped s (place_of c) cut id [] (noting p g) keeps)
+      tied_whole p g sees notes = whole_after p g sees (place_of c) cut
           (subst (λ o. WordsAre o (set s.words (place_of c) cut) after.words) (sym placed) (
             length-set s.words (place_of c) cut ∙ has_words.0,
             fields_after plan h.tree k.tree c may (named_more plan.last_card greatest_number h.reached.starts.may.limit k.tree tree_named) whole_fill has_words.1,
           ))
-          (subst (λ o. PeriodsAre plan o after (record { words = set s.words (place_of c) cut; homes = homes; views = set s.views id (noted p) })) (sym placed) (noted_periods (marked c id past k.sight) p notes))
+          (subst (λ o. PeriodsAre plan o after (record { words = set s.words (place_of c) cut; homes = homes; views = set s.views id (noting p g) })) (sym placed) (noted_periods g p notes))
 
       pub tied_apart : IsApart plan (view_after h.tree k.tree c)
       tied_apart =
@@ -522,13 +537,14 @@ Does plan c f =
 module _ (plan : TablePlan) (k : Known) (c : Call) (f : ℕ → ℕ) (told : ℕ → View → Type 0) (notes : ℕ → Period) (word : StoresWord c) (by_shown : May plan c (shown k.tree))
     (mem : (s : Slots) → plan.slots ≡ Some s → MayInMemory s k.period.slot k.period.sought.retired (shown k.tree) c) (unlost : plan.slots ≢ None → k.period.lost ≡ None) (does : Does plan c f)
     (quiet : plan.slots ≢ None → k.period.announced ≡ None → IsQuiet c) (same : IsFill c → (n m : ℕ) (w : View) → told n w → told m w)
-    (tells : MayTell plan c (shown k.tree) told) (noted : (n : ℕ) → IsWord n → Notes plan.slots c n k.period (notes n)) (id : ℕ) (s : WholeState) (h : IsWhole plan s) (here : get_elem? s.views id ≡ some k) (small : IsWord (get_or s.words (place_of c) 0)) where
+    (tells : MayTell plan c (shown k.tree) told) (noted : (n : ℕ) → IsWord n → Notes plan.slots c n k.period (notes n)) (id : ℕ) (s : WholeState) (h : IsWhole plan s) (here : get_elem? s.views id ≡ some k) (small : IsWord (get_or s.words (place_of c) 0))
+    (marks : Sight → Type 0) (see : Call → Sight) (sees : (d : Call) → May plan d k.tree → shown_call d ≡ c → Sees plan s h id k here d (see d)) (marked_by : (d : Call) → May plan d k.tree → shown_call d ≡ c → marks (see d)) where
   abbrev n : ℕ
   n = get_or s.words (place_of c) 0
 
   abbrev Goes : Type 0
   Goes = (w : Known) × (a : Act (Unit {0})) × Valid s.homes [] a × IsWhole plan (stepped s (place_of c) (f n) id [] w a)
-      × (told n (shown w.tree) × (w.period ≡ notes n) × (carried_after {S = Unit {0}} [] a ≡ []) × Marks c (shown k.tree) k.sight w.sight)
+      × (told n (shown w.tree) × (w.period ≡ notes n) × (carried_after {S = Unit {0}} [] a ≡ []) × marks w.sight)
 
   there : get_elem? h.tree.views id ≡ some k.tree
   there = tree_here plan s h id k here
@@ -548,12 +564,12 @@ module _ (plan : TablePlan) (k : Known) (c : Call) (f : ℕ → ℕ) (told : ℕ
       let found : IsWord (found_by h.tree c) = subst IsWord at small in
       let can = can_be_shown plan k.tree plan.last_card few named c (found_by h.tree c) own.same found in
       let w = view_after h.tree k.tree c in
-      let now : Known = record { tree = w; period = notes n; sight = marked c id (history_of h.reached.turns) k.sight } in (
+      let now : Known = record { tree = w; period = notes n; sight = see c } in (
         now,
         keeps,
         tt,
         subst (λ m. IsWhole plan (stepped s (place_of c) m id [] now keeps))
-            (sym ((does n small).1 none ∙ ap (left_by (atomic_of c)) at)) (plain_whole plan s h id k here c own.may own.fills none (notes n)),
+            (sym ((does n small).1 none ∙ ap (left_by (atomic_of c)) at)) (plain_whole plan s h id k here c own.may own.fills none (notes n) (see c) (sees c own.may own.same)),
         (
           told_plain plan k.tree plan.last_card few named c (found_by h.tree c) n told (shown w) (plain_named plan s h id k here c own.may own.fills none) found (sym at)
               (λ fill a b. same fill a b (shown w))
@@ -561,7 +577,7 @@ module _ (plan : TablePlan) (k : Known) (c : Call) (f : ℕ → ℕ) (told : ℕ
               (plain_apart plan s h id k here c own.may own.fills none)),
           refl,
           refl,
-          marks_viewed c k.tree k.sight now.sight (marks_now plan h.tree h.reached id k.tree there c k.sight (h.seen id k here)),
+          marked_by c own.may own.same,
         ),
       )
 
@@ -582,13 +598,13 @@ module _ (plan : TablePlan) (k : Known) (c : Call) (f : ℕ → ℕ) (told : ℕ
       (does n small).0
       ∙ (ap cut_word ((λ i. left_by (atomic_of (sym lift.is i)) (get_or s.words (sym place i) 0)) ∙ left_tied s.words h.tree whole touch.finds)
       ∙ acts.leaves) in
-      let now : Known = record { tree = w; period = notes n; sight = marked whole id (history_of h.reached.turns) k.sight } in (
+      let now : Known = record { tree = w; period = notes n; sight = see whole } in (
         now,
         keeps,
         tt,
         subst (λ i. IsWhole plan (stepped s i (f n) id [] now keeps)) place
             (subst (λ m. IsWhole plan (stepped s (place_of whole) m id [] now keeps)) (sym leaves)
-            (tied_whole plan s h id k here whole lift.may lift.fills sl placed asks (unlost some) fills calm (notes n)
+            (tied_whole plan s h id k here whole lift.may lift.fills sl placed asks (unlost some) fills calm (notes n) (see whole) (sees whole lift.may lift.is)
             (notes_whole plan.slots s.words h.tree whole touch.finds can k.period (notes n)
             (subst (λ i. Notes plan.slots (shown_call whole) (get_or s.words i 0) k.period (notes n)) (sym place) (subst (λ d. Notes plan.slots d n k.period (notes n)) (sym lift.is) (noted n small)))))),
         (
@@ -599,11 +615,11 @@ module _ (plan : TablePlan) (k : Known) (c : Call) (f : ℕ → ℕ) (told : ℕ
               (tied_apart plan s h id k here whole lift.may lift.fills sl placed asks (unlost some) fills calm))),
           refl,
           refl,
-          subst (λ d. Marks d (shown k.tree) k.sight now.sight) lift.is (marks_shown whole k.tree k.sight now.sight (marks_now plan h.tree h.reached id k.tree there whole k.sight (h.seen id k here))),
+          marked_by whole lift.may lift.is,
         ),
       )
 
-  goes_by : (o : Option Slots) → plan.slots ≡ o → Goes
+  pub goes_by : (o : Option Slots) → plan.slots ≡ o → Goes
   goes_by None none = plainly none
   goes_by (Some sl) placed = by_slots sl placed
 
@@ -614,7 +630,12 @@ pub tree_step_marked : (plan : TablePlan) (k : Known) (c : Call) (f : ℕ → �
     → ((n : ℕ) → IsWord n → Notes plan.slots c n k.period (notes n))
     → (id : ℕ) → Allows (IsWhole plan) 0 id (k, []) (place_of c) f (λ n x. told n (shown x.0.tree) × (x.0.period ≡ notes n) × (x.1 ≡ []) × Marks c (shown k.tree) k.sight x.0.sight)
 tree_step_marked plan k c f told notes word by_shown mem unlost does quiet same tells noted id s h homes here small =
-    goes_by plan k c f told notes word by_shown mem unlost does quiet same tells noted id s h here small plan.slots refl
+    goes_by plan k c f told notes word by_shown mem unlost does quiet same tells noted id s h here small
+    (Marks c (shown k.tree) k.sight) (λ d. marked d id (history_of h.reached.turns) k.sight)
+    (λ d may is. marked_so plan s h id k here d may)
+    (λ d may is. subst (λ e. Marks e (shown k.tree) k.sight (marked d id (history_of h.reached.turns) k.sight)) is
+    (marks_shown d k.tree k.sight (marked d id (history_of h.reached.turns) k.sight) (marks_now plan h.tree h.reached id k.tree (tree_here plan s h id k here) d k.sight (h.seen id k here))))
+    plan.slots refl
 
 -- and one that neither begins an operation nor answers one leaves what the pass has seen
 pub tree_step : (plan : TablePlan) (k : Known) (c : Call) (f : ℕ → ℕ) (told : ℕ → View → Type 0) (notes : ℕ → Period) → StoresWord c → May plan c (shown k.tree)

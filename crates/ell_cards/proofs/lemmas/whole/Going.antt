@@ -34,6 +34,7 @@ use Rattle.ell_cards.specs.Leaks.{NothingLeaks}
 use Rattle.ell_cards.specs.Searches.{SearchesAreSound}
 use Rattle.ell_cards.specs.Takings.{TakingsAreSound}
 use Rattle.ell_cards.proofs.lemmas.whole.Leaks.{holds_so, leaks_same}
+use Rattle.ell_cards.proofs.lemmas.whole.OwnCalls.{apart_set}
 use Rattle.ell_cards.proofs.lemmas.whole.Retired.{retired_so}
 use Rattle.ell_cards.proofs.lemmas.whole.Searches.{row_of, searches_begin, searches_same}
 use Rattle.ell_cards.proofs.lemmas.whole.Takings.{takings_noted, takings_same}
@@ -218,6 +219,7 @@ module _ (plan : TablePlan) (s : Slots) (placed : plan.slots ≡ Some s) where
           seen = all_set (history_of h.reached.turns) t.views id now h.seen (h.seen id k here);
           made = made_set (history_of h.reached.turns) t.views id k now here (λ a has. has) h.made;
           silent = silent_set t.views id now h.silent (h.silent id k here);
+          apart = apart_set t.views id k now here h.apart (h.apart.each id k here) (λ a has. inl has);
           views = map-set (λ (l : Known). l.tree) t.views id now ∙ (set_again (trees_of t.views) id k.tree (tree_at t.views id k here) ∙ h.views);
           homes = h.homes;
           stores = h.stores;

@@ -30,6 +30,7 @@ use Rattle.ell_cards.proofs.lemmas.lifetimes.Joins.{each_joined as each_view_joi
 use Rattle.ell_cards.proofs.lemmas.lifetimes.Splits.{each_split as each_view_split}
 use Rattle.ell_cards.proofs.lemmas.shown.ShownViews.{unfilled_whole}
 use Rattle.ell_cards.proofs.lemmas.runs.Reaching.{reached_on}
+use Rattle.ell_cards.proofs.lemmas.whole.OwnCalls.{apart_joined, apart_set, apart_snoc}
 use Rattle.ell_cards.proofs.lemmas.whole.Rests.{is_at_rest}
 use Rattle.ell_cards.proofs.lemmas.whole.Retired.{retired_on}
 use Rattle.ell_cards.proofs.lemmas.whole.LeaksOfHandovers.{join_hands, join_holds, leaks_handed, split_hands, split_holds}
@@ -69,6 +70,7 @@ whole_splits plan k keys quiet may id s h here =
       made = subst (λ v. AreMade v (set s.views id l' ++ r ∷ [])) (sym (history_snoc h.reached.turns (SplitsInto id keys)))
           (made_snoc past (set s.views id l') r (made_quiet (history_of h.reached.turns) (set s.views id l') (made_set (history_of h.reached.turns) s.views id k l' here (λ a has. has) h.made)));
       silent = silent_snoc (set s.views id l') r (silent_set s.views id l' h.silent (λ none. h.silent id k here none)) (λ none. refl);
+      apart = apart_snoc (set s.views id l') r (apart_set s.views id k l' here h.apart (h.apart.each id k here) (λ a has. inl has)) refl;
       views = trees_more (set s.views id l') r ∙ (ap (λ v. v ++ (right_view keys k.tree) ∷ []) (map-set (λ (x : Known). x.tree) s.views id l') ∙ ap (λ v. set v id (left_view keys k.tree) ++ (right_view keys k.tree) ∷ []) h.views);
       homes = h.homes;
       words = h.words;
@@ -151,6 +153,7 @@ whole_joins plan k l free other_free unlost id other s h here aside there =
           (made_joined (history_of h.reached.turns) s.views id other k l (joined_known k l) spent_known here theirs aside (λ a has. has_left k.sight.mine l.sight.mine a has) (λ a has. has_right k.sight.mine l.sight.mine a has) h.made));
       silent = silent_set (set s.views id (joined_known k l)) other spent_known
           (silent_set s.views id (joined_known k l) h.silent (λ none. (let two = both_none k.tree.answers l.tree.answers none in ap₂ (λ a b. a ++ b) (h.silent id k here two.0) (h.silent other l theirs two.1)))) (λ none. refl);
+      apart = apart_joined s.views id other k l (joined_known k l) spent_known here theirs aside refl refl h.apart;
       views = map-set (λ (x : Known). x.tree) (set s.views id (joined_known k l)) other spent_known
           ∙ (ap (λ v. set v other spent_view) (map-set (λ (x : Known). x.tree) s.views id (joined_known k l))
           ∙ ap (λ v. set (set v id (joined_view k.tree l.tree)) other spent_view) h.views);

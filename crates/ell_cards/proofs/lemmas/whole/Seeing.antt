@@ -19,7 +19,7 @@ use Rattle.ell_cards.specs.declared.view.View.{View}
 use Rattle.ell_ops.specs.Contents.{contents_of}
 use Rattle.ell_cards.specs.Histories.{IsCall, IsLinearizable, event_of, history_of}
 use Rattle.ell_cards.specs.Linearizing.{IsAnswered, KeepsOnBetween}
-use Rattle.ell_cards.specs.Models.{TablePlan, Does, IsFree, whole_share, Has, latest, earlier}
+use Rattle.ell_cards.specs.Models.{TablePlan, Does, Has, latest, earlier}
 use Rattle.ell_cards.specs.Calls.{May, after}
 use Rattle.ell_cards.specs.Changes.{deed_taking, taken_by, with_answer}
 use Rattle.ell_cards.specs.Whole.{trees_of}
@@ -27,7 +27,7 @@ use Rattle.ell_cards.proofs.lemmas.runs.Spent.{IsAllThere, all_there, answers_st
 use Rattle.ell_cards.proofs.lemmas.runs.Accounts.{ended_only, lin}
 use Rattle.ell_cards.proofs.lemmas.seats.Seats.{set_there}
 use Rattle.std.specs.Option.{option_or}
-use Rattle.ell_cards.specs.Seeing.{BeganAt, HasSeen, AllHaveSeen, IsMadeBy, AreMade, AreSilent, HasWholeStory, begin_in, last_begin, with_act, marked, SeesEnd, Marks, IsCalm}
+use Rattle.ell_cards.specs.Seeing.{BeganAt, HasSeen, AllHaveSeen, IsMadeBy, AreMade, AreAllApart, AreSilent, HasSeenAll, begin_in, last_begin, with_act, marked, SeesEnd, Marks, IsCalm}
 use Rattle.ell_cards.specs.Shown.{shown, shown_call}
 use Rattle.ell_cards.specs.Sights.{IsPart, longer}
 use Rattle.ell_cards.specs.Starts.{IsReached}
@@ -43,17 +43,17 @@ pub history_snoc : (ts : List Turn) (t : Turn) → history_of (ts ++ t ∷ []) �
 history_snoc [] t = refl
 history_snoc (u ∷ us) t = ap (λ l. event_of u ∷ l) (history_snoc us t)
 
-history_long : (ts : List Turn) → length (history_of ts) ≡ length ts
+pub history_long : (ts : List Turn) → length (history_of ts) ≡ length ts
 history_long [] = refl
 history_long (u ∷ us) = ap suc (history_long us)
 
 -- what stands in a list stands in a longer one
-at_more : {A : Type 0} (a b : List A) (n : ℕ) (x : A) → get_elem? a n ≡ some x → get_elem? (a ++ b) n ≡ some x
+pub at_more : {A : Type 0} (a b : List A) (n : ℕ) (x : A) → get_elem? a n ≡ some x → get_elem? (a ++ b) n ≡ some x
 at_more [] b n x e = absurd (some-ne-none x (sym e))
 at_more (y ∷ ys) b zero x e = e
 at_more (y ∷ ys) b (suc n) x e = at_more ys b n x e
 
-at_inside : {A : Type 0} (a : List A) (n : ℕ) (x : A) → get_elem? a n ≡ some x → n < length a
+pub at_inside : {A : Type 0} (a : List A) (n : ℕ) (x : A) → get_elem? a n ≡ some x → n < length a
 at_inside [] n x e = absurd (some-ne-none x (sym e))
 at_inside (y ∷ ys) zero x e = omega arith
 at_inside (y ∷ ys) (suc n) x e = (let less = at_inside ys n x e in omega arith)
@@ -115,7 +115,7 @@ longer_part h a b one other = by (nat_le (length a) (length b))
     by true = other
     by false = one
 
-whole_part : (h : List Event) → IsPart h h
+pub whole_part : (h : List Event) → IsPart h h
 whole_part h = ([], sym (append-nil h))
 
 -- what a pass has seen after a step call goes by what is shown
@@ -123,11 +123,6 @@ pub marks_shown : (c : Call) (v : View) (old new : Sight) → Marks c v old new 
 marks_shown (call.Begin op) v old new m = m
 marks_shown (call.Answer said) v old new m = λ op does. m op does
 marks_shown _ v old new m = m
-
-pub marks_viewed : (c : Call) (v : View) (old new : Sight) → Marks c v old new → Marks c (shown v) old new
-marks_viewed (call.Begin op) v old new m = m
-marks_viewed (call.Answer said) v old new m = λ op does. m op does
-marks_viewed _ v old new m = m
 
 -- a call that neither begins nor answers leaves it
 pub calm_marks : (c : Call) → IsCalm c → (v : View) (old new : Sight) → Marks c v old new → new ≡ old
@@ -172,7 +167,7 @@ none_begins seat (e ∷ es) none =
     ap (λ l. option_or (option_map (λ (x : ℕ × Op). (x.0 + 1, x.1)) l) (begin_in seat e)) (none_begins seat es (λ k. none (suc k)))
     ∙ no_begin seat e (λ o is. none 0 o (ap (λ (x : Event). some x) is))
 
-last_is : (seat : ℕ) (h : List Event) (b : ℕ) (op : Op) → get_elem? h b ≡ some (Begins seat op) → ((k : ℕ) (o : Op) → b < k → get_elem? h k ≡ some (Begins seat o) → ⊥) → last_begin seat h ≡ Some (b, op)
+pub last_is : (seat : ℕ) (h : List Event) (b : ℕ) (op : Op) → get_elem? h b ≡ some (Begins seat op) → ((k : ℕ) (o : Op) → b < k → get_elem? h k ≡ some (Begins seat o) → ⊥) → last_begin seat h ≡ Some (b, op)
 last_is seat [] b op at none = absurd (some-ne-none (Begins seat op) (sym at))
 last_is seat (e ∷ es) zero op at none =
     ap (λ l. option_or (option_map (λ (x : ℕ × Op). (x.0 + 1, x.1)) l) (begin_in seat e)) (none_begins seat es (λ k o. none (suc k) o (omega arith)))
@@ -300,7 +295,7 @@ module _ (plan : TablePlan) (s : TableState) (h : IsReached plan s) (id : ℕ) (
   abbrev past : List Event
   past = history_of h.turns
 
-  abbrev ends_call : (said : Reply) (op : Op) → Does v op → (g : Sight) → HasSeen past id g → SeesEnd op said g (marked (call.Answer said) id past g)
+  abbrev pub ends_call : (said : Reply) (op : Op) → Does v op → (g : Sight) → HasSeen past id g → SeesEnd op said g (marked (call.Answer said) id past g)
   ends_call said op does g is =
       let turns = h.turns ++ Makes id (call.Answer said) ∷ [] in
       let b = begun_of plan h.first h.starts h.turns s h.run (length h.turns) (omega arith) id op
@@ -433,14 +428,16 @@ seen_in_line (z ∷ zs) (x ∷ xs) (y ∷ ys) one other =
       | inr p ↦ inr (p.0, (λ i. same i ∷ p.1 i))
     ]
 
--- what a pass with the whole share knows of the whole history
-pub whole_story : (plan : TablePlan) (s : TableState) (h : IsReached plan s) (views : List Known) → trees_of views ≡ s.views → plan.shared ≡ true
-    → AllHaveSeen (history_of h.turns) views → AreMade (history_of h.turns) views → AreSilent views
-    → (seat : ℕ) (k : Known) → get_elem? views seat ≡ some k → k.tree.share ≡ whole_share → IsFree k.tree → HasWholeStory (contents_of plan.start) (history_of h.turns) k.sight.mine
-whole_story plan s h views same mode seen made silent seat k here whole free = record {
+-- what a pass knows that has seen all of it
+pub seen_all : (plan : TablePlan) (s : TableState) (h : IsReached plan s) (views : List Known) → trees_of views ≡ s.views
+    → AllHaveSeen (history_of h.turns) views → AreMade (history_of h.turns) views → AreSilent views → AreAllApart views
+    → (seat : ℕ) (k : Known) → get_elem? views seat ≡ some k → HasSeenAll plan k.tree (record k.sight { seen = history_of h.turns })
+seen_all plan s h views same seen made silent apart seat k here = record {
   linear = linear_of plan h.first h.turns s (lin plan h.first h.starts h.turns s h.run);
   calls = (seen seat k here).mine;
-  all = λ item at.
+  apart = apart.each seat k here;
+  all = λ mode whole free item at.
+      let there : IsAllThere s seat = all_there plan s mode h seat k.tree (ap (λ v. get_elem? v seat) (sym same) ∙ at_map (λ (x : Known). x.tree) views seat k here) whole free in
       let e = ended_only plan h.first h.starts h.turns s h.run there.free item at in
       let m = made item.begin e.0 item.op item.reply (call_of h.turns item.begin e.0 item.op item.reply e.1) in (
         e.0,
@@ -453,6 +450,3 @@ whole_story plan s h views same mode seen made silent seat k here whole free = r
   where
     tree_of : (l : List Known) → trees_of l ≡ s.views → (j : ℕ) (u : Known) → get_elem? l j ≡ some u → get_elem? s.views j ≡ some u.tree
     tree_of l same j u at = ap (λ v. get_elem? v j) (sym same) ∙ at_map (λ (x : Known). x.tree) l j u at
-
-    there : IsAllThere s seat
-    there = all_there plan s mode h seat k.tree (ap (λ v. get_elem? v seat) (sym same) ∙ at_map (λ (x : Known). x.tree) views seat k here) whole free

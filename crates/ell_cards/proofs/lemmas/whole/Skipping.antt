@@ -36,7 +36,7 @@ use Rattle.ell_cards.proofs.lemmas.shown.ShownGuards.{claim_whole}
 use Rattle.ell_cards.proofs.lemmas.shown.ShownViews.{named_shown, placed_shown}
 use Rattle.ell_cards.proofs.lemmas.ties.Placed.{placed_to}
 use Rattle.ell_cards.proofs.lemmas.views.Rows.{one_claims_on, row_keys, row_share}
-use Rattle.ell_cards.proofs.lemmas.whole.Calling.{exchange_does, tree_here, tied_whole, tree_step}
+use Rattle.ell_cards.proofs.lemmas.whole.Calling.{exchange_does, tree_here, marked_so, tied_whole, tree_step}
 use Rattle.ell_cards.proofs.lemmas.whole.Calling.Notes.{nothing}
 use Rattle.ell_cards.proofs.lemmas.whole.Apart.{passes_tell_apart}
 use Rattle.ell_cards.proofs.lemmas.whole.Going.{set_twice}
@@ -107,7 +107,7 @@ module _ (plan : TablePlan) (s : Slots) (placed : plan.slots ≡ Some s) where
     claimed c node may aside won is =
         subst (λ b. IsWhole plan (claimed_to t id k (after_claim b c node k.tree) (cut_word (if b then c + 1 else get_or t.words 0 0)))) is
         (subst (λ n. IsWhole plan (claimed_to t id k (after_claim (n == c) c node k.tree) (cut_word (if n == c then c + 1 else n)))) found
-        (tied_whole plan t h id k here (call.Claim c node) may tt s placed aside unlost tt (λ none. tt) k.period (nothing refl tt (λ some d flags. absurd flags))))
+        (tied_whole plan t h id k here (call.Claim c node) may tt s placed aside unlost tt (λ none. tt) k.period k.sight (marked_so plan t h id k here (call.Claim c node) may) (nothing refl tt (λ some d flags. absurd flags))))
 
     pub claim_won : (c : ℕ) (node : NewNode) → May plan (call.Claim c node) k.tree → LaysAside k → get_or t.words 0 0 ≡ c
         → IsWhole plan (claimed_to t id k (after_claim true c node k.tree) (c + 1))
@@ -128,7 +128,7 @@ module _ (plan : TablePlan) (s : Slots) (placed : plan.slots ≡ Some s) where
     read_next n is word =
         subst (λ m. IsWhole plan (claimed_to t id k (after call.Next n k.tree) m)) (cut_same n word)
         (subst (λ m. IsWhole plan (claimed_to t id k (after call.Next m k.tree) (cut_word m))) (found ∙ is)
-        (tied_whole plan t h id k here call.Next tt tt s placed tt unlost tt (λ none. tt) k.period (nothing refl tt (λ some d flags. absurd flags))))
+        (tied_whole plan t h id k here call.Next tt tt s placed tt unlost tt (λ none. tt) k.period k.sight (marked_so plan t h id k here call.Next tt) (nothing refl tt (λ some d flags. absurd flags))))
 
   -- what was written before at the claim word and in the seat is gone
   written_again : (t : WholeState) (id : ℕ) (k : Known) (w v : View) (a n : ℕ) → claimed_to (claimed_to t id k w a) id (record k { tree = w }) v n ≡ claimed_to t id k v n

@@ -27,6 +27,7 @@ use Rattle.ell_cards.proofs.lemmas.shown.ShownViews.{unfilled_whole}
 use Rattle.ell_cards.proofs.lemmas.ties.Opens.{tree_opened, reached_opened, periods_opened, leaks_opened}
 use Rattle.ell_cards.proofs.lemmas.whole.Lifts.{unplanned_fits}
 use Rattle.ell_cards.proofs.lemmas.whole.Opens.{with_zeros}
+use Rattle.ell_cards.proofs.lemmas.whole.OwnCalls.{apart_first}
 use Rattle.ell_cards.proofs.lemmas.whole.Searches.{searches_opened}
 use Rattle.ell_cards.proofs.lemmas.whole.Seeing.{has_none}
 use Rattle.ell_cards.proofs.lemmas.whole.Takings.{takings_opened}
@@ -57,6 +58,7 @@ whole_first plan may cards words small size are is = by plan.slots refl may.slot
           seen = first_seen (first_of plan) (period_by plan.slots);
           made = λ begin end op said c. absurd (some-ne-none _ (sym c.ends));
           silent = first_silent (first_of plan) (period_by plan.slots);
+          apart = apart_first (first_known plan) refl;
           views = refl;
           homes = refl;
           stores = each_first (first_of plan) (λ v. StoresAreWhole v × PlansFit plan.slots v) (unfilled_whole (first_of plan) refl refl, unplanned_fits plan.slots (first_of plan) refl);
@@ -72,6 +74,7 @@ whole_first plan may cards words small size are is = by plan.slots refl may.slot
           seen = first_seen (first_of plan) (period_by plan.slots);
           made = λ begin end op said c. absurd (some-ne-none _ (sym c.ends));
           silent = first_silent (first_of plan) (period_by plan.slots);
+          apart = apart_first (first_known plan) refl;
           views = refl;
           homes = refl;
           stores = each_first (first_of plan) (λ v. StoresAreWhole v × PlansFit plan.slots v) (unfilled_whole (first_of plan) refl refl, unplanned_fits plan.slots (first_of plan) refl);

@@ -20,5 +20,6 @@ invariant-loop g l = record {
   more : is_done l.fn.taken_out l.fn.card l.fn.nodes l.word ≡ false → l.counter ≤ how_many_noted l.word;
   safe : l.seat.me.0.period.safe ≡ l.fn.seat.me.0.period.safe;
   surveyed : l.seat.me.0.period.surveyed ≡ l.fn.seat.me.0.period.surveyed;
+  sight : l.seat.me.0.sight ≡ l.fn.seat.me.0.sight;
   tree : l.seat.me.0.tree ≡ l.fn.seat.me.0.tree;
 }

@@ -8,6 +8,7 @@ loop-place-init g c =
     let some = some_places _ _ c.self.view_is c.self.invariant.0 c.self.invariant.8 c.args.slots c.requires.slots in record {
       seat = search rules;
       empty = search rules;
+      sight = search rules;
       tree = search rules;
       stands = search rules;
       slot = search rules;

@@ -8,6 +8,7 @@ abbrev pub invariant-loop-place : goal.invariant-loop-place
 invariant-loop-place g l = record {
   seat : l.seat.table_id ≡ l.fn.seat.table_id;
   empty : l.seat.me.1 ≡ [];
+  sight : l.seat.me.0.sight ≡ l.fn.seat.me.0.sight;
   tree : l.seat.me.0.tree ≡ l.fn.seat.me.0.tree;
   stands : StandsAs l.fn.seat.me.0.period l.seat.me.0.period;
   slot : l.seat.me.0.period.slot ≡ l.fn.seat.me.0.period.slot;
