@@ -129,8 +129,17 @@ IsCalm _ = Unit {0}
 -- a pass has seen more of the history, and has the calls that it had
 pub record HasSeenMore (old new : Sight) : Type 0 where
   pub more : IsPart old.seen new.seen
-  pub begun : new.begun ≡ old.begun
   pub mine : new.mine ≡ old.mine
+
+-- What a pass has seen of a call that it was answered: the call began behind all that the pass had seen, it is one of the
+-- history that the pass has seen now, and it is the last one of the pass's calls.
+pub record SeesCall (op : Op) (said : Reply) (old new : Sight) : Type 0 where
+  pub begin : ℕ
+  pub end : ℕ
+  pub after : length old.seen ≤ begin
+  pub more : IsPart old.seen new.seen
+  pub call : IsCall new.seen begin end op said
+  pub mine : new.mine ≡ record { begin = begin; end = end; op = op; said = said } ∷ old.mine
 
 -- What a pass knows that has seen all of its table's history up to now: the history is linearizable; the calls that the
 -- pass was answered, it and those that were joined to it, are calls of it, and no two are one; and where only the plan's

@@ -151,7 +151,8 @@ impl<J: TellingAll> Play<(), Known> for All<J> {
 
     ghost then = { λ step old found new. J.then found (shown new.0.tree)
         × (new.0.period ≡ old.0.period) × (new.1 ≡ old.1)
-        × HasSeenMore old.0.sight new.0.sight × HasSeenAll J.plan (shown old.0.tree) new.0.sight };
+        × HasSeenMore old.0.sight new.0.sight × HasSeenAll J.plan (shown old.0.tree) new.0.sight
+        × (new.0.sight.begun ≡ old.0.sight.begun) };
 }
 
 /// What a step tells of the word that it found and of what the pass knows of periods after it. The caller of the step picks

@@ -26,6 +26,7 @@ impl<M: Memory> CardTable<M> {
         // one; and the order has no others if keys are shared, and the pass has the whole share and nothing in hand.
         ensures all { HasSeenAll self.now.plan pass.new.view pass.new.sight }
         ensures more { HasSeenMore pass.old.sight pass.new.sight }
+        ensures begun { pass.new.sight.begun ≡ pass.old.sight.begun }
         // It loads the claim word.
         ensures step { (n : ℕ) × SeesOn pass.old pass.new (after call.Next n pass.old.view) }
     {

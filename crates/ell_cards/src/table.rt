@@ -236,6 +236,7 @@ impl<M: Memory> CardTable<M> {
         ensures step { SeesOnBy pass.old pass.new }
         ensures more { HasSeenMore pass.old.sight pass.new.sight }
         ensures all { HasSeenAll self.now.plan pass.old.view pass.new.sight }
+        ensures begun { pass.new.sight.begun ≡ pass.old.sight.begun }
     {
         self.table.load::<All<J>>(&mut pass.seat, 0)
     }

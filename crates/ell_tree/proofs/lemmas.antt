@@ -34,6 +34,8 @@ pub mod Counts
 pub mod Flagging
 -- how passes begin, part and come together
 pub mod PassParts
+-- what a pass sees of the history in a call
+pub mod Sights
 -- how a tree ends
 pub mod Closing
 -- the bounds of a flat tree

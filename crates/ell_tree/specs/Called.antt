@@ -7,12 +7,18 @@ use Rattle.ell_core.specs.statements.Effects.{reply_of_change}
 use Rattle.ell_cards.specs.declared.view.Deed.{Deed}
 use Rattle.ell_cards.specs.Changes.{deed_of, deed_taking}
 use Rattle.ell_cards.specs.Models.{PassModel}
+use Rattle.ell_cards.specs.Seeing.{HasSeenMore, SeesCall}
 use Rattle.ell_tree.specs.declared.operations.NotDone.{NotDone}
 
 -- what a pass was answered by a call that took nothing: this, or nothing, where the call has no answer
 abbrev pub IsCalled : Op → PassModel → PassModel → Result Reply NotDone → Type 0
 IsCalled op old new (Ok said) = new.view.answers ≡ deed_of op said old.view.answers ∷ old.view.answers
 IsCalled op old new (Err why) = new.view.answers ≡ old.view.answers
+
+-- what a pass has seen of a call: that, or, where the call has no answer, more of the history
+abbrev pub SeesAnswer : Op → PassModel → PassModel → Result Reply NotDone → Type 0
+SeesAnswer op old new (Ok said) = SeesCall op said old.sight new.sight
+SeesAnswer op old new (Err why) = HasSeenMore old.sight new.sight
 
 -- a delete of a key that took this value, or none
 abbrev pub delete_of : ℕ → Option ℕ → List Deed → Deed

@@ -29,11 +29,12 @@ pub record LosesNothing (v w : View) : Type 0 where
   pub hindered : w.hindered ≡ v.hindered
   pub earlier : (hs : List Hindrance) → v.hindrances ≡ v.met ++ hs → w.hindrances ≡ w.met ++ hs
 
--- a pass made at most so many steps, and kept these, and the slot that it took last
+-- a pass made at most so many steps, and kept these, the slot that it took last, and what it knows of the history
 pub record Keeps (old new : PassModel) (n : ℕ) : Type 0 where
   pub table : new.table ≡ old.table
   pub label : new.label ≡ old.label
   pub slot : new.slot ≡ old.slot
+  pub sight : new.sight ≡ old.sight
   pub view : LosesNothing old.view new.view
   pub took : Took old new n
 
@@ -41,6 +42,7 @@ pub record Keeps (old new : PassModel) (n : ℕ) : Type 0 where
 pub record KeepsIn (plan : TablePlan) (old new : PassModel) (n : ℕ) : Type 0 where
   pub table : new.table ≡ old.table
   pub label : new.label ≡ old.label
+  pub sight : new.sight ≡ old.sight
   pub view : LosesNothing old.view new.view
   pub took : TookIn plan old new n
 

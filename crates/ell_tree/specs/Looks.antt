@@ -13,6 +13,7 @@ use Rattle.ell_tree.specs.Ledgers.{TreeModel}
 pub record OnlyLooks (old new : PassModel) (n : ℕ) : Type 0 where
   pub table : new.table ≡ old.table
   pub label : new.label ≡ old.label
+  pub sight : new.sight ≡ old.sight
   pub worker : new.view.worker ≡ old.view.worker
   pub answers : new.view.answers ≡ old.view.answers
   pub answered : new.view.answered ≡ old.view.answered

@@ -22,6 +22,7 @@ use Rattle.ell_cards.specs.declared.view.View.{View}
 use Rattle.ell_cards.specs.Models.{flat_from, TablePlan, PassModel, Has, IsTold, Knows, Does, StandsAt, new_node}
 use Rattle.ell_cards.specs.Changes.{value_told, expected_tag, told_filling, filling_of, tagged, with_stores, tries_hindered}
 use Rattle.ell_cards.specs.Guards.{IsFilled, MayFill}
+use Rattle.ell_cards.specs.Seeing.{SeesEnd}
 use Rattle.ell_cards.specs.Shown.{shown_words}
 use Rattle.ell_tree.specs.declared.searching.Place.{Place}
 use Rattle.ell_tree.specs.declared.trying.Claimed.{Claimed}
@@ -75,6 +76,7 @@ pub record Lays (op : Op) (old new : PassModel) : Type 0 where
   pub laid : new.view.laid_down ≡ Some op
   pub table : new.table ≡ old.table
   pub label : new.label ≡ old.label
+  pub sight : new.sight ≡ old.sight
   pub ledger : new.view.worker.ledger ≡ old.view.worker.ledger
   pub answers : new.view.answers ≡ old.view.answers
   pub share : SameShare old.view new.view
@@ -97,6 +99,7 @@ pub record Lays (op : Op) (old new : PassModel) : Type 0 where
 pub record Halts (op : Op) (old new : PassModel) : Type 0 where
   pub table : new.table ≡ old.table
   pub label : new.label ≡ old.label
+  pub sight : new.sight ≡ old.sight
   pub ledger : new.view.worker.ledger ≡ old.view.worker.ledger
   pub answers : new.view.answers ≡ old.view.answers
   pub share : SameShare old.view new.view
@@ -110,6 +113,7 @@ pub record Halts (op : Op) (old new : PassModel) : Type 0 where
 abbrev pub TryEnds : TreeModel → Op → PassModel → PassModel → Tried → Type 0
 TryEnds t op old new (tried.Answered had) =
     Answers t op (reply_by op had) old new × Meets old.view new.view × (new.view.next_at_least ≤ t.plan.last_card + 1)
+    × SeesEnd op (reply_by op had) old.sight new.sight
 TryEnds t op old new tried.Spent = Halts op old new × NoneIsLeft t.plan op 0 new × LetsGo t.plan new
 TryEnds t op old new tried.Hindered =
     Halts op old new × (length old.view.hindrances + 1 ≤ length (way_of op new.view) + length new.view.hindrances)
@@ -219,6 +223,7 @@ ClaimsNext plan op place node_key old new next.InUse = ClaimsInVain plan old new
 pub record Fills (old new : PassModel) (n : ℕ) : Type 0 where
   pub table : new.table ≡ old.table
   pub label : new.label ≡ old.label
+  pub sight : new.sight ≡ old.sight
   pub slot : new.slot ≡ old.slot
   pub took : Took old new n
   pub view : new.view ≡ with_stores new.view.stores old.view

@@ -15,6 +15,7 @@ ghost use Rattle.ell_cards.specs.Depths.{deepest, IsShallow, depth_of};
 ghost use Rattle.ell_cards.specs.Guards.{KnowsPlace, MayAnswer, MayAsk, NamesNode};
 ghost use Rattle.ell_cards.specs.Calls.{TellsNode};
 ghost use Rattle.ell_cards.specs.Looking.{ValuesAreFixed};
+ghost use Rattle.ell_cards.specs.Seeing.{SeesBegin, SeesEnd};
 ghost use Rattle.ell_cards.specs.Stepping.{LetsGo};
 ghost use Rattle.ell_tree.specs.CardsTaken.{TakesNoCard};
 ghost use Rattle.ell_tree.specs.Counts.{Took};
@@ -48,7 +49,8 @@ pub(crate) fn begin<M: Memory, G: StepGate>(
     requires own { pass.old.table ≡ table.now.id }
     requires free { IsFree pass.old.view }
     requires may { MayChange (worker_of pass.old.view.worker) (key_of op) }
-    ensures { Begins op [] pass.old.view.hindered pass.old pass.new }
+    ensures begins { Begins op [] pass.old.view.hindered pass.old pass.new }
+    ensures sees { SeesBegin op pass.old.sight pass.new.sight }
 {
     gate.before(pass.label(), Kind::Note);
     table.begin(pass, op);
@@ -60,8 +62,9 @@ pub(crate) fn again<M: Memory, G: StepGate>(table: &CardTable<M>, pass: &mut Pas
     requires may { MayStop (worker_of pass.old.view.worker) }
     // Where there are places, the pass has noted all that its card in hand made dead.
     requires noted { LetsGo table.now.plan pass.old }
-    ensures { (op : Op) → Does pass.old.view op →
+    ensures begins { (op : Op) → Does pass.old.view op →
         Begins op (way_of op pass.old.view) (tries_hindered pass.old.view) pass.old pass.new }
+    ensures sight { pass.new.sight ≡ pass.old.sight }
 {
     gate.before(pass.label(), Kind::Note);
     table.again(pass);
@@ -92,6 +95,7 @@ pub(crate) fn answer<M: Memory, G: StepGate>(
     // Where there are places, the pass has noted all that its card in hand made dead.
     requires noted { LetsGo table.now.plan pass.old }
     ensures answers { (op : Op) → Does pass.old.view op → Answers table.now op said pass.old pass.new }
+    ensures sees { (op : Op) → Does pass.old.view op → SeesEnd op said pass.old.sight pass.new.sight }
     ensures hindrances { pass.new.view.hindrances ≡ pass.old.view.hindrances }
     ensures hindered { pass.new.view.hindered ≡ pass.old.view.hindered }
     ensures last { pass.new.view.answered ≡ answered_so pass.old.view.worker.operation pass.old.view.worker.card said

@@ -10,7 +10,7 @@ ghost use Rattle.ell_word.specs.Node.{most_start};
 ghost use Rattle.ell_core.specs.state.Opening.{last_card};
 ghost use Rattle.ell_cards.specs.Changes.{inherited};
 ghost use Rattle.ell_cards.specs.Models.{IsCardCount, MayPart, RefusesCards, SplitRefuses};
-ghost use Rattle.ell_tree.specs.Called.{IsCalled, IsDeleteCalled, IsPutCalled, IsRemoveCalled, IsTakeCalled, IsUpdateCalled};
+ghost use Rattle.ell_tree.specs.Called.{IsCalled, IsDeleteCalled, IsPutCalled, IsRemoveCalled, IsTakeCalled, IsUpdateCalled, SeesAnswer};
 ghost use Rattle.ell_tree.specs.CardsLeft.{AreLeftAtMost, ReadsCardsLeft};
 ghost use Rattle.ell_tree.specs.CardsTaken.{TakesNoCard};
 ghost use Rattle.ell_tree.specs.Computing.{update_steps_in, AreTried, AreTriedOrRead, IsNotDone, IsSum, PutsValue, RemovesIf, UpdatesValue, update_steps, whether_put};
@@ -360,6 +360,9 @@ impl<M: Memory> Tree<M> {
         ensures answers { Answers self.now (Find key) (found result) pass.old pass.new }
         // The pass was answered this call, and no other.
         ensures called { IsCalled (Find key) pass.old pass.new (Ok (found result)) }
+        // The call began behind all that the pass had seen of the tree's history, it is a call of what the pass has seen
+        // now, and it is the last one of the pass's calls.
+        ensures sees { SeesAnswer (Find key) pass.old pass.new (Ok (found result)) }
         // Nothing is in its way, and no try is counted as hindered.
         ensures quiet { IsQuiet self.now pass.old pass.new }
         // It makes at most `3 * depth + 7` steps.
@@ -412,6 +415,9 @@ impl<M: Memory> Tree<M> {
         ensures ends { Ends self.now tries (Insert key value) pass.old pass.new (replied result) }
         // The pass was answered this call and no other, or nothing if the call has no answer.
         ensures called { IsCalled (Insert key value) pass.old pass.new (replied result) }
+        // The call began behind all that the pass had seen of the tree's history, it is a call of what the pass has seen
+        // now, and it is the last one of the pass's calls. A call that has no answer adds none.
+        ensures sees { SeesAnswer (Insert key value) pass.old pass.new (replied result) }
         // A `Busy` call counts each of its tries as hindered. Each shows the pass a milestone that it did not know, and
         // in every run they are no more than others' acts allow.
         ensures others { result ≡ Err Busy → IsOthersDoing self.now tries pass.old pass.new }
@@ -447,6 +453,9 @@ impl<M: Memory> Tree<M> {
         ensures ends { Ends self.now tries (Swap key was value) pass.old pass.new (found_or_not_done result) }
         // The pass was answered this call and no other, or nothing if the call has no answer.
         ensures called { IsCalled (Swap key was value) pass.old pass.new (found_or_not_done result) }
+        // The call began behind all that the pass had seen of the tree's history, it is a call of what the pass has seen
+        // now, and it is the last one of the pass's calls. A call that has no answer adds none.
+        ensures sees { SeesAnswer (Swap key was value) pass.old pass.new (found_or_not_done result) }
         // A `Busy` call counts each of its tries as hindered. Each shows the pass a milestone that it did not know, and
         // in every run they are no more than others' acts allow.
         ensures others { result ≡ Err Busy → IsOthersDoing self.now tries pass.old pass.new }
@@ -618,6 +627,9 @@ impl<M: Memory> Tree<M> {
         // The pass was answered this call and no other, or nothing if the call has no answer. The call took a value
         // exactly if it says so.
         ensures called { IsDeleteCalled key pass.old pass.new result }
+        // The call began behind all that the pass had seen of the tree's history, it is a call of what the pass has seen
+        // now, and it is the last one of the pass's calls. A call that has no answer adds none.
+        ensures sees { SeesAnswer (Delete key) pass.old pass.new (replied result) }
         // A `Busy` call counts each of its tries as hindered. Each shows the pass a milestone that it did not know, and
         // in every run they are no more than others' acts allow.
         ensures others { result ≡ Err Busy → IsOthersDoing self.now tries pass.old pass.new }
@@ -657,6 +669,9 @@ impl<M: Memory> Tree<M> {
         // The pass was answered this call and no other, which took the value that it returns; or nothing, if the call
         // has no answer.
         ensures called { IsTakeCalled key pass.old pass.new result }
+        // The call began behind all that the pass had seen of the tree's history, it is a call of what the pass has seen
+        // now, and it is the last one of the pass's calls. A call that has no answer adds none.
+        ensures sees { SeesAnswer (Delete key) pass.old pass.new (replied (whether result)) }
         // The value is the one that it took: for a key of the pass, the value that the pass had; for any key, the one
         // that it had at the call's point, in every run.
         ensures took { IfOk result (TakesValue self.now key pass.old pass.new) }

@@ -79,6 +79,7 @@ lays old new op s busy = subst (λ (m : PassModel). Lays op old m) (sym s) (reco
   laid = busy;
   table = refl;
   label = refl;
+  sight = refl;
   ledger = refl;
   answers = refl;
   share = record { share = refl; ownable = refl };

@@ -77,6 +77,7 @@ pub keeps_slot : (plan : TablePlan) (a d e : PassModel) (n : ℕ) → KeepsIn pl
 keeps_slot plan a d e n k same = record {
   table = ap (λ (p : PassModel). p.table) same ∙ k.table;
   label = ap (λ (p : PassModel). p.label) same ∙ k.label;
+  sight = ap (λ (p : PassModel). p.sight) same ∙ k.sight;
   view = subst (LosesNothing a.view) (sym (ap (λ (p : PassModel). p.view) same)) k.view;
   took = (let steps = ap (λ (p : PassModel). p.steps) same in
       let made = ap (λ (p : PassModel). p.view.made) same in
@@ -139,6 +140,7 @@ module _ (a b e : PassModel) (first : ℕ) (node : NewNode) (read : Steps a b (a
         record {
           table = ap (λ (p : PassModel). p.table) s ∙ (ap (λ (p : PassModel). p.table) same ∙ before.table);
           label = ap (λ (p : PassModel). p.label) s ∙ (ap (λ (p : PassModel). p.label) same ∙ before.label);
+          sight = ap (λ (p : PassModel). p.sight) s ∙ (ap (λ (p : PassModel). p.sight) same ∙ before.sight);
           view = loses_trans a.view (after_next first a.view) d.view (next_keeps first a.view) keeps;
           took = record { steps = omega (arith, before.took.steps, steps, there); made = λ none. (let only = one none in omega (arith, only, made)) };
         }
@@ -261,6 +263,7 @@ keeps_in_within : (plan : TablePlan) (a b : PassModel) (m n : ℕ) → KeepsIn p
 keeps_in_within plan a b m n h le = record {
   table = h.table;
   label = h.label;
+  sight = h.sight;
   view = h.view;
   took = record { steps = omega (arith, h.took.steps, le); made = λ empty. omega (arith, h.took.made empty, le) };
 }

@@ -117,6 +117,7 @@ module _ (k : Exchange) (flag : ℕ → Fact) (c x : ℕ) (from : Update) where
     flag_goes = record {
       table = ap (λ (p : PassModel). p.table) step ∙ fills.table;
       label = ap (λ (p : PassModel). p.label) step ∙ fills.label;
+      sight = ap (λ (p : PassModel). p.sight) step ∙ fills.sight;
       slot = ap (λ (p : PassModel). p.slot) step ∙ fills.slot;
       view = subst (LosesNothing a.view) (sym flagged_view) (flagging_keeps b.view.stores r a.view);
       took = took_trans a b d n 1 (n + 1) fills.took

@@ -47,6 +47,7 @@ pub keeps_trans : (a b c : PassModel) (m n k : ℕ) → Keeps a b m → Keeps b 
 keeps_trans a b c m n k h h' le = record {
   table = h'.table ∙ h.table;
   label = h'.label ∙ h.label;
+  sight = h'.sight ∙ h.sight;
   slot = h'.slot ∙ h.slot;
   view = loses_trans a.view b.view c.view h.view h'.view;
   took = took_trans a b c m n k h.took h'.took le;
@@ -54,12 +55,13 @@ keeps_trans a b c m n k h h' le = record {
 
 -- the same in a table
 pub keeps_in : (plan : TablePlan) (a b : PassModel) (n : ℕ) → Keeps a b n → KeepsIn plan a b n
-keeps_in plan a b n h = record { table = h.table; label = h.label; view = h.view; took = took_in plan a b n h.took }
+keeps_in plan a b n h = record { table = h.table; label = h.label; sight = h.sight; view = h.view; took = took_in plan a b n h.took }
 
 pub keeps_in_trans : (plan : TablePlan) (a b c : PassModel) (m n k : ℕ) → KeepsIn plan a b m → KeepsIn plan b c n → m + n ≤ k → KeepsIn plan a c k
 keeps_in_trans plan a b c m n k h h' le = record {
   table = h'.table ∙ h.table;
   label = h'.label ∙ h.label;
+  sight = h'.sight ∙ h.sight;
   view = loses_trans a.view b.view c.view h.view h'.view;
   took = took_in_trans plan a b c m n k h.took h'.took le;
 }
@@ -84,7 +86,7 @@ keeps_but_met_trans a b c m n k h h' le = record {
 
 -- with no more than so many steps
 keeps_within : (a b : PassModel) (m n : ℕ) → Keeps a b m → m ≤ n → Keeps a b n
-keeps_within a b m n h le = record { table = h.table; label = h.label; slot = h.slot; view = h.view; took = took_within a b m n h.took le }
+keeps_within a b m n h le = record { table = h.table; label = h.label; sight = h.sight; slot = h.slot; view = h.view; took = took_within a b m n h.took le }
 
 pub keeps_but_met_within : (a b : PassModel) (m n : ℕ) → KeepsAllButMet a b m → m ≤ n → KeepsAllButMet a b n
 keeps_but_met_within a b m n h le = record {
@@ -117,6 +119,7 @@ keeps_all_none a n = record {
   keeps = record {
     table = refl;
     label = refl;
+    sight = refl;
     slot = refl;
     view = record { ledger = refl; operation = refl; answers = refl; share = record { share = refl; ownable = refl }; knows = λ f h. h; told = λ e h. h; before = refl; least = omega arith; hindered = refl; earlier = λ hs e. e };
     took = took_none a n;
@@ -175,26 +178,26 @@ place_told x state.Clean c v w f t = tt
 
 -- a step to a view that keeps these
 pub keeps_step : (old new : PassModel) (v : View) → Steps old new v → LosesNothing old.view v → v.made ≡ old.view.made + 1 → Keeps old new 1
-keeps_step old new v s k made = subst (λ (m : PassModel). Keeps old m 1) (sym s) (record { table = refl; label = refl; slot = refl; view = k; took = took_one old v made })
+keeps_step old new v s k made = subst (λ (m : PassModel). Keeps old m 1) (sym s) (record { table = refl; label = refl; sight = refl; slot = refl; view = k; took = took_one old v made })
 
 pub keeps_but_search_step : (old new : PassModel) (v : View) → Steps old new v → LosesNothing old.view v → v.made ≡ old.view.made + 1 → claims_in v.won ≡ claims_in old.view.won → v.worker.card ≡ old.view.worker.card
     → v.worker.flagged ≡ old.view.worker.flagged → v.hindrances ≡ old.view.hindrances → KeepsAllButSearch old new 1
 keeps_but_search_step old new v s k made taken card flagged hindrances =
     subst (λ (m : PassModel). KeepsAllButSearch old m 1) (sym s)
-    (record { keeps = record { table = refl; label = refl; slot = refl; view = k; took = took_one old v made }; taken = taken; card = card; flagged = flagged; hindrances = hindrances })
+    (record { keeps = record { table = refl; label = refl; sight = refl; slot = refl; view = k; took = took_one old v made }; taken = taken; card = card; flagged = flagged; hindrances = hindrances })
 
 -- a step that is not counted yet, to such a view
 pub keeps_but_search_unseen : (old new : PassModel) (v : View) → Sees old new v → LosesNothing old.view v → v.made ≡ old.view.made + 1 → claims_in v.won ≡ claims_in old.view.won → v.worker.card ≡ old.view.worker.card
     → v.worker.flagged ≡ old.view.worker.flagged → v.hindrances ≡ old.view.hindrances → KeepsAllButSearch old new 1
 keeps_but_search_unseen old new v s k made taken card flagged hindrances =
     subst (λ (m : PassModel). KeepsAllButSearch old m 1) (sym s)
-    (record { keeps = record { table = refl; label = refl; slot = refl; view = k; took = took_unseen old v made }; taken = taken; card = card; flagged = flagged; hindrances = hindrances })
+    (record { keeps = record { table = refl; label = refl; sight = refl; slot = refl; view = k; took = took_unseen old v made }; taken = taken; card = card; flagged = flagged; hindrances = hindrances })
 
 -- a search whose steps are counted once it has ended
 pub keeps_but_search_counted : (a b c : PassModel) (n k : ℕ) → KeepsAllButSearch a b n → HasUncounted a b k → Counts b c k → KeepsAllButSearch a c n
 keeps_but_search_counted a b c n k h u s =
     subst (λ (m : PassModel). KeepsAllButSearch a m n) (sym s) (record {
-      keeps = record { table = h.keeps.table; label = h.keeps.label; slot = h.keeps.slot; view = h.keeps.view; took = took_counted a b (record b { steps = some_more k b.steps }) n k h.keeps.took u refl };
+      keeps = record { table = h.keeps.table; label = h.keeps.label; sight = h.keeps.sight; slot = h.keeps.slot; view = h.keeps.view; took = took_counted a b (record b { steps = some_more k b.steps }) n k h.keeps.took u refl };
       taken = h.taken;
       card = h.card;
       flagged = h.flagged;
@@ -205,13 +208,13 @@ pub keeps_but_met_step : (old new : PassModel) (v : View) → Steps old new v �
     → v.worker.flagged ≡ old.view.worker.flagged → v.worker.search ≡ old.view.worker.search → KeepsAllButMet old new 1
 keeps_but_met_step old new v s k made taken card flagged search =
     subst (λ (m : PassModel). KeepsAllButMet old m 1) (sym s)
-    (record { keeps = record { table = refl; label = refl; slot = refl; view = k; took = took_one old v made }; taken = taken; card = card; flagged = flagged; search = search })
+    (record { keeps = record { table = refl; label = refl; sight = refl; slot = refl; view = k; took = took_one old v made }; taken = taken; card = card; flagged = flagged; search = search })
 
 pub keeps_all_step : (old new : PassModel) (v : View) → Steps old new v → LosesNothing old.view v → v.made ≡ old.view.made + 1 → claims_in v.won ≡ claims_in old.view.won → v.worker.card ≡ old.view.worker.card
     → v.worker.flagged ≡ old.view.worker.flagged → v.worker.search ≡ old.view.worker.search → v.hindrances ≡ old.view.hindrances → KeepsAll old new 1
 keeps_all_step old new v s k made taken card flagged search hindrances =
     subst (λ (m : PassModel). KeepsAll old m 1) (sym s) (record {
-      keeps = record { table = refl; label = refl; slot = refl; view = k; took = took_one old v made };
+      keeps = record { table = refl; label = refl; sight = refl; slot = refl; view = k; took = took_one old v made };
       taken = taken;
       card = card;
       flagged = flagged;

@@ -31,6 +31,7 @@ pub only_trans : (a b c : PassModel) (m n k : ℕ) → OnlyLooks a b m → OnlyL
 only_trans a b c m n k h h' le = record {
   table = h'.table ∙ h.table;
   label = h'.label ∙ h.label;
+  sight = h'.sight ∙ h.sight;
   worker = h'.worker ∙ h.worker;
   answers = h'.answers ∙ h.answers;
   answered = h'.answered ∙ h.answered;
@@ -53,6 +54,7 @@ pub only_none_yet : (a : PassModel) → OnlyLooks a a 0
 only_none_yet a = record {
   table = refl;
   label = refl;
+  sight = refl;
   worker = refl;
   answers = refl;
   answered = refl;
@@ -78,6 +80,7 @@ only_step : (old new : PassModel) (told : List Told) (here : Option ℕ) (glance
 only_step old new told here glances looks s = subst (λ (m : PassModel). OnlyLooks old m 1) (sym s) (record {
   table = refl;
   label = refl;
+  sight = refl;
   worker = refl;
   answers = refl;
   answered = refl;
@@ -103,6 +106,7 @@ only_counted a b c n k h u s =
     subst (λ (m : PassModel). OnlyLooks a m n) (sym s) (record {
       table = h.table;
       label = h.label;
+      sight = h.sight;
       worker = h.worker;
       answers = h.answers;
       answered = h.answered;

@@ -32,7 +32,7 @@ use Rattle.ell_tree.specs.Searches.{node_with}
 
 -- what a pass kept it has kept once it has noted nodes
 keeps_noted : (a m : PassModel) (sought : Seek) (n : ℕ) → Keeps a m n → Keeps a (record m { sought = sought }) n
-keeps_noted a m sought n h = record { table = h.table; label = h.label; slot = h.slot; view = h.view; took = record { steps = h.took.steps; made = h.took.made } }
+keeps_noted a m sought n h = record { table = h.table; label = h.label; sight = h.sight; slot = h.slot; view = h.view; took = record { steps = h.took.steps; made = h.took.made } }
 
 pub keeps_all_noted : (a m m' : PassModel) (n : ℕ) → KeepsAll a m n → HasNoted m m' → KeepsAll a m' n
 keeps_all_noted a m m' n h same = subst (λ x. KeepsAll a x n) (sym same) (record {

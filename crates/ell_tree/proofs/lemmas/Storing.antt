@@ -19,6 +19,7 @@ use Rattle.ell_tree.proofs.lemmas.Counts.{took_none, took_one, took_trans}
 pub record Stores (old new : PassModel) (stores : List (Field × ℕ)) (n : ℕ) : Type 0 where
   pub table : new.table ≡ old.table
   pub label : new.label ≡ old.label
+  pub sight : new.sight ≡ old.sight
   pub slot : new.slot ≡ old.slot
   pub took : Took old new n
   pub view : new.view ≡ with_stores stores old.view
@@ -28,6 +29,7 @@ pub stores_none : (a : PassModel) → a.view.stores ≡ [] → Stores a a [] 0
 stores_none a empty = record {
   table = refl;
   label = refl;
+  sight = refl;
   slot = refl;
   took = took_none a 0;
   view = ap (λ es. record (a.view) { stores = es }) empty;
@@ -39,6 +41,7 @@ pub stores_more : (a b d : PassModel) (stores : List (Field × ℕ)) (n : ℕ) (
 stores_more a b d stores n f x h s = record {
   table = ap (λ (p : PassModel). p.table) s ∙ h.table;
   label = ap (λ (p : PassModel). p.label) s ∙ h.label;
+  sight = ap (λ (p : PassModel). p.sight) s ∙ h.sight;
   slot = ap (λ (p : PassModel). p.slot) s ∙ h.slot;
   took = took_trans a b d n 1 (n + 1) h.took (subst (λ (p : PassModel). Took b p 1) (sym s) (took_one b (after_fill f x b.view) refl)) (omega arith);
   view = view_after b d (after_fill f x b.view) s ∙ ap (after_fill f x) h.view;
@@ -94,6 +97,7 @@ fills a b n stores says h planned same =
     let filling = ap (λ (v : View). v.planned) h.view ∙ planned in record {
       table = h.table;
       label = h.label;
+      sight = h.sight;
       slot = h.slot;
       took = h.took;
       view = h.view ∙ ap (λ es. with_stores es a.view) (sym filled);

@@ -31,7 +31,7 @@ use Rattle.ell_cards.proofs.lemmas.whole.Sighting.{sees_all, sighted_all}
 
 -- what the pass knows then
 abbrev pub TellsAll : TablePlan → View → Sight → Sight → Type 0
-TellsAll plan v old new = HasSeenMore old new × HasSeenAll plan v new
+TellsAll plan v old new = HasSeenMore old new × HasSeenAll plan v new × (new.begun ≡ old.begun)
 
 module _ (plan : TablePlan) (k : Known) (s : WholeState) (h : IsWhole plan s) (id : ℕ) (here : get_elem? s.views id ≡ some k) where
   abbrev past : List Event
@@ -49,8 +49,9 @@ module _ (plan : TablePlan) (k : Known) (s : WholeState) (h : IsWhole plan s) (i
       (seen_after plan s h id k here c tt tt k.period g sees) (made_after plan s h id k here c tt tt k.period g sees) (silent_after plan s h id k here c tt tt k.period g sees)
       (sees.apart now refl) id now (set_there s.views id now k here) in
       let full = subst (λ (l : List Event). HasSeenAll plan now.tree (record k.sight { seen = l })) (history_snoc h.reached.turns (Makes id c)) told in (
-        record { more = part_on k.sight.seen past (Quiet ∷ []) (h.seen id k here).part; begun = refl; mine = refl },
+        record { more = part_on k.sight.seen past (Quiet ∷ []) (h.seen id k here).part; mine = refl },
         record { linear = full.linear; calls = full.calls; apart = full.apart; all = full.all },
+        refl,
       )
 
   told_all : (d : Call) → May plan d k.tree → shown_call d ≡ call.Next → TellsAll plan (shown k.tree) k.sight (sees_all plan h.tree h.reached id k.tree (tree_here plan s h id k here) s.views k here refl h.seen h.made h.silent h.apart d)

@@ -23,6 +23,7 @@ use Rattle.ell_tree.proofs.lemmas.Filling.{delete_card, delete_wants, told_grand
 use Rattle.ell_tree.proofs.lemmas.Milestones.{sees_end, gives_out}
 use Rattle.ell_tree.proofs.lemmas.Retiring.{keeps_but_met_noted}
 use Rattle.ell_tree.proofs.lemmas.Searches.{unknown_above, named_above, passed_above, searched_in_try}
+use Rattle.ell_tree.proofs.lemmas.Sights.{ends_from}
 use Rattle.ell_tree.proofs.deleting.delete_at.Goals as goal
 
 pub take_card-requires-clause-wants : goal.take_card-requires-clause-wants
@@ -138,6 +139,7 @@ returns-then-ne-clause-ends g c =
       record {
         table = search rules;
         label = search rules;
+        sight = search rules;
         ledger = search rules;
         answers = search rules;
         share = met.keeps.view.share;
@@ -177,6 +179,7 @@ returns-then-ne-2-clause-ends g c =
       record {
         table = search rules;
         label = search rules;
+        sight = search rules;
         ledger = search rules;
         answers = search rules;
         share = met.keeps.view.share;
@@ -210,6 +213,7 @@ returns-in-NoneLeft-clause-ends g c =
       record {
         table = search rules;
         label = search rules;
+        sight = search rules;
         ledger = search rules;
         answers = search rules;
         share = c.take_card.ensures.keeps.view.share;
@@ -242,6 +246,7 @@ returns-in-Lost-clause-ends g c =
       record {
         table = search rules;
         label = search rules;
+        sight = search rules;
         ledger = search rules;
         answers = search rules;
         share = c.take_card.ensures.keeps.view.share;
@@ -278,6 +283,7 @@ returns-in-Err-clause-ends g c =
       record {
         table = search rules;
         label = search rules;
+        sight = search rules;
         ledger = search rules;
         answers = search rules;
         share = share_trans a.view f.view new.view (share_trans a.view t.view f.view c.take_card.ensures.keeps.view.share c.flag_delete.ensures.keeps.view.share)
@@ -314,6 +320,8 @@ returns-clause-ends g c =
           (keeps_answers c.args.table.now op _ f m said.new.pass _ met.keeps answers)),
       meets_trans a.view m.view said.new.pass.view finished (said_meets m.view said.new.pass.view said.ensures.hindrances said.ensures.facts),
       said.ensures.room,
+      ends_from op _ a.sight m.sight said.new.pass.sight (met.keeps.sight ∙ (c.flag_delete.ensures.keeps.sight ∙ c.take_card.ensures.keeps.sight))
+          (said.ensures.sees op (search rules)),
     )
 
 -- the value of the leaf of the card was taken

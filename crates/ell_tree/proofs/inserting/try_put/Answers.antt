@@ -24,6 +24,8 @@ use Rattle.ell_tree.proofs.lemmas.Hindrances.{root_in_try}
 use Rattle.ell_tree.proofs.lemmas.Putting.{put_wants, put_refused, put_done, refused_outer}
 use Rattle.ell_tree.proofs.lemmas.Retiring.{has_put, keeps_all_noted}
 use Rattle.ell_tree.proofs.lemmas.Milestones.{sees_end, gives_out}
+use Rattle.ell_tree.proofs.lemmas.Sights.{ends_from}
+use Rattle.ell_cards.specs.Seeing.{SeesEnd}
 use Rattle.ell_tree.proofs.inserting.try_put.Goals as goal
 
 pub take_card-requires-clause-wants : goal.take_card-requires-clause-wants
@@ -126,6 +128,9 @@ returns-then-not-may_replace-clause-ends g c =
       meets_trans a.view s.new.pass.view said.new.pass.view (seek_meets a s.new.pass _ s.ensures.keeps_but_search)
           (said_meets s.new.pass.view said.new.pass.view said.ensures.hindrances said.ensures.facts),
       said.ensures.room,
+      subst (λ r. SeesEnd c.args.op r a.sight said.new.pass.sight) reply
+          (ends_from c.args.op _ a.sight s.new.pass.sight said.new.pass.sight s.ensures.keeps_but_search.keeps.sight
+          (said.ensures.sees c.args.op (s.ensures.keeps_but_search.keeps.view.operation ∙ c.requires.root.busy))),
     )
 
 pub returns-then-not-may_replace-clause-taken : goal.returns-then-not-may_replace-clause-taken
@@ -152,6 +157,7 @@ returns-then-ne-clause-ends g c =
       record {
         table = search rules;
         label = search rules;
+        sight = search rules;
         ledger = search rules;
         answers = search rules;
         share = share_trans a.view s.new.pass.view new.view s.ensures.keeps_but_search.keeps.view.share c.help.ensures.keeps_but_met.keeps.view.share;
@@ -185,6 +191,7 @@ returns-in-NoneLeft-clause-ends g c =
       record {
         table = search rules;
         label = search rules;
+        sight = search rules;
         ledger = search rules;
         answers = search rules;
         share = share_trans a.view s.new.pass.view new.view s.ensures.keeps_but_search.keeps.view.share c.take_card.ensures.keeps.view.share;
@@ -215,6 +222,7 @@ returns-in-Lost-clause-ends g c =
       record {
         table = search rules;
         label = search rules;
+        sight = search rules;
         ledger = search rules;
         answers = search rules;
         share = share_trans a.view s.new.pass.view new.view s.ensures.keeps_but_search.keeps.view.share c.take_card.ensures.keeps.view.share;
@@ -254,6 +262,10 @@ returns-in-Ok-clause-ends g c =
           (keeps_answers c.args.table.now c.args.op _ f m said.new.pass _ kept.keeps answers)))),
       meets_trans a.view m.view said.new.pass.view finished (said_meets m.view said.new.pass.view said.ensures.hindrances said.ensures.facts),
       said.ensures.room,
+      subst (λ r. SeesEnd c.args.op r a.sight said.new.pass.sight) reply
+          (ends_from c.args.op _ a.sight m.sight said.new.pass.sight
+          (kept.keeps.sight ∙ (c.flag_insert.ensures.keeps.sight ∙ (c.take_card.ensures.keeps.sight ∙ s.ensures.keeps_but_search.keeps.sight)))
+          (said.ensures.sees c.args.op (search rules))),
     )
 
 -- the flag was lost
@@ -280,6 +292,7 @@ returns-in-Err-clause-ends g c =
       record {
         table = search rules;
         label = search rules;
+        sight = search rules;
         ledger = search rules;
         answers = search rules;
         share = share_trans a.view f.view new.view (share_trans a.view t.view f.view (share_trans a.view s.new.pass.view t.view s.ensures.keeps_but_search.keeps.view.share

@@ -1,7 +1,8 @@
-use Rattle.std.proofs.Common.{◌≡◌, ◌+◌, ◌*◌, ◌∙◌, ap, length, arith, rules, eq-eqb, eqb-true}
+use Rattle.std.proofs.Common.{◌≡◌, ◌+◌, ◌*◌, ◌∙◌, sym, subst, ap, length, arith, rules, eq-eqb, eqb-true}
 use Rattle.ell_cards.proofs.lemmas.runs.Tries.{more_tries}
 use Rattle.ell_cards.proofs.lemmas.runs.LayingDown.{laid_down_last_changes_nothing}
 use Rattle.ell_cards.specs.Accounts.{own_calls}
+use Rattle.ell_cards.specs.Seeing.{SeesBegin}
 use Rattle.ell_tree.specs.Ends.{changes_by, try_steps_in}
 use Rattle.ell_tree.specs.Hindrances.{way_of}
 use Rattle.ell_tree.proofs.lemmas.Claiming.{still_none}
@@ -14,6 +15,7 @@ use Rattle.ell_tree.proofs.lemmas.CardsTaken.{answers_first, answered_most, answ
 use Rattle.ell_tree.proofs.lemmas.Keeping.{share_trans}
 use Rattle.ell_tree.proofs.lemmas.LettingGo.{lets_none_go}
 use Rattle.ell_tree.proofs.lemmas.Owning.{answers_before, would_before, takes_before_it}
+use Rattle.ell_tree.proofs.lemmas.Sights.{sees_call, sees_none}
 use Rattle.ell_tree.proofs.operations.change.Goals as goal
 
 pub try_once-requires-clause-root : goal.try_once-requires-clause-root
@@ -38,6 +40,7 @@ loop-round-preserved g c =
       same = i.same;
       table = halts.table ∙ (begins.table ∙ i.table);
       label = halts.label ∙ (begins.label ∙ i.label);
+      sight = subst (SeesBegin op c.args.pass.now.sight) (sym (halts.sight ∙ c.restart.ensures.sight)) i.sight;
       ledger = halts.ledger ∙ (begins.ledger ∙ i.ledger);
       answers = halts.answers ∙ (begins.answers ∙ i.answers);
       share = share_trans c.args.pass.now.view c.restart.new.pass.view c.try_once.new.pass.view
@@ -63,12 +66,13 @@ loop-round-preserved g c =
 pub loop-round-init : goal.loop-round-init
 loop-round-init g c =
     let cards = c.args.table.now.plan.last_card in
-    let start = c.begin.ensures in
+    let start = c.begin.ensures.begins in
     let still = milestones_still cards c.args.pass.now.view c.begin.new.pass.view start.knows start.least in
     record {
       same = search rules;
       table = search rules;
       label = search rules;
+      sight = c.begin.ensures.sees;
       ledger = search rules;
       answers = search rules;
       share = start.share;
@@ -249,6 +253,25 @@ returns-clause-ends g c =
       omega (arith, all, n, i.hindrances),
       begun_meets (way_of op l.pass.view) a l.pass.view c.leave-2.new.pass.view i.meets i.way lays.hindrances lays.knows,
     )
+
+-- what the pass has seen of the call
+pub returns-in-Answered-clause-sees : goal.returns-in-Answered-clause-sees
+returns-in-Answered-clause-sees g c =
+    let l = c.loop-round in
+    sees_call c.args.op _ c.args.pass.now.sight l.pass.sight c.restart.new.pass.sight c.try_once.new.pass.sight l.invariant.sight c.restart.ensures.sight c.in-Answered.ensures.ends.3
+
+pub returns-in-Spent-clause-sees : goal.returns-in-Spent-clause-sees
+returns-in-Spent-clause-sees g c =
+    let l = c.loop-round in
+    let halts = c.in-Spent.ensures.ends.0 in
+    let lays = c.leave.ensures.lays c.args.op halts.stops.busy in
+    sees_none c.args.op c.args.pass.now.sight l.pass.sight c.leave.new.pass.sight l.invariant.sight (lays.sight ∙ (halts.sight ∙ c.restart.ensures.sight))
+
+pub returns-clause-sees : goal.returns-clause-sees
+returns-clause-sees g c =
+    let l = c.loop-round in
+    let lays = c.leave-2.ensures.lays c.args.op l.invariant.stops.busy in
+    sees_none c.args.op c.args.pass.now.sight l.pass.sight c.leave-2.new.pass.sight l.invariant.sight lays.sight
 
 -- the value that it took
 pub returns-in-Answered-clause-takes : goal.returns-in-Answered-clause-takes

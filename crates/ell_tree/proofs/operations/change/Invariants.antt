@@ -5,6 +5,7 @@ use Rattle.ell_tree.specs.CardsTaken.{TakesAtMost}
 use Rattle.ell_tree.specs.Ends.{try_steps_in}
 use Rattle.ell_tree.specs.Hindrances.{AreOver, Meets, way_of}
 use Rattle.ell_tree.specs.Ledgers.{Owns, present_in}
+use Rattle.ell_cards.specs.Seeing.{SeesBegin}
 use Rattle.ell_cards.specs.Stepping.{LetsGo, SameShare}
 use Rattle.ell_tree.specs.Searches.{AtRoot}
 use Rattle.ell_tree.specs.Tries.{Stops}
@@ -19,6 +20,7 @@ invariant-loop-round g l = record {
   same : (l.op ≡ l.fn.op) × (l.table ≡ l.fn.table) × (l.tries ≡ l.fn.tries);
   table : l.pass.table ≡ l.fn.pass.table;
   label : l.pass.label ≡ l.fn.pass.label;
+  sight : SeesBegin l.op l.fn.pass.sight l.pass.sight;
   ledger : l.pass.view.worker.ledger ≡ l.fn.pass.view.worker.ledger;
   answers : l.pass.view.answers ≡ l.fn.pass.view.answers;
   share : SameShare l.fn.pass.view l.pass.view;

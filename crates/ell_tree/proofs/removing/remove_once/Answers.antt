@@ -22,12 +22,12 @@ use Rattle.ell_tree.proofs.removing.remove_once.Goals as goal
 pub delete_at-requires-clause-searched : goal.delete_at-requires-clause-searched
 delete_at-requires-clause-searched g c =
     let s = c.search-place in
-    searched c.args.table.now.plan (Delete c.args.key) s.result c.begin.new.pass s.new.pass _ s.ensures.keeps_but_search c.begin.ensures.root s.ensures.ends
+    searched c.args.table.now.plan (Delete c.args.key) s.result c.begin.new.pass s.new.pass _ s.ensures.keeps_but_search c.begin.ensures.begins.root s.ensures.ends
 
 -- no card is in hand, or the pass may let it go
 pub leave-requires-clause-noted : goal.leave-requires-clause-noted
 leave-requires-clause-noted g c =
-    lets_none_go c.args.table.now.plan c.search-place.new.pass (c.search-place.ensures.keeps_but_search.card ∙ c.begin.ensures.root.no_card)
+    lets_none_go c.args.table.now.plan c.search-place.new.pass (c.search-place.ensures.keeps_but_search.card ∙ c.begin.ensures.begins.root.no_card)
 
 pub leave-requires-in-Spent-clause-noted : goal.leave-requires-in-Spent-clause-noted
 leave-requires-in-Spent-clause-noted g c = c.in-Spent.ensures.ends.2
@@ -39,7 +39,7 @@ leave-requires-in-Hindered-clause-noted g c = c.in-Hindered.ensures.ends.3
 pub returns-then-not-is_value-clause-removes : goal.returns-then-not-is_value-clause-removes
 returns-then-not-is_value-clause-removes g c =
     let a = c.args.pass.now in
-    let begins = c.begin.ensures in
+    let begins = c.begin.ensures.begins in
     let s = c.search-place in
     let keeps = s.ensures.keeps_but_search.keeps in
     let new = c.leave.new.pass in
@@ -54,8 +54,8 @@ returns-then-not-is_value-clause-removes g c =
 pub returns-then-not-is_value-clause-steps : goal.returns-then-not-is_value-clause-steps
 returns-then-not-is_value-clause-steps g c =
     let keeps = c.search-place.ensures.keeps_but_search.keeps in
-    let lays = c.leave.ensures.lays (Delete c.args.key) (keeps.view.operation ∙ c.begin.ensures.root.busy) in
-    let start = c.begin.ensures.took in
+    let lays = c.leave.ensures.lays (Delete c.args.key) (keeps.view.operation ∙ c.begin.ensures.begins.root.busy) in
+    let start = c.begin.ensures.begins.took in
     record {
       steps = omega (arith, start.steps, keeps.took.steps, lays.took.steps);
       made = λ plain. omega (arith, start.made, keeps.took.made, lays.took.made);
@@ -64,22 +64,22 @@ returns-then-not-is_value-clause-steps g c =
 pub returns-then-not-is_value-clause-counted : goal.returns-then-not-is_value-clause-counted
 returns-then-not-is_value-clause-counted g c =
     let keeps = c.search-place.ensures.keeps_but_search.keeps in
-    let lays = c.leave.ensures.lays (Delete c.args.key) (keeps.view.operation ∙ c.begin.ensures.root.busy) in
+    let lays = c.leave.ensures.lays (Delete c.args.key) (keeps.view.operation ∙ c.begin.ensures.begins.root.busy) in
     let one = one_hindered c.search-place.new.pass.view in
     record {
-      least = omega (arith, one.0, lays.hindered, keeps.view.hindered, c.begin.ensures.hindered);
-      most = omega (arith, one.1, lays.hindered, keeps.view.hindered, c.begin.ensures.hindered);
+      least = omega (arith, one.0, lays.hindered, keeps.view.hindered, c.begin.ensures.begins.hindered);
+      most = omega (arith, one.1, lays.hindered, keeps.view.hindered, c.begin.ensures.begins.hindered);
     }
 
 pub returns-then-not-is_value-clause-cards : goal.returns-then-not-is_value-clause-cards
 returns-then-not-is_value-clause-cards g c = λ plain.
     let kept = c.search-place.ensures.keeps_but_search in
-    let lays = c.leave.ensures.lays (Delete c.args.key) (kept.keeps.view.operation ∙ c.begin.ensures.root.busy) in
+    let lays = c.leave.ensures.lays (Delete c.args.key) (kept.keeps.view.operation ∙ c.begin.ensures.begins.root.busy) in
     let one = one_hindered c.search-place.new.pass.view in
-    let none = lays.taken ∙ (kept.taken ∙ c.begin.ensures.taken) in
+    let none = lays.taken ∙ (kept.taken ∙ c.begin.ensures.begins.taken) in
     record {
       most = record { least = omega (arith, none); most = omega (arith, none) };
-      each = omega (arith, none, one.0, lays.hindered, kept.keeps.view.hindered, c.begin.ensures.hindered);
+      each = omega (arith, none, one.0, lays.hindered, kept.keeps.view.hindered, c.begin.ensures.begins.hindered);
       unchanged = λ owns same. none;
     }
 
@@ -90,7 +90,7 @@ returns-in-Answered-clause-removes g c =
     let key = c.args.key in
     let op = Delete key in
     let a = c.args.pass.now in
-    let begins = c.begin.ensures in
+    let begins = c.begin.ensures.begins in
     let b = c.begin.new.pass in
     let s = c.search-place in
     let keeps = s.ensures.keeps_but_search.keeps in
@@ -115,7 +115,7 @@ returns-in-Spent-clause-removes g c =
     let d = c.delete_at.new.pass in
     let ended = ends_after b s.new.pass d _ s.ensures.keeps_but_search t op Spent c.in-Spent.ensures.ends in
     let lays = c.leave-in-Spent.ensures.lays op ended.0.stops.busy in
-    (halts_laid t op c.args.pass.now b d c.leave-in-Spent.new.pass _ c.begin.ensures ended.0 lays, still_none t.plan op d c.leave-in-Spent.new.pass lays.next lays.sought lays.safe lays.took ended.1)
+    (halts_laid t op c.args.pass.now b d c.leave-in-Spent.new.pass _ c.begin.ensures.begins ended.0 lays, still_none t.plan op d c.leave-in-Spent.new.pass lays.next lays.sought lays.safe lays.took ended.1)
 
 pub returns-in-Hindered-clause-removes : goal.returns-in-Hindered-clause-removes
 returns-in-Hindered-clause-removes g c =
@@ -126,7 +126,7 @@ returns-in-Hindered-clause-removes g c =
     let d = c.delete_at.new.pass in
     let ended = ends_after b s.new.pass d _ s.ensures.keeps_but_search t op Hindered c.in-Hindered.ensures.ends in
     let lays = c.leave-in-Hindered.ensures.lays op ended.0.stops.busy in
-    (halts_laid t op c.args.pass.now b d c.leave-in-Hindered.new.pass _ c.begin.ensures ended.0 lays, tt)
+    (halts_laid t op c.args.pass.now b d c.leave-in-Hindered.new.pass _ c.begin.ensures.begins ended.0 lays, tt)
 
 -- and that is others' doing
 pub returns-in-Hindered-clause-others : goal.returns-in-Hindered-clause-others
@@ -135,7 +135,7 @@ returns-in-Hindered-clause-others g c = λ not_done.
     let op = Delete c.args.key in
     let a = c.args.pass.now in
     let b = c.begin.new.pass in
-    let begins = c.begin.ensures in
+    let begins = c.begin.ensures.begins in
     let s = c.search-place in
     let d = c.delete_at.new.pass in
     let new = c.leave-in-Hindered.new.pass in
@@ -156,7 +156,7 @@ pub returns-in-Spent-clause-steps : goal.returns-in-Spent-clause-steps
 returns-in-Spent-clause-steps g c =
     let keeps = c.search-place.ensures.keeps_but_search.keeps in
     let lays = c.leave-in-Spent.ensures.lays (Delete c.args.key) c.in-Spent.ensures.ends.0.stops.busy in
-    let start = c.begin.ensures.took in
+    let start = c.begin.ensures.begins.took in
     record {
       steps = omega (arith, start.steps, keeps.took.steps, c.delete_at.ensures.steps, lays.took.steps);
       made = λ plain. let rest = c.delete_at.ensures.made plain in omega (arith, start.made, keeps.took.made, rest, lays.took.made);
@@ -166,7 +166,7 @@ pub returns-in-Hindered-clause-steps : goal.returns-in-Hindered-clause-steps
 returns-in-Hindered-clause-steps g c =
     let keeps = c.search-place.ensures.keeps_but_search.keeps in
     let lays = c.leave-in-Hindered.ensures.lays (Delete c.args.key) c.in-Hindered.ensures.ends.0.stops.busy in
-    let start = c.begin.ensures.took in
+    let start = c.begin.ensures.begins.took in
     record {
       steps = omega (arith, start.steps, keeps.took.steps, c.delete_at.ensures.steps, lays.took.steps);
       made = λ plain. let rest = c.delete_at.ensures.made plain in omega (arith, start.made, keeps.took.made, rest, lays.took.made);
@@ -178,8 +178,8 @@ returns-in-Spent-clause-counted g c =
     let lays = c.leave-in-Spent.ensures.lays (Delete c.args.key) c.in-Spent.ensures.ends.0.stops.busy in
     let one = one_hindered c.delete_at.new.pass.view in
     record {
-      least = omega (arith, one.0, lays.hindered, c.delete_at.ensures.hindered, keeps.view.hindered, c.begin.ensures.hindered);
-      most = omega (arith, one.1, lays.hindered, c.delete_at.ensures.hindered, keeps.view.hindered, c.begin.ensures.hindered);
+      least = omega (arith, one.0, lays.hindered, c.delete_at.ensures.hindered, keeps.view.hindered, c.begin.ensures.begins.hindered);
+      most = omega (arith, one.1, lays.hindered, c.delete_at.ensures.hindered, keeps.view.hindered, c.begin.ensures.begins.hindered);
     }
 
 pub returns-in-Hindered-clause-counted : goal.returns-in-Hindered-clause-counted
@@ -188,8 +188,8 @@ returns-in-Hindered-clause-counted g c =
     let lays = c.leave-in-Hindered.ensures.lays (Delete c.args.key) c.in-Hindered.ensures.ends.0.stops.busy in
     let one = one_hindered c.delete_at.new.pass.view in
     record {
-      least = omega (arith, one.0, lays.hindered, c.delete_at.ensures.hindered, keeps.view.hindered, c.begin.ensures.hindered);
-      most = omega (arith, one.1, lays.hindered, c.delete_at.ensures.hindered, keeps.view.hindered, c.begin.ensures.hindered);
+      least = omega (arith, one.0, lays.hindered, c.delete_at.ensures.hindered, keeps.view.hindered, c.begin.ensures.begins.hindered);
+      most = omega (arith, one.1, lays.hindered, c.delete_at.ensures.hindered, keeps.view.hindered, c.begin.ensures.begins.hindered);
     }
 
 pub returns-in-Spent-clause-cards : goal.returns-in-Spent-clause-cards
@@ -197,10 +197,10 @@ returns-in-Spent-clause-cards g c = λ plain.
     let kept = c.search-place.ensures.keeps_but_search in
     let lays = c.leave-in-Spent.ensures.lays (Delete c.args.key) c.in-Spent.ensures.ends.0.stops.busy in
     let one = one_hindered c.delete_at.new.pass.view in
-    let none = lays.taken ∙ (c.in-Spent.ensures.taken plain ∙ (kept.taken ∙ c.begin.ensures.taken)) in
+    let none = lays.taken ∙ (c.in-Spent.ensures.taken plain ∙ (kept.taken ∙ c.begin.ensures.begins.taken)) in
     record {
       most = record { least = omega (arith, none); most = omega (arith, none) };
-      each = omega (arith, none, one.0, lays.hindered, c.delete_at.ensures.hindered, kept.keeps.view.hindered, c.begin.ensures.hindered);
+      each = omega (arith, none, one.0, lays.hindered, c.delete_at.ensures.hindered, kept.keeps.view.hindered, c.begin.ensures.begins.hindered);
       unchanged = λ owns same. none;
     }
 
@@ -215,9 +215,9 @@ returns-in-Hindered-clause-cards g c = λ plain.
     let lays = c.leave-in-Hindered.ensures.lays op ended.0.stops.busy in
     let counts = halts_hindered op b d ended.0 ended.1 in
     let few = c.in-Hindered.ensures.taken plain in
-    let none = kept.taken ∙ c.begin.ensures.taken in
+    let none = kept.taken ∙ c.begin.ensures.begins.taken in
     record {
       most = record { least = omega (arith, lays.taken, few.least, none); most = omega (arith, lays.taken, few.most, none) };
-      each = omega (arith, lays.taken, few.most, none, lays.hindered, counts, c.delete_at.ensures.hindered, kept.keeps.view.hindered, c.begin.ensures.hindered);
+      each = omega (arith, lays.taken, few.most, none, lays.hindered, counts, c.delete_at.ensures.hindered, kept.keeps.view.hindered, c.begin.ensures.begins.hindered);
       unchanged = λ owns same. absurd cc;
     }

@@ -15,7 +15,7 @@ load-requires g c =
       x.0,
       x.1,
       λ s holds homes here small. (let y = x.2 s holds homes here small in
-          (y.0, y.1, y.2, y.3, (y.4.0, y.4.1, y.4.2, y.4.3.0, subst (λ (p : TablePlan). HasSeenAll p (shown old.tree) y.0.sight) (sym c.requires.plan) y.4.3.1))),
+          (y.0, y.1, y.2, y.3, (y.4.0, y.4.1, y.4.2, y.4.3.0, subst (λ (p : TablePlan). HasSeenAll p (shown old.tree) y.0.sight) (sym c.requires.plan) y.4.3.1, y.4.3.2))),
     )
 
 pub invariant_of-pass : goal.invariant_of-pass
