@@ -1,13 +1,18 @@
-use Rattle.std.specs.Prelude.{◌≡◌, ◌≢◌, ℕ, ◌+◌, ◌⊎◌, if◌then◌else◌, Bool, true, false, Option, Some, None, is_some, Result, Ok, Err, List, [], ◌∷◌, ◌++◌}
+use Rattle.std.specs.Prelude.{◌≡◌, ◌≢◌, ℕ, ◌+◌, ◌⊎◌, if◌then◌else◌, Bool, true, false, Option, Some, None, is_some, Result, Ok, Err, List, [], ◌∷◌, ◌++◌, length, ◌≤◌}
 use Rattle.ell_ops.specs.declared.op.Op.{Op}
 use Rattle.ell_ops.specs.declared.op.Op.TheVariants.{Delete, Find, Insert, Swap}
 use Rattle.ell_ops.specs.declared.reply.Reply.{Reply}
+use Rattle.ell_ops.specs.declared.reply.Reply.TheVariants.{Yes}
 use Rattle.ell_ops.specs.Meaning.{found, yes_if}
 use Rattle.ell_core.specs.statements.Effects.{reply_of_change}
+use Rattle.ell_cards.specs.declared.view.Act.{Act}
 use Rattle.ell_cards.specs.declared.view.Deed.{Deed}
+use Rattle.ell_cards.specs.declared.view.Sight.{Sight}
 use Rattle.ell_cards.specs.Changes.{deed_of, deed_taking}
-use Rattle.ell_cards.specs.Models.{PassModel}
+use Rattle.ell_cards.specs.Histories.{IsCall}
+use Rattle.ell_cards.specs.Models.{Has, PassModel}
 use Rattle.ell_cards.specs.Seeing.{HasSeenMore, SeesCall}
+use Rattle.ell_cards.specs.Sights.{IsPart}
 use Rattle.ell_tree.specs.declared.operations.NotDone.{NotDone}
 
 -- what a pass was answered by a call that took nothing: this, or nothing, where the call has no answer
@@ -64,6 +69,21 @@ pub record AnsweredLast (last : List Deed → Deed) (old new : List Deed) : Type
   pub before : AnsweredNoChange old earlier
   pub is : new ≡ last earlier ∷ earlier
 
+-- what a pass has seen since then: calls that it was answered meanwhile, each of which began behind all that it had seen
+-- then, and none of which has changed anything
+pub record SeesNoChange (old new : Sight) : Type 0 where
+  pub more : IsPart old.seen new.seen
+  pub calls : List Act
+  pub mine : new.mine ≡ calls ++ old.mine
+  pub each : (a : Act) → Has calls a
+      → (length old.seen ≤ a.begin) × IsCall new.seen a.begin a.end a.op a.said × (a.said ≢ reply_of_change a.op)
+
+-- such calls, and then this one
+pub record SeesLast (op : Op) (said : Reply) (old new : Sight) : Type 0 where
+  pub between : Sight
+  pub before : SeesNoChange old between
+  pub last : SeesCall op said between new
+
 -- what puts a value at a key, by what was there of it: an insert, where the key was absent, or a swap of the value that
 -- it had
 abbrev pub put_by : ℕ → ℕ → Option ℕ → Op
@@ -96,6 +116,30 @@ IsRemoveCalled key was old new (Ok there) =
     (there ≡ Some was → AnsweredLast (delete_of key (Some was)) old.view.answers new.view.answers)
     × (there ≢ Some was → AnsweredLast (deed_of (Find key) (found there)) old.view.answers new.view.answers)
 IsRemoveCalled key was old new (Err why) = AnsweredNoChange old.view.answers new.view.answers
+
+-- what a pass has seen of a call that puts a value at a key: last what put it
+abbrev pub SeesPut : ℕ → ℕ → PassModel → PassModel → Result (Option ℕ) NotDone → Type 0
+SeesPut key value old new (Ok was) =
+    SeesLast (put_by key value was) (reply_of_change (put_by key value was)) old.sight new.sight
+SeesPut key value old new (Err why) = SeesNoChange old.sight new.sight
+
+-- of a call that only found this of a key: last a find, or a swap of another value
+abbrev pub SeesRead : ℕ → Option ℕ → PassModel → PassModel → Type 0
+SeesRead key was old new = SeesLast (Find key) (found was) old.sight new.sight
+    ⊎ ((other value : ℕ) × (was ≢ Some other) × SeesLast (Swap key other value) (found was) old.sight new.sight)
+
+-- of a call that puts at a key what is made of the value that it returns
+abbrev pub SeesUpdate : ℕ → (ℕ → ℕ → Type 0) → PassModel → PassModel → Result (Option ℕ) NotDone → Type 0
+SeesUpdate key makes old new (Ok None) = SeesRead key None old new
+SeesUpdate key makes old new (Ok (Some was)) = (value : ℕ) × makes was value × SeesPut key value old new (Ok (Some was))
+SeesUpdate key makes old new (Err why) = SeesNoChange old.sight new.sight
+
+-- and of one that removes a key if it finds this value
+abbrev pub SeesRemove : ℕ → ℕ → PassModel → PassModel → Result (Option ℕ) NotDone → Type 0
+SeesRemove key was old new (Ok there) =
+    (there ≡ Some was → SeesLast (Delete key) Yes old.sight new.sight)
+    × (there ≢ Some was → SeesLast (Find key) (found there) old.sight new.sight)
+SeesRemove key was old new (Err why) = SeesNoChange old.sight new.sight
 
 -- how many of these calls were tries of a change: all but the finds
 abbrev pub tries_in : List Deed → ℕ

@@ -16,7 +16,7 @@ use Rattle.ell_tree.specs.declared.computing.Replaced.{Replaced}
 use Rattle.ell_tree.specs.declared.computing.Replaced.TheVariants.{Done, Lost}
 use Rattle.ell_tree.specs.declared.operations.NotDone.{NotDone}
 use Rattle.ell_tree.specs.declared.operations.NotDone.TheVariants.{Busy, Spent}
-use Rattle.ell_tree.specs.Called.{AnsweredLast, AnsweredNoChange, ByItsDeed, IsTakeCalled, delete_of, put_by, tries_in}
+use Rattle.ell_tree.specs.Called.{AnsweredLast, AnsweredNoChange, ByItsDeed, IsTakeCalled, SeesLast, SeesNoChange, delete_of, put_by, tries_in}
 use Rattle.ell_tree.specs.Ends.{Answers, LaidDown, NoneIsLeft, TakesValue, find_steps, slot_steps, try_steps}
 use Rattle.ell_tree.specs.Ledgers.{TreeModel, present_in, Owns, answers, IsIdle}
 
@@ -32,6 +32,7 @@ pub record IsUntouched (old new : PassModel) : Type 0 where
   pub share : SameShare old.view new.view
   pub idle : IsIdle new
   pub outside : old.inside ≡ false → new.inside ≡ false
+  pub sees : SeesNoChange old.sight new.sight
 
 -- a call that is made of several operations has ended by this one, which was answered so, and those before it have
 -- changed nothing of what the pass has. On a key of the pass's own: as a map answers it that has the pass's keys
@@ -51,6 +52,7 @@ pub record Concludes (t : TreeModel) (op : Op) (said : Reply) (old new : PassMod
   pub share : SameShare old.view new.view
   pub idle : IsIdle new
   pub outside : new.inside ≡ false
+  pub sees : SeesLast op said old.sight new.sight
 
 -- the key had this value, or none, at the point of a find, or of a swap of another value, which changes nothing
 abbrev pub ReadsValue : TreeModel → ℕ → Option ℕ → PassModel → PassModel → Type 0

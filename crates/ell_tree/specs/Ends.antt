@@ -7,10 +7,12 @@ use Rattle.ell_ops.specs.Meaning.{key_of, yes_if, reply_of, after, found}
 use Rattle.ell_cards.specs.Answering.{IsAnsweredInRuns}
 use Rattle.ell_cards.specs.LayingDown.{IsLaidDownInRuns}
 use Rattle.ell_cards.specs.Taking.{IsTakenInRuns}
+use Rattle.ell_cards.specs.declared.view.Sight.{Sight}
 use Rattle.ell_cards.specs.declared.view.Slots.{Slots}
 use Rattle.ell_cards.specs.Depths.{deepest}
 use Rattle.ell_cards.specs.Models.{PassModel, TablePlan}
 use Rattle.ell_cards.specs.PeriodLaws.{IsFullFor}
+use Rattle.ell_cards.specs.Seeing.{HasSeenMore, SeesCall}
 use Rattle.ell_cards.specs.Seeking.{FindsNone}
 use Rattle.ell_cards.specs.Stepping.{SameShare}
 use Rattle.ell_tree.specs.declared.operations.NotDone.{NotDone}
@@ -23,7 +25,8 @@ use Rattle.ell_tree.specs.Ledgers.{TreeModel, present_in, ledger, Owns, answers,
 -- their values, which becomes the map after it; on a shared key the ledger stays. Whoever may change the key, the call
 -- had its point: in every run of the tree in which the pass now knows this, its answer is that of one thread that made
 -- all operations by which the tree was changed till then
-pub record Answers (t : TreeModel) (op : Op) (said : Reply) (old new : PassModel) : Type 0 where
+pub record AnswersAs (Sees : Op → Reply → Sight → Sight → Type 0) (t : TreeModel) (op : Op) (said : Reply)
+    (old new : PassModel) : Type 0 where
   pub table : new.table ≡ old.table
   pub label : new.label ≡ old.label
   pub says : Owns old (key_of op) → said ≡ reply_of op (present_in old)
@@ -36,6 +39,11 @@ pub record Answers (t : TreeModel) (op : Op) (said : Reply) (old new : PassModel
   pub share : SameShare old.view new.view
   pub idle : IsIdle new
   pub outside : new.inside ≡ false
+  pub sees : Sees op said old.sight new.sight
+
+-- an operation that the pass began, too: it is a call of the tree's history, as the pass has seen it
+abbrev pub Answers : TreeModel → Op → Reply → PassModel → PassModel → Type 0
+Answers = AnswersAs SeesCall
 
 -- an operation was laid down without an answer: the ledger is as it was, nothing is in hand, the pass is in no period,
 -- and of an own key it would change the map. Whoever may change the key, in every run of the tree in which the pass now knows this, the call
@@ -52,6 +60,7 @@ pub record LaidDown (t : TreeModel) (op : Op) (old new : PassModel) : Type 0 whe
   pub idle : IsIdle new
   pub outside : new.inside ≡ false
   pub no_card : new.view.worker.card ≡ None
+  pub sees : HasSeenMore old.sight new.sight
 
 -- whether an operation is a delete
 abbrev pub is_delete : Op → Bool

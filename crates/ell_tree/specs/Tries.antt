@@ -36,7 +36,7 @@ use Rattle.ell_cards.specs.Stepping.{LetsGo, SameShare}
 use Rattle.ell_tree.specs.Counts.{Took}
 use Rattle.ell_tree.specs.CardsTaken.{TakesNoCard}
 use Rattle.ell_tree.specs.Called.{IsTakeCalled}
-use Rattle.ell_tree.specs.Ends.{Answers, NoneIsLeft, TakesValue, reply_by}
+use Rattle.ell_tree.specs.Ends.{AnswersAs, NoneIsLeft, TakesValue, reply_by}
 use Rattle.ell_tree.specs.Hindrances.{AreOver, Meets, StillKnows, way_of}
 use Rattle.ell_tree.specs.Keeping.{IsSeenAt}
 use Rattle.ell_tree.specs.Milestones.{GivesOut, SeesMilestone}
@@ -112,8 +112,8 @@ pub record Halts (op : Op) (old new : PassModel) : Type 0 where
 -- how a try ends: if it has no answer, the pass may let its card in hand go, if it has one
 abbrev pub TryEnds : TreeModel → Op → PassModel → PassModel → Tried → Type 0
 TryEnds t op old new (tried.Answered had) =
-    Answers t op (reply_by op had) old new × Meets old.view new.view × (new.view.next_at_least ≤ t.plan.last_card + 1)
-    × SeesEnd op (reply_by op had) old.sight new.sight
+    AnswersAs SeesEnd t op (reply_by op had) old new × Meets old.view new.view
+    × (new.view.next_at_least ≤ t.plan.last_card + 1)
 TryEnds t op old new tried.Spent = Halts op old new × NoneIsLeft t.plan op 0 new × LetsGo t.plan new
 TryEnds t op old new tried.Hindered =
     Halts op old new × (length old.view.hindrances + 1 ≤ length (way_of op new.view) + length new.view.hindrances)

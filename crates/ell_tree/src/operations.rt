@@ -1,5 +1,5 @@
 //! The operations: find, insert, delete and swap.
-ghost use Rattle.std.specs.Prelude.{◌≡◌, ◌≢◌, ◌<◌, ◌≤◌, ◌+◌, ◌*◌, true, Ok, Err, IfOk, None};
+ghost use Rattle.std.specs.Prelude.{◌≡◌, ◌≢◌, ◌<◌, ◌≤◌, ◌+◌, ◌*◌, true, Err, IfOk, None};
 ghost use Rattle.ell_ops.specs.declared.op.Op.{Op};
 ghost use Rattle.ell_ops.specs.declared.op.Op.TheVariants.{Find};
 ghost use Rattle.ell_ops.specs.Meaning.{key_of, found};
@@ -8,7 +8,6 @@ ghost use Rattle.ell_core.specs.state.Machine.{worker_of};
 ghost use Rattle.ell_cards.specs.Changes.{tries_hindered};
 ghost use Rattle.ell_cards.specs.Models.{Does};
 ghost use Rattle.ell_cards.specs.Stepping.{LetsGo};
-ghost use Rattle.ell_tree.specs.Called.{SeesAnswer};
 ghost use Rattle.ell_tree.specs.CardsTaken.{TakesNoCard, TryTakes};
 ghost use Rattle.ell_tree.specs.Counts.{Took};
 ghost use Rattle.ell_tree.specs.Ends.{try_steps_in, Answers, Ends, TakesIfDelete, changed_by, find_steps, replied_by, try_steps};
@@ -50,7 +49,6 @@ pub(crate) fn find<M: Memory, G: StepGate>(
 ) -> Option<u64>
     requires may { MayDo table.now key pass.old }
     ensures answers { Answers table.now (Find key) (found result) pass.old pass.new }
-    ensures sees { SeesAnswer (Find key) pass.old pass.new (Ok (found result)) }
     ensures quiet { IsQuiet table.now pass.old pass.new }
     ensures steps { Took pass.old pass.new (find_steps (deepest table.now.plan)) }
     ensures cards { TakesNoCard pass.old pass.new }
@@ -80,7 +78,6 @@ pub(crate) fn change<M: Memory, G: StepGate>(
     requires change { IsChange op }
     requires tries { 1 ≤ tries }
     ensures ends { Ends table.now tries op pass.old pass.new (replied_by op result) }
-    ensures sees { SeesAnswer op pass.old pass.new (replied_by op result) }
     ensures takes { IfOk result (TakesIfDelete table.now op pass.old pass.new) }
     ensures others { result ≡ Err Busy → IsOthersDoing table.now tries pass.old pass.new }
     ensures steps { IsWithin table.now tries pass.old pass.new }

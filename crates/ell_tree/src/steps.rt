@@ -19,7 +19,7 @@ ghost use Rattle.ell_cards.specs.Seeing.{SeesBegin, SeesEnd};
 ghost use Rattle.ell_cards.specs.Stepping.{LetsGo};
 ghost use Rattle.ell_tree.specs.CardsTaken.{TakesNoCard};
 ghost use Rattle.ell_tree.specs.Counts.{Took};
-ghost use Rattle.ell_tree.specs.Ends.{Answers};
+ghost use Rattle.ell_tree.specs.Ends.{AnswersAs};
 ghost use Rattle.ell_tree.specs.Helps.{HasSibling, IsLost, KnowsMark, IsParent, found_instead, met_by_mark};
 ghost use Rattle.ell_tree.specs.Hindrances.{way_of};
 ghost use Rattle.ell_tree.specs.Keeping.{KeepsAll, KeepsAllButMet};
@@ -94,8 +94,7 @@ pub(crate) fn answer<M: Memory, G: StepGate>(
     requires may { MayAnswer pass.old.view said }
     // Where there are places, the pass has noted all that its card in hand made dead.
     requires noted { LetsGo table.now.plan pass.old }
-    ensures answers { (op : Op) → Does pass.old.view op → Answers table.now op said pass.old pass.new }
-    ensures sees { (op : Op) → Does pass.old.view op → SeesEnd op said pass.old.sight pass.new.sight }
+    ensures answers { (op : Op) → Does pass.old.view op → AnswersAs SeesEnd table.now op said pass.old pass.new }
     ensures hindrances { pass.new.view.hindrances ≡ pass.old.view.hindrances }
     ensures hindered { pass.new.view.hindered ≡ pass.old.view.hindered }
     ensures last { pass.new.view.answered ≡ answered_so pass.old.view.worker.operation pass.old.view.worker.card said

@@ -10,7 +10,7 @@ ghost use Rattle.ell_word.specs.Node.{most_start};
 ghost use Rattle.ell_core.specs.state.Opening.{last_card};
 ghost use Rattle.ell_cards.specs.Changes.{inherited};
 ghost use Rattle.ell_cards.specs.Models.{IsCardCount, MayPart, RefusesCards, SplitRefuses};
-ghost use Rattle.ell_tree.specs.Called.{IsCalled, IsDeleteCalled, IsPutCalled, IsRemoveCalled, IsTakeCalled, IsUpdateCalled, SeesAnswer};
+ghost use Rattle.ell_tree.specs.Called.{IsCalled, IsDeleteCalled, IsPutCalled, IsRemoveCalled, IsTakeCalled, IsUpdateCalled, SeesAnswer, SeesPut, SeesRemove, SeesUpdate};
 ghost use Rattle.ell_tree.specs.CardsLeft.{AreLeftAtMost, ReadsCardsLeft};
 ghost use Rattle.ell_tree.specs.CardsTaken.{TakesNoCard};
 ghost use Rattle.ell_tree.specs.Computing.{update_steps_in, AreTried, AreTriedOrRead, IsNotDone, IsSum, PutsValue, RemovesIf, UpdatesValue, update_steps, whether_put};
@@ -499,6 +499,9 @@ impl<M: Memory> Tree<M> {
         ensures puts { IfOk result (PutsValue self.now key value pass.old pass.new) }
         // Of all that the pass was answered by the call, only the last has changed anything: what put the value.
         ensures called { IsPutCalled key value pass.old pass.new result }
+        // Each of its operations is a call of the tree's history, as the pass has seen it, and began behind all that the
+        // pass had seen before.
+        ensures sees { SeesPut key value pass.old pass.new result }
         // A call without an answer changes nothing of what the pass has, and has nothing in hand. Its last operation
         // changes nothing in any run. `Spent` is returned only if no card is left, as by an insert or a delete.
         ensures not_done { IfErr result (IsNotDone self.now key pass.old pass.new) }
@@ -539,6 +542,9 @@ impl<M: Memory> Tree<M> {
         ensures updates { IfOk result (UpdatesValue self.now key (F.post f) pass.old pass.new) }
         // Of all that the pass was answered by the call, only the last has changed anything: the swap of the value.
         ensures called { IsUpdateCalled key (F.post f) pass.old pass.new result }
+        // Each of its operations is a call of the tree's history, as the pass has seen it, and began behind all that the
+        // pass had seen before.
+        ensures sees { SeesUpdate key (F.post f) pass.old pass.new result }
         // A call without an answer changes nothing of what the pass has, and has nothing in hand. Its last operation
         // changes nothing in any run. `Spent` is returned only if no card is left, as by an insert or a delete.
         ensures not_done { IfErr result (IsNotDone self.now key pass.old pass.new) }
@@ -580,6 +586,9 @@ impl<M: Memory> Tree<M> {
         ensures adds { IfOk result (UpdatesValue self.now key (IsSum addend) pass.old pass.new) }
         // Of all that the pass was answered by the call, only the last has changed anything: the swap of the value.
         ensures called { IsUpdateCalled key (IsSum addend) pass.old pass.new result }
+        // Each of its operations is a call of the tree's history, as the pass has seen it, and began behind all that the
+        // pass had seen before.
+        ensures sees { SeesUpdate key (IsSum addend) pass.old pass.new result }
         // A call without an answer changes nothing of what the pass has, and has nothing in hand. Its last operation
         // changes nothing in any run. `Spent` is returned only if no card is left, as by an insert or a delete.
         ensures not_done { IfErr result (IsNotDone self.now key pass.old pass.new) }
@@ -711,6 +720,9 @@ impl<M: Memory> Tree<M> {
         // Of all that the pass was answered by the call, only the last has changed anything: the delete, which took
         // `was`.
         ensures called { IsRemoveCalled key was pass.old pass.new result }
+        // Each of its operations is a call of the tree's history, as the pass has seen it, and began behind all that the
+        // pass had seen before.
+        ensures sees { SeesRemove key was pass.old pass.new result }
         // A call without an answer changes nothing of what the pass has, and has nothing in hand. Its last operation
         // changes nothing in any run. `Spent` is returned only if no card is left, as by an insert or a delete.
         ensures not_done { IfErr result (IsNotDone self.now key pass.old pass.new) }

@@ -10,13 +10,14 @@ use Rattle.ell_core.specs.declared.view.Entry.{Entry}
 use Rattle.ell_core.specs.state.Machine.{ledger_of}
 use Rattle.ell_core.specs.statements.Effects.{contents_in, reply_of_change}
 use Rattle.ell_cards.specs.declared.view.View.{View}
+use Rattle.ell_cards.specs.Seeing.{SeesEnd}
 use Rattle.ell_cards.specs.Models.{PassModel, Steps}
 use Rattle.ell_cards.specs.Changes.{with_fact, if_won, exchanged}
 use Rattle.ell_tree.specs.declared.operations.NotDone.{NotDone}
 use Rattle.ell_tree.specs.declared.trying.Tried.TheVariants.{Answered}
 use Rattle.ell_tree.specs.CardsTaken.{claims_in, cards_taken, TakesNoCard, TakesAtMost, TakesCards, TakesOneIf, TryTakes}
 use Rattle.ell_cards.specs.Contention.{is_claim}
-use Rattle.ell_tree.specs.Ends.{Answers, changes_by, reply_by}
+use Rattle.ell_tree.specs.Ends.{AnswersAs, changes_by, reply_by}
 use Rattle.ell_tree.specs.Ledgers.{Owns, TreeModel, present_in}
 use Rattle.ell_tree.proofs.lemmas.Owning.{still_owned}
 use Rattle.ell_tree.specs.Keeping.{KeepsAll}
@@ -61,7 +62,7 @@ reply_unchanged (Swap k was value) None is none e = absurd cc
 
 -- a try that changes nothing of an own key is the first one
 pub answers_first : (t : TreeModel) (op : Op) (had : Option ℕ) (round : ℕ) (first begun after : PassModel) → IsChange op
-    → Answers t op (reply_by op had) begun after → begun.view.worker.ledger ≡ first.view.worker.ledger
+    → AnswersAs SeesEnd t op (reply_by op had) begun after → begun.view.worker.ledger ≡ first.view.worker.ledger
     → (1 ≤ round → Owns first (key_of op) → reply_of op (present_in first) ≡ reply_of_change op)
     → Owns first (key_of op) → changes_by op had ≡ false → round ≡ 0
 answers_first t op had zero first begun after is answers ledger would owns none = refl

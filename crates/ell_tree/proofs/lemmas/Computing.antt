@@ -17,14 +17,16 @@ use Rattle.ell_cards.specs.declared.view.Deed.{Deed}
 use Rattle.ell_cards.specs.Accounts.{own_calls}
 use Rattle.ell_cards.specs.Changes.{deed_taking}
 use Rattle.ell_cards.specs.Models.{PassModel, ledger}
+use Rattle.ell_cards.specs.Seeing.{HasSeenMore}
 use Rattle.ell_cards.specs.Stepping.{SameShare}
 use Rattle.ell_tree.specs.Ledgers.{TreeModel, present_in, Owns, IsIdle}
 use Rattle.ell_tree.specs.Ends.{Answers, LaidDown}
-use Rattle.ell_tree.specs.Called.{AnsweredLast, AnsweredNoChange, AreNoChanges, IsPutCalled, IsReadCalled, IsUpdateCalled, put_by}
+use Rattle.ell_tree.specs.Called.{AnsweredLast, AnsweredNoChange, AreNoChanges, IsPutCalled, IsReadCalled, IsUpdateCalled, SeesRead, SeesUpdate, put_by}
 use Rattle.ell_tree.specs.Computing.{IsUntouched, Concludes, LastChangesNothing, PutsValue, ReadsValue, UpdatesValue}
 use Rattle.ell_tree.specs.Promises.{MayDo}
 use Rattle.ell_tree.proofs.lemmas.Called.{its_deed, by_deed}
 use Rattle.ell_tree.proofs.lemmas.Keeping.{share_trans}
+use Rattle.ell_tree.proofs.lemmas.Sights.{no_change_call, no_change_last, no_change_more, no_change_self, no_change_trans, sees_last, sees_last_after}
 
 -- an operation that leaves what a pass has, if the key is its own
 abbrev pub LeavesOwn : Op → PassModel → Type 0
@@ -69,12 +71,13 @@ untouched_by t op said p q leaves other h = let last = its_deed op said (λ deed
   share = h.share;
   idle = h.idle;
   outside = λ was. h.outside;
+  sees = no_change_call op said p.sight q.sight other h.sees;
 }
 
 -- so is one whose ledger is as it was
 pub untouched_still : (p q : PassModel) → q.table ≡ p.table → q.label ≡ p.label → q.view.worker.ledger ≡ p.view.worker.ledger → q.view.answers ≡ p.view.answers → SameShare p.view q.view
-    → IsIdle q → q.inside ≡ false → IsUntouched p q
-untouched_still p q table label ledgers said share idle outside = let same : ledger q ≡ ledger p = ap ledger_of ledgers in record {
+    → IsIdle q → q.inside ≡ false → HasSeenMore p.sight q.sight → IsUntouched p q
+untouched_still p q table label ledgers said share idle outside sees = let same : ledger q ≡ ledger p = ap ledger_of ledgers in record {
   table = table;
   label = label;
   map = λ key. ap (λ f. contents_in f key) same;
@@ -84,11 +87,12 @@ untouched_still p q table label ledgers said share idle outside = let same : led
   share = share;
   idle = idle;
   outside = λ was. outside;
+  sees = no_change_more p.sight q.sight sees;
 }
 
 -- and one that lays an operation down
 pub untouched_laid : (t : TreeModel) (op : Op) (p q : PassModel) → LaidDown t op p q → IsUntouched p q
-untouched_laid t op p q h = untouched_still p q h.table h.label h.ledger h.called h.share h.idle h.outside
+untouched_laid t op p q h = untouched_still p q h.table h.label h.ledger h.called h.share h.idle h.outside h.sees
 
 pub untouched_trans : (p q r : PassModel) → IsUntouched p q → IsUntouched q r → IsUntouched p r
 untouched_trans p q r g h = record {
@@ -101,6 +105,7 @@ untouched_trans p q r g h = record {
   share = share_trans p.view q.view r.view g.share h.share;
   idle = h.idle;
   outside = λ was. h.outside (g.outside was);
+  sees = no_change_trans p.sight q.sight r.sight g.sees h.sees;
 }
 
 -- an operation after others that have changed nothing concludes a call
@@ -120,6 +125,7 @@ concludes t op said p q r g h =
       share = share_trans p.view q.view r.view g.share h.share;
       idle = h.idle;
       outside = h.outside;
+      sees = sees_last op said p.sight q.sight r.sight g.sees h.sees;
     }
 
 -- so does one before which others have changed nothing
@@ -139,6 +145,7 @@ concludes_after t op said p q r g h =
       share = share_trans p.view q.view r.view g.share h.share;
       idle = h.idle;
       outside = h.outside;
+      sees = sees_last_after op said p.sight q.sight r.sight g.sees h.sees;
     }
 
 pub reads_after : (t : TreeModel) (key : ℕ) (was : Option ℕ) (p q r : PassModel) → IsUntouched p q → ReadsValue t key was q r → ReadsValue t key was p r
@@ -164,6 +171,7 @@ reads_keep t op said p q leaves other h = let d = its_deed op said (λ deed. Ans
   share = h.share;
   idle = h.idle;
   outside = λ was. h.outside;
+  sees = no_change_last op said p.sight q.sight other h.sees;
 }
 
 -- a find leaves everything
@@ -216,6 +224,7 @@ untouched_self p idle = record {
   share = record { share = refl; ownable = refl };
   idle = idle;
   outside = λ was. was;
+  sees = no_change_self p.sight;
 }
 
 -- where an insert of an own key answers no, the key was there
@@ -282,3 +291,13 @@ updates_called t key makes p q (Some was) h = (h.0, h.1, h.2.called)
 pub puts_called : (t : TreeModel) (key value : ℕ) (p q : PassModel) (was : Option ℕ) → PutsValue t key value p q was → IsPutCalled key value p q (Ok was)
 puts_called t key value p q None h = h.called
 puts_called t key value p q (Some was) h = h.called
+
+-- and what it has seen of the call
+pub reads_seen : (t : TreeModel) (key : ℕ) (was : Option ℕ) (p q : PassModel) → ReadsValue t key was p q → SeesRead key was p q
+reads_seen t key was p q (inl h) = inl h.sees
+reads_seen t key was p q (inr h) = inr (h.0, h.1, h.2, h.3.sees)
+
+pub updates_seen : (t : TreeModel) (key : ℕ) (makes : ℕ → ℕ → Type 0) (p q : PassModel) (was : Option ℕ) → UpdatesValue t key makes p q was
+    → SeesUpdate key makes p q (Ok was)
+updates_seen t key makes p q None h = reads_seen t key None p q h
+updates_seen t key makes p q (Some was) h = (h.0, h.1, h.2.sees)

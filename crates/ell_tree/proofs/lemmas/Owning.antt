@@ -13,19 +13,22 @@ use Rattle.ell_core.specs.declared.put.Put.{Put}
 use Rattle.ell_core.specs.acts.Searching.{put_of, TakesPut}
 use Rattle.ell_core.proofs.lemmas.keeping.Puts.{added, replacing}
 use Rattle.ell_cards.specs.Models.{TablePlan, PassModel, ledger}
+use Rattle.ell_cards.specs.Seeing.{SeesBegin, SeesCall, SeesEnd}
 use Rattle.ell_cards.specs.Stepping.{SameShare}
 use Rattle.ell_cards.specs.declared.view.Deed.{Deed}
+use Rattle.ell_cards.specs.declared.view.Sight.{Sight}
 use Rattle.ell_cards.specs.Accounts.{own_calls}
 use Rattle.ell_tree.specs.declared.searching.Place.{Place}
 use Rattle.ell_tree.specs.declared.trying.Tried.TheVariants.{Answered}
 use Rattle.ell_tree.specs.Called.{ByItsDeed}
-use Rattle.ell_tree.specs.Ends.{Answers, TakesIfDelete, TakesValue}
+use Rattle.ell_tree.specs.Ends.{Answers, AnswersAs, TakesIfDelete, TakesValue}
 use Rattle.ell_tree.specs.Tries.{TryTakesValue}
 use Rattle.ell_tree.specs.Keeping.{Keeps, KeepsIn}
 use Rattle.ell_tree.specs.Ledgers.{Owns, TreeModel, present_in}
 use Rattle.ell_tree.specs.Searches.{EndsAt, there_at}
 use Rattle.ell_tree.proofs.lemmas.Called.{take_before}
 use Rattle.ell_tree.proofs.lemmas.Keeping.{share_trans}
+use Rattle.ell_tree.proofs.lemmas.Sights.{ends_from, sees_call}
 
 -- a key is owned still where the ledger is as it was
 pub still_owned : (k : ℕ) (p q : PassModel) → q.view.worker.ledger ≡ p.view.worker.ledger → Owns p k → Owns q k
@@ -38,9 +41,10 @@ would_before op p q same would owns =
     sym (ap (λ (l : List (ℕ × Entry)). reply_of op (contents_in (ledger_of l))) same) ∙ would (still_owned (key_of op) p q same owns)
 
 -- an answer after steps that changed neither ledger nor count is one from before them
-pub answers_before : (t : TreeModel) (op : Op) (said : Reply) (p q r : PassModel) → q.table ≡ p.table → q.label ≡ p.label
-    → q.view.worker.ledger ≡ p.view.worker.ledger → q.view.answers ≡ p.view.answers → SameShare p.view q.view → Answers t op said q r → Answers t op said p r
-answers_before t op said p q r table label same count share h =
+pub answers_before : (Sees Sees' : Op → Reply → Sight → Sight → Type 0) (t : TreeModel) (op : Op) (said : Reply) (p q r : PassModel) → q.table ≡ p.table → q.label ≡ p.label
+    → q.view.worker.ledger ≡ p.view.worker.ledger → q.view.answers ≡ p.view.answers → SameShare p.view q.view → Sees' op said p.sight r.sight
+    → AnswersAs Sees t op said q r → AnswersAs Sees' t op said p r
+answers_before Sees Sees' t op said p q r table label same count share sees h =
     let back : ledger q ≡ ledger p = ap ledger_of same in
     let there : present_in q ≡ present_in p = ap contents_in back in
     record {
@@ -56,6 +60,7 @@ answers_before t op said p q r table label same count share h =
       share = share_trans p.view q.view r.view share h.share;
       idle = h.idle;
       outside = h.outside;
+      sees = sees;
     }
 
 -- so is the value that a change added or took
@@ -73,11 +78,20 @@ takes_before_it t (Insert key value) had p q r same count h = tt
 takes_before_it t (Delete key) had p q r same count h = (takes_before t key had p q r same h.0, take_before key had p q r count h.1)
 takes_before_it t (Swap key was value) had p q r same count h = tt
 
-pub keeps_answers : (t : TreeModel) (op : Op) (said : Reply) (p q r : PassModel) (n : ℕ) → Keeps p q n → Answers t op said q r → Answers t op said p r
-keeps_answers t op said p q r n keeps h = answers_before t op said p q r keeps.table keeps.label keeps.view.ledger keeps.view.answers keeps.view.share h
+pub keeps_answers : (t : TreeModel) (op : Op) (said : Reply) (p q r : PassModel) (n : ℕ) → Keeps p q n → AnswersAs SeesEnd t op said q r → AnswersAs SeesEnd t op said p r
+keeps_answers t op said p q r n keeps h =
+    answers_before SeesEnd SeesEnd t op said p q r keeps.table keeps.label keeps.view.ledger keeps.view.answers keeps.view.share (ends_from op said p.sight q.sight r.sight keeps.sight h.sees) h
 
-pub keeps_in_answers : (t : TreeModel) (op : Op) (said : Reply) (p q r : PassModel) (n : ℕ) → KeepsIn t.plan p q n → Answers t op said q r → Answers t op said p r
-keeps_in_answers t op said p q r n keeps h = answers_before t op said p q r keeps.table keeps.label keeps.view.ledger keeps.view.answers keeps.view.share h
+pub keeps_in_answers : (t : TreeModel) (op : Op) (said : Reply) (p q r : PassModel) (n : ℕ) → KeepsIn t.plan p q n → AnswersAs SeesEnd t op said q r → AnswersAs SeesEnd t op said p r
+keeps_in_answers t op said p q r n keeps h =
+    answers_before SeesEnd SeesEnd t op said p q r keeps.table keeps.label keeps.view.ledger keeps.view.answers keeps.view.share (ends_from op said p.sight q.sight r.sight keeps.sight h.sees) h
+
+-- a try that was answered, of an operation that the pass began before
+pub answers_begun : (t : TreeModel) (op : Op) (said : Reply) (p b q r : PassModel) → q.table ≡ p.table → q.label ≡ p.label
+    → q.view.worker.ledger ≡ p.view.worker.ledger → q.view.answers ≡ p.view.answers → SameShare p.view q.view → SeesBegin op p.sight b.sight → q.sight ≡ b.sight
+    → AnswersAs SeesEnd t op said q r → Answers t op said p r
+answers_begun t op said p b q r table label same count share begins sight h =
+    answers_before SeesEnd SeesCall t op said p q r table label same count share (sees_call op said p.sight b.sight q.sight r.sight begins sight h.sees) h
 
 -- an insert whose search ended at another key would add its own; a swap whose search ended at its key and its first value would swap it; a delete
 -- whose search ended at its key would take it away

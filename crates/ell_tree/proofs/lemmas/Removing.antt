@@ -10,6 +10,7 @@ use Rattle.ell_cards.proofs.lemmas.runs.LayingDown.{laid_down_last_changes_nothi
 use Rattle.ell_cards.specs.declared.view.View.{View}
 use Rattle.ell_cards.specs.Accounts.{own_calls}
 use Rattle.ell_cards.specs.Models.{TablePlan, PassModel}
+use Rattle.ell_cards.specs.Seeing.{SeesBegin}
 use Rattle.ell_tree.specs.declared.searching.Place.{Place}
 use Rattle.ell_tree.specs.Called.{IsTakeCalled}
 use Rattle.ell_tree.specs.Computing.{IsUntouched, RemovesIf}
@@ -20,6 +21,7 @@ use Rattle.ell_tree.specs.Tries.{Begins, Halts, Lays}
 use Rattle.ell_tree.proofs.lemmas.Computing.{concludes}
 use Rattle.ell_tree.proofs.lemmas.Keeping.{share_trans}
 use Rattle.ell_tree.proofs.lemmas.Owning.{has_there, would_before}
+use Rattle.ell_tree.proofs.lemmas.Sights.{sees_none}
 
 -- a key was found with this value, or not
 pub is_that : (was : ℕ) (o : Option ℕ) → is_value was o ≡ true → o ≡ Some was
@@ -56,8 +58,8 @@ pub searched_stops : (plan : TablePlan) (op : Op) (place : Place) (v : View) →
 searched_stops plan op place v h = record { op = op; busy = h.busy; backed = λ c is flagged. absurd (some_not_none is h.no_card) }
 
 -- an operation that begins, halts at its only try, and is laid down
-pub halts_laid : (t : TreeModel) (op : Op) (p q r s : PassModel) (n : ℕ) → Begins op [] n p q → Halts op q r → Lays op r s → LaidDown t op p s
-halts_laid t op p q r s n begins halts lays = record {
+pub halts_laid : (t : TreeModel) (op : Op) (p q r s : PassModel) (n : ℕ) → Begins op [] n p q → SeesBegin op p.sight q.sight → Halts op q r → Lays op r s → LaidDown t op p s
+halts_laid t op p q r s n begins sees halts lays = record {
   table = lays.table ∙ (halts.table ∙ begins.table);
   label = lays.label ∙ (halts.label ∙ begins.label);
   ledger = lays.ledger ∙ (halts.ledger ∙ begins.ledger);
@@ -69,6 +71,7 @@ halts_laid t op p q r s n begins halts lays = record {
   idle = lays.idle;
   outside = lays.outside;
   no_card = lays.no_card;
+  sees = sees_none op p.sight q.sight s.sight sees (lays.sight ∙ halts.sight);
 }
 
 -- what a delete took is what the key had before others that have changed nothing

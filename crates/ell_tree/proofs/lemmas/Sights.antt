@@ -1,14 +1,19 @@
 -- What a pass sees of the history in a call.
-use Rattle.std.proofs.Common.{◌≡◌, ℕ, ◌+◌, ◌≤◌, List, [], ◌∷◌, ◌++◌, length, refl, sym, ap, ◌∙◌, subst, arith}
+use Rattle.std.proofs.Common.{◌≡◌, ◌≢◌, ℕ, ◌+◌, ◌≤◌, ◌⊎◌, inl, inr, List, [], ◌∷◌, ◌++◌, length, refl, sym, ap, ◌∙◌, subst, arith, append-nil}
 use Rattle.std.proofs.lemmas.List.{append_assoc}
 use Rattle.ell_ops.specs.declared.op.Op.{Op}
 use Rattle.ell_ops.specs.declared.reply.Reply.{Reply}
+use Rattle.ell_core.specs.statements.Effects.{reply_of_change}
 use Rattle.ell_cards.specs.declared.view.Act.{Act}
 use Rattle.ell_cards.specs.declared.view.Event.{Event}
 use Rattle.ell_cards.specs.declared.view.Event.TheVariants.{Begins, Ends}
 use Rattle.ell_cards.specs.declared.view.Sight.{Sight}
+use Rattle.ell_cards.specs.Histories.{IsCall}
+use Rattle.ell_cards.specs.Models.{Has, latest, earlier}
 use Rattle.ell_cards.specs.Seeing.{HasSeenMore, SeesBegin, SeesCall, SeesEnd}
 use Rattle.ell_cards.specs.Sights.{IsPart}
+use Rattle.ell_cards.proofs.lemmas.whole.Seeing.{call_more}
+use Rattle.ell_tree.specs.Called.{SeesLast, SeesNoChange}
 
 -- a beginning of a beginning of a history is one of the history, and no longer
 pub part_trans : (a b c : List Event) → IsPart a b → IsPart b c → IsPart a c
@@ -50,3 +55,63 @@ sees_call op said p q m r b same end =
 -- and one that was laid down is none
 pub sees_none : (op : Op) (p q m : Sight) → SeesBegin op p q → m ≡ q → HasSeenMore p m
 sees_none op p q m b same = subst (HasSeenMore p) (sym same) (record { more = begun_part op p q b; mine = b.mine })
+
+-- lists of calls
+none_has : (a : Act) → Has [] a → ⊥
+none_has a h = elim h [ ]
+
+has_one : (x a : Act) → Has (x ∷ []) a → x ≡ a
+has_one x a (latest _ _) = refl
+has_one x a (earlier _ _ _ h) = absurd (none_has a h)
+
+has_either : (xs ys : List Act) (a : Act) → Has (xs ++ ys) a → Has xs a ⊎ Has ys a
+has_either [] ys a h = inr h
+has_either (x ∷ xs) ys a (latest _ _) = inl (latest x xs)
+has_either (x ∷ xs) ys a (earlier _ _ _ h) = elim (has_either xs ys a h) [
+  | inl one ↦ inl (earlier a x xs one)
+  | inr one ↦ inr one
+]
+
+-- a call of a beginning of a history is one of the history
+call_on : (h l : List Event) (a : Act) → IsPart h l → IsCall h a.begin a.end a.op a.said → IsCall l a.begin a.end a.op a.said
+call_on h l a part c = subst (λ (k : List Event). IsCall k a.begin a.end a.op a.said) (sym part.1) (call_more h part.0 a.begin a.end a.op a.said c)
+
+-- a pass that has seen more, and was answered nothing
+pub no_change_more : (p q : Sight) → HasSeenMore p q → SeesNoChange p q
+no_change_more p q h = record { more = h.more; calls = []; mine = h.mine; each = λ a has. absurd (none_has a has) }
+
+pub no_change_self : (p : Sight) → SeesNoChange p p
+no_change_self p = no_change_more p p (record { more = ([], sym (append-nil p.seen)); mine = refl })
+
+-- or a call that has changed nothing
+pub no_change_call : (op : Op) (said : Reply) (p q : Sight) → said ≢ reply_of_change op → SeesCall op said p q → SeesNoChange p q
+no_change_call op said p q other h =
+    let one : Act = record { begin = h.begin; end = h.end; op = op; said = said } in
+    record {
+      more = h.more;
+      calls = one ∷ [];
+      mine = h.mine;
+      each = λ a has. subst (λ (x : Act). (length p.seen ≤ x.begin) × IsCall q.seen x.begin x.end x.op x.said × (x.said ≢ reply_of_change x.op))
+          (has_one one a has) (h.after, h.call, other);
+    }
+
+pub no_change_trans : (p q r : Sight) → SeesNoChange p q → SeesNoChange q r → SeesNoChange p r
+no_change_trans p q r g h = record {
+  more = part_trans p.seen q.seen r.seen g.more h.more;
+  calls = h.calls ++ g.calls;
+  mine = h.mine ∙ (ap (λ (l : List Act). h.calls ++ l) g.mine ∙ sym (append_assoc h.calls g.calls p.mine));
+  each = λ a has. elim (has_either h.calls g.calls a has) [
+    | inl later ↦ (let c = h.each a later in let short = part_short p.seen q.seen g.more in let late = c.0 in (omega arith, c.1, c.2))
+    | inr before ↦ (let c = g.each a before in (c.0, call_on q.seen r.seen a h.more c.1, c.2))
+  ];
+}
+
+-- and then this call
+pub sees_last : (op : Op) (said : Reply) (p q r : Sight) → SeesNoChange p q → SeesCall op said q r → SeesLast op said p r
+sees_last op said p q r g h = record { between = q; before = g; last = h }
+
+pub sees_last_after : (op : Op) (said : Reply) (p q r : Sight) → SeesNoChange p q → SeesLast op said q r → SeesLast op said p r
+sees_last_after op said p q r g h = record { between = h.between; before = no_change_trans p q h.between g h.before; last = h.last }
+
+pub no_change_last : (op : Op) (said : Reply) (p q : Sight) → said ≢ reply_of_change op → SeesLast op said p q → SeesNoChange p q
+no_change_last op said p q other h = no_change_trans p h.between q h.before (no_change_call op said h.between q other h.last)

@@ -20,7 +20,6 @@ use Rattle.ell_tree.proofs.lemmas.Hindrances.{root_in_try}
 use Rattle.ell_tree.proofs.lemmas.Keeping.{share_trans}
 use Rattle.ell_tree.proofs.lemmas.Meeting.{meets_trans}
 use Rattle.ell_tree.proofs.lemmas.Owning.{keeps_answers, takes_before, would_before}
-use Rattle.ell_tree.proofs.lemmas.Sights.{ends_from}
 
 -- a search from the root leaves the try as it was: it has met nothing, and has no card
 pub searched : (plan : TablePlan) (op : Op) (place : Place) (p q : PassModel) (n : ℕ) → KeepsAllButSearch p q n → AtRoot op p.view → EndsAt plan q.view op place
@@ -68,7 +67,7 @@ module _ (p q r : PassModel) (n : ℕ) (k : KeepsAllButSearch p q n) where
 
   pub ends_after : (t : TreeModel) (op : Op) (ended : Tried) → TryEnds t op q r ended → TryEnds t op p r ended
   ends_after t op (Answered had) h =
-      (keeps_answers t op (reply_by op had) p q r n k.keeps h.0, meets_trans p.view q.view r.view (seek_meets p q n k) h.1, h.2, ends_from op (reply_by op had) p.sight q.sight r.sight k.keeps.sight h.3)
+      (keeps_answers t op (reply_by op had) p q r n k.keeps h.0, meets_trans p.view q.view r.view (seek_meets p q n k) h.1, h.2)
   ends_after t op Spent h = (halts_after op h.0, h.1, h.2)
   ends_after t op Hindered h =
       (halts_after op h.0, (let same = ap length k.hindrances in omega (arith, h.1, same)), sees_after t.plan.last_card h.2, h.3)

@@ -23,7 +23,6 @@ use Rattle.ell_tree.proofs.lemmas.Filling.{delete_card, delete_wants, told_grand
 use Rattle.ell_tree.proofs.lemmas.Milestones.{sees_end, gives_out}
 use Rattle.ell_tree.proofs.lemmas.Retiring.{keeps_but_met_noted}
 use Rattle.ell_tree.proofs.lemmas.Searches.{unknown_above, named_above, passed_above, searched_in_try}
-use Rattle.ell_tree.proofs.lemmas.Sights.{ends_from}
 use Rattle.ell_tree.proofs.deleting.delete_at.Goals as goal
 
 pub take_card-requires-clause-wants : goal.take_card-requires-clause-wants
@@ -320,8 +319,6 @@ returns-clause-ends g c =
           (keeps_answers c.args.table.now op _ f m said.new.pass _ met.keeps answers)),
       meets_trans a.view m.view said.new.pass.view finished (said_meets m.view said.new.pass.view said.ensures.hindrances said.ensures.facts),
       said.ensures.room,
-      ends_from op _ a.sight m.sight said.new.pass.sight (met.keeps.sight ∙ (c.flag_delete.ensures.keeps.sight ∙ c.take_card.ensures.keeps.sight))
-          (said.ensures.sees op (search rules)),
     )
 
 -- the value of the leaf of the card was taken

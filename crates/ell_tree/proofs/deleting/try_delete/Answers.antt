@@ -6,7 +6,6 @@ use Rattle.ell_tree.proofs.lemmas.Owning.{keeps_answers, had_none}
 use Rattle.ell_tree.proofs.lemmas.Meeting.{meets_trans}
 use Rattle.ell_tree.proofs.lemmas.Halting.{seek_meets, said_meets}
 use Rattle.ell_tree.proofs.lemmas.Trying.{searched, ends_after, took_after, takes_after}
-use Rattle.ell_tree.proofs.lemmas.Sights.{ends_from}
 use Rattle.ell_tree.proofs.deleting.try_delete.Goals as goal
 
 pub delete_at-requires-clause-searched : goal.delete_at-requires-clause-searched
@@ -30,8 +29,6 @@ returns-then-place-key-clause-ends g c =
       meets_trans a.view s.new.pass.view said.new.pass.view (seek_meets a s.new.pass _ s.ensures.keeps_but_search)
           (said_meets s.new.pass.view said.new.pass.view said.ensures.hindrances said.ensures.facts),
       said.ensures.room,
-      ends_from (Delete c.args.key) _ a.sight s.new.pass.sight said.new.pass.sight s.ensures.keeps_but_search.keeps.sight
-          (said.ensures.sees (Delete c.args.key) (s.ensures.keeps_but_search.keeps.view.operation ∙ c.requires.root.busy)),
     )
 
 -- nothing was there to take

@@ -10,7 +10,7 @@ use Rattle.ell_cards.specs.declared.view.View.{View}
 use Rattle.ell_cards.specs.LettingGo.{put}
 use Rattle.ell_cards.specs.Models.{PassModel, Knows, new_node}
 use Rattle.ell_tree.specs.CardsTaken.{cards_taken, TakesNoCard, TakesOneCard, TakesOneIf}
-use Rattle.ell_tree.specs.Ends.{Answers, changes_by, reply_by}
+use Rattle.ell_tree.specs.Ends.{AnswersAs, changes_by, reply_by}
 use Rattle.ell_tree.specs.Hindrances.{way_of}
 use Rattle.ell_tree.specs.Keeping.{KeepsAll}
 use Rattle.ell_tree.proofs.lemmas.Searches.{may_answer}
@@ -24,7 +24,6 @@ use Rattle.ell_tree.proofs.lemmas.Hindrances.{root_in_try}
 use Rattle.ell_tree.proofs.lemmas.Putting.{put_wants, put_refused, put_done, refused_outer}
 use Rattle.ell_tree.proofs.lemmas.Retiring.{has_put, keeps_all_noted}
 use Rattle.ell_tree.proofs.lemmas.Milestones.{sees_end, gives_out}
-use Rattle.ell_tree.proofs.lemmas.Sights.{ends_from}
 use Rattle.ell_cards.specs.Seeing.{SeesEnd}
 use Rattle.ell_tree.proofs.inserting.try_put.Goals as goal
 
@@ -123,14 +122,11 @@ returns-then-not-may_replace-clause-ends g c =
     let reply : c.found.result ≡ reply_by c.args.op c.told_of_put-found.result =
     c.found.ensures ∙ (ap found c.told_of_put-found.ensures ∙ (refused.reply ∙ ap (reply_by c.args.op) (sym c.told_of_put-found.ensures))) in
     let answers = said.ensures.answers c.args.op (s.ensures.keeps_but_search.keeps.view.operation ∙ c.requires.root.busy) in (
-      subst (λ r. Answers c.args.table.now c.args.op r a said.new.pass) reply
+      subst (λ r. AnswersAs SeesEnd c.args.table.now c.args.op r a said.new.pass) reply
           (keeps_answers c.args.table.now c.args.op _ a s.new.pass said.new.pass _ s.ensures.keeps_but_search.keeps answers),
       meets_trans a.view s.new.pass.view said.new.pass.view (seek_meets a s.new.pass _ s.ensures.keeps_but_search)
           (said_meets s.new.pass.view said.new.pass.view said.ensures.hindrances said.ensures.facts),
       said.ensures.room,
-      subst (λ r. SeesEnd c.args.op r a.sight said.new.pass.sight) reply
-          (ends_from c.args.op _ a.sight s.new.pass.sight said.new.pass.sight s.ensures.keeps_but_search.keeps.sight
-          (said.ensures.sees c.args.op (s.ensures.keeps_but_search.keeps.view.operation ∙ c.requires.root.busy))),
     )
 
 pub returns-then-not-may_replace-clause-taken : goal.returns-then-not-may_replace-clause-taken
@@ -255,17 +251,13 @@ returns-in-Ok-clause-ends g c =
     let reply : c.reply_once_done.result ≡ reply_by c.args.op (Some c.unwrap_or.result) =
     c.reply_once_done.ensures ∙ (done.reply ∙ ap (λ v. reply_by c.args.op (Some v)) (sym (search rules))) in
     let answers = said.ensures.answers c.args.op (search rules) in (
-      subst (λ r. Answers c.args.table.now c.args.op r a said.new.pass) reply
+      subst (λ r. AnswersAs SeesEnd c.args.table.now c.args.op r a said.new.pass) reply
           (keeps_answers c.args.table.now c.args.op _ a s.new.pass said.new.pass _ s.ensures.keeps_but_search.keeps
           (keeps_in_answers c.args.table.now c.args.op _ s.new.pass t said.new.pass _ c.take_card.ensures.keeps
           (keeps_answers c.args.table.now c.args.op _ t f said.new.pass _ c.flag_insert.ensures.keeps
           (keeps_answers c.args.table.now c.args.op _ f m said.new.pass _ kept.keeps answers)))),
       meets_trans a.view m.view said.new.pass.view finished (said_meets m.view said.new.pass.view said.ensures.hindrances said.ensures.facts),
       said.ensures.room,
-      subst (λ r. SeesEnd c.args.op r a.sight said.new.pass.sight) reply
-          (ends_from c.args.op _ a.sight m.sight said.new.pass.sight
-          (kept.keeps.sight ∙ (c.flag_insert.ensures.keeps.sight ∙ (c.take_card.ensures.keeps.sight ∙ s.ensures.keeps_but_search.keeps.sight)))
-          (said.ensures.sees c.args.op (search rules))),
     )
 
 -- the flag was lost

@@ -14,8 +14,8 @@ use Rattle.ell_tree.proofs.lemmas.Milestones.{milestones_one, milestones_still, 
 use Rattle.ell_tree.proofs.lemmas.CardsTaken.{answers_first, answered_most, answered_cards, unchanged_cards, taken_none, same_Ok}
 use Rattle.ell_tree.proofs.lemmas.Keeping.{share_trans}
 use Rattle.ell_tree.proofs.lemmas.LettingGo.{lets_none_go}
-use Rattle.ell_tree.proofs.lemmas.Owning.{answers_before, would_before, takes_before_it}
-use Rattle.ell_tree.proofs.lemmas.Sights.{sees_call, sees_none}
+use Rattle.ell_tree.proofs.lemmas.Owning.{answers_begun, would_before, takes_before_it}
+use Rattle.ell_tree.proofs.lemmas.Sights.{sees_none}
 use Rattle.ell_tree.proofs.operations.change.Goals as goal
 
 pub try_once-requires-clause-root : goal.try_once-requires-clause-root
@@ -193,8 +193,8 @@ returns-in-Answered-clause-ends g c =
     let i = l.invariant in
     let begins = c.restart.ensures.begins c.args.op i.stops.busy (λ none. i.root (eqb-true l.round 0 none)) in
     let begun = begun_meets (way_of c.args.op l.pass.view) a l.pass.view c.restart.new.pass.view i.meets i.way begins.hindrances begins.knows in (
-      answers_before c.args.table.now c.args.op _ c.args.pass.now c.restart.new.pass c.try_once.new.pass (begins.table ∙ i.table) (begins.label ∙ i.label)
-          (begins.ledger ∙ i.ledger) (begins.answers ∙ i.answers) (share_trans a l.pass.view c.restart.new.pass.view i.share begins.share) c.in-Answered.ensures.ends.0,
+      answers_begun c.args.table.now c.args.op _ c.args.pass.now l.pass c.restart.new.pass c.try_once.new.pass (begins.table ∙ i.table) (begins.label ∙ i.label)
+          (begins.ledger ∙ i.ledger) (begins.answers ∙ i.answers) (share_trans a l.pass.view c.restart.new.pass.view i.share begins.share) i.sight c.restart.ensures.sight c.in-Answered.ensures.ends.0,
       meets_trans a c.restart.new.pass.view c.try_once.new.pass.view begun c.in-Answered.ensures.ends.1,
     )
 
@@ -223,6 +223,7 @@ returns-in-Spent-clause-ends g c =
         idle = lays.idle;
         outside = lays.outside;
         no_card = lays.no_card;
+        sees = sees_none op c.args.pass.now.sight l.pass.sight c.leave.new.pass.sight i.sight (lays.sight ∙ (halts.sight ∙ c.restart.ensures.sight));
       },
       still_none c.args.table.now.plan op c.try_once.new.pass c.leave.new.pass lays.next lays.sought lays.safe lays.took c.in-Spent.ensures.ends.1,
       begun_meets (way_of op tried) a tried c.leave.new.pass.view met halts.way lays.hindrances lays.knows,
@@ -249,29 +250,11 @@ returns-clause-ends g c =
         idle = lays.idle;
         outside = lays.outside;
         no_card = lays.no_card;
+        sees = sees_none op c.args.pass.now.sight l.pass.sight c.leave-2.new.pass.sight i.sight lays.sight;
       },
       omega (arith, all, n, i.hindrances),
       begun_meets (way_of op l.pass.view) a l.pass.view c.leave-2.new.pass.view i.meets i.way lays.hindrances lays.knows,
     )
-
--- what the pass has seen of the call
-pub returns-in-Answered-clause-sees : goal.returns-in-Answered-clause-sees
-returns-in-Answered-clause-sees g c =
-    let l = c.loop-round in
-    sees_call c.args.op _ c.args.pass.now.sight l.pass.sight c.restart.new.pass.sight c.try_once.new.pass.sight l.invariant.sight c.restart.ensures.sight c.in-Answered.ensures.ends.3
-
-pub returns-in-Spent-clause-sees : goal.returns-in-Spent-clause-sees
-returns-in-Spent-clause-sees g c =
-    let l = c.loop-round in
-    let halts = c.in-Spent.ensures.ends.0 in
-    let lays = c.leave.ensures.lays c.args.op halts.stops.busy in
-    sees_none c.args.op c.args.pass.now.sight l.pass.sight c.leave.new.pass.sight l.invariant.sight (lays.sight ∙ (halts.sight ∙ c.restart.ensures.sight))
-
-pub returns-clause-sees : goal.returns-clause-sees
-returns-clause-sees g c =
-    let l = c.loop-round in
-    let lays = c.leave-2.ensures.lays c.args.op l.invariant.stops.busy in
-    sees_none c.args.op c.args.pass.now.sight l.pass.sight c.leave-2.new.pass.sight l.invariant.sight lays.sight
 
 -- the value that it took
 pub returns-in-Answered-clause-takes : goal.returns-in-Answered-clause-takes

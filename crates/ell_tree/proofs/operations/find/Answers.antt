@@ -1,13 +1,11 @@
-use Rattle.std.proofs.Common.{◌∙◌, arith, subst}
+use Rattle.std.proofs.Common.{◌∙◌, arith, refl, subst}
 use Rattle.ell_ops.specs.declared.op.Op.TheVariants.{Find}
-use Rattle.ell_cards.specs.Seeing.{SeesCall}
 use Rattle.ell_tree.proofs.lemmas.LettingGo.{lets_none_go}
 use Rattle.ell_tree.proofs.lemmas.Meeting.{meets_none, meets_trans}
 use Rattle.ell_tree.proofs.lemmas.Halting.{seek_meets, said_meets}
 use Rattle.ell_tree.specs.Ends.{Answers}
-use Rattle.ell_tree.proofs.lemmas.Owning.{answers_before, keeps_answers}
+use Rattle.ell_tree.proofs.lemmas.Owning.{answers_begun, keeps_answers}
 use Rattle.ell_tree.proofs.lemmas.Milestones.{milestones_more, milestones_same}
-use Rattle.ell_tree.proofs.lemmas.Sights.{sees_call}
 use Rattle.ell_tree.proofs.operations.find.Goals as goal
 
 -- a find has no card in hand
@@ -17,19 +15,11 @@ answer-requires-clause-noted g c =
 
 pub returns-clause-answers : goal.returns-clause-answers
 returns-clause-answers g c =
-    let answers = c.answer.ensures.answers (Find c.args.key) (c.search-place.ensures.keeps_but_search.keeps.view.operation ∙ c.begin.ensures.begins.root.busy) in
+    let begins = c.begin.ensures.begins in
+    let answers = c.answer.ensures.answers (Find c.args.key) (c.search-place.ensures.keeps_but_search.keeps.view.operation ∙ begins.root.busy) in
     subst (λ r. Answers c.args.table.now (Find c.args.key) r c.args.pass.now c.answer.new.pass) c.found.ensures
-    (answers_before c.args.table.now (Find c.args.key) _ c.args.pass.now c.begin.new.pass c.answer.new.pass c.begin.ensures.begins.table c.begin.ensures.begins.label
-    c.begin.ensures.begins.ledger c.begin.ensures.begins.answers c.begin.ensures.begins.share
+    (answers_begun c.args.table.now (Find c.args.key) _ c.args.pass.now c.begin.new.pass c.begin.new.pass c.answer.new.pass begins.table begins.label begins.ledger begins.answers begins.share c.begin.ensures.sees refl
     (keeps_answers c.args.table.now (Find c.args.key) _ c.begin.new.pass c.search-place.new.pass c.answer.new.pass _ c.search-place.ensures.keeps_but_search.keeps answers))
-
-pub returns-clause-sees : goal.returns-clause-sees
-returns-clause-sees g c =
-    let keeps = c.search-place.ensures.keeps_but_search.keeps in
-    let op = Find c.args.key in
-    subst (λ r. SeesCall op r c.args.pass.now.sight c.answer.new.pass.sight) c.found.ensures
-    (sees_call op _ c.args.pass.now.sight c.begin.new.pass.sight c.search-place.new.pass.sight c.answer.new.pass.sight c.begin.ensures.sees keeps.sight
-    (c.answer.ensures.sees op (keeps.view.operation ∙ c.begin.ensures.begins.root.busy)))
 
 -- an operation that begins, searches and is answered meets nothing; what was known stays known, and nothing was given out
 pub returns-clause-quiet : goal.returns-clause-quiet

@@ -1,10 +1,10 @@
-use Rattle.std.proofs.Common.{◌≡◌, ◌+◌, Some, Ok, true, false, is_some, ap, ◌∙◌, subst, rules, arith}
+use Rattle.std.proofs.Common.{◌≡◌, ◌+◌, Some, Ok, true, false, is_some, ap, ◌∙◌, refl, subst, rules, arith}
 use Rattle.ell_ops.specs.declared.op.Op.TheVariants.{Delete}
 use Rattle.ell_ops.specs.declared.reply.Reply.TheVariants.{Yes}
 use Rattle.ell_ops.specs.Meaning.{yes_if}
 use Rattle.ell_cards.proofs.lemmas.runs.Tries.{more_tries}
 use Rattle.ell_tree.specs.Called.{IsTakeCalled}
-use Rattle.ell_tree.specs.Ends.{Answers, TakesValue, is_value}
+use Rattle.ell_tree.specs.Ends.{AnswersAs, TakesValue, is_value}
 use Rattle.ell_tree.specs.Searches.{there_at}
 use Rattle.ell_tree.specs.declared.trying.Tried.TheVariants.{Hindered, Spent}
 use Rattle.ell_tree.proofs.lemmas.Called.{take_before}
@@ -14,9 +14,11 @@ use Rattle.ell_tree.proofs.lemmas.Hindrances.{halts_hindered, one_hindered}
 use Rattle.ell_tree.proofs.lemmas.Keeping.{share_trans}
 use Rattle.ell_tree.proofs.lemmas.LettingGo.{lets_none_go}
 use Rattle.ell_tree.proofs.lemmas.Milestones.{milestones_one, milestones_same}
-use Rattle.ell_tree.proofs.lemmas.Owning.{answers_before, keeps_answers, takes_before}
+use Rattle.ell_tree.proofs.lemmas.Owning.{answers_begun, keeps_answers, takes_before}
 use Rattle.ell_tree.proofs.lemmas.Removing.{at_that, halts_laid, not_at}
 use Rattle.ell_tree.proofs.lemmas.Trying.{searched, ends_after}
+use Rattle.ell_cards.specs.Seeing.{SeesEnd}
+use Rattle.ell_tree.proofs.lemmas.Sights.{sees_none}
 use Rattle.ell_tree.proofs.removing.remove_once.Goals as goal
 
 pub delete_at-requires-clause-searched : goal.delete_at-requires-clause-searched
@@ -47,7 +49,8 @@ returns-then-not-is_value-clause-removes g c =
     let other : is_value c.args.was (there_at s.result c.args.key) ≡ false = search rules in (
       untouched_still a new (lays.table ∙ (keeps.table ∙ begins.table)) (lays.label ∙ (keeps.label ∙ begins.label))
           (lays.ledger ∙ (keeps.view.ledger ∙ begins.ledger)) (lays.answers ∙ (keeps.view.answers ∙ begins.answers))
-          (share_trans a.view s.new.pass.view new.view (share_trans a.view c.begin.new.pass.view s.new.pass.view begins.share keeps.view.share) lays.share) lays.idle lays.outside,
+          (share_trans a.view s.new.pass.view new.view (share_trans a.view c.begin.new.pass.view s.new.pass.view begins.share keeps.view.share) lays.share) lays.idle lays.outside
+          (sees_none (Delete c.args.key) a.sight c.begin.new.pass.sight new.sight c.begin.ensures.sees (lays.sight ∙ keeps.sight)),
       not_at c.args.table.now.plan a s.new.pass s.result c.args.key c.args.was (keeps.view.ledger ∙ begins.ledger) s.ensures.ends other,
     )
 
@@ -97,10 +100,10 @@ returns-in-Answered-clause-removes g c =
     let d = c.delete_at.new.pass in
     let that : is_value c.args.was (there_at s.result key) ≡ true = search rules in
     let had : c.in-Answered.field-0 ≡ Some c.args.was = c.in-Answered.ensures.value ∙ ap Some (at_that s.result key c.args.was that).1 in
-    let yes : Answers t op Yes s.new.pass d = subst (λ o. Answers t op (yes_if (is_some o)) s.new.pass d) had c.in-Answered.ensures.ends.0 in
+    let yes : AnswersAs SeesEnd t op Yes s.new.pass d = subst (λ o. AnswersAs SeesEnd t op (yes_if (is_some o)) s.new.pass d) had c.in-Answered.ensures.ends.0 in
     let took : TakesValue t key s.new.pass d (Some c.args.was) × IsTakeCalled key s.new.pass d (Ok (Some c.args.was)) =
     subst (λ o. TakesValue t key s.new.pass d o × IsTakeCalled key s.new.pass d (Ok o)) had c.in-Answered.ensures.took in (
-      answers_before t op Yes a b d begins.table begins.label begins.ledger begins.answers begins.share (keeps_answers t op Yes b s.new.pass d _ keeps yes),
+      answers_begun t op Yes a b b d begins.table begins.label begins.ledger begins.answers begins.share c.begin.ensures.sees refl (keeps_answers t op Yes b s.new.pass d _ keeps yes),
       takes_before t key (Some c.args.was) a s.new.pass d (keeps.view.ledger ∙ begins.ledger) took.0,
       take_before key (Some c.args.was) a s.new.pass d (keeps.view.answers ∙ begins.answers) took.1,
     )
@@ -115,7 +118,7 @@ returns-in-Spent-clause-removes g c =
     let d = c.delete_at.new.pass in
     let ended = ends_after b s.new.pass d _ s.ensures.keeps_but_search t op Spent c.in-Spent.ensures.ends in
     let lays = c.leave-in-Spent.ensures.lays op ended.0.stops.busy in
-    (halts_laid t op c.args.pass.now b d c.leave-in-Spent.new.pass _ c.begin.ensures.begins ended.0 lays, still_none t.plan op d c.leave-in-Spent.new.pass lays.next lays.sought lays.safe lays.took ended.1)
+    (halts_laid t op c.args.pass.now b d c.leave-in-Spent.new.pass _ c.begin.ensures.begins c.begin.ensures.sees ended.0 lays, still_none t.plan op d c.leave-in-Spent.new.pass lays.next lays.sought lays.safe lays.took ended.1)
 
 pub returns-in-Hindered-clause-removes : goal.returns-in-Hindered-clause-removes
 returns-in-Hindered-clause-removes g c =
@@ -126,7 +129,7 @@ returns-in-Hindered-clause-removes g c =
     let d = c.delete_at.new.pass in
     let ended = ends_after b s.new.pass d _ s.ensures.keeps_but_search t op Hindered c.in-Hindered.ensures.ends in
     let lays = c.leave-in-Hindered.ensures.lays op ended.0.stops.busy in
-    (halts_laid t op c.args.pass.now b d c.leave-in-Hindered.new.pass _ c.begin.ensures.begins ended.0 lays, tt)
+    (halts_laid t op c.args.pass.now b d c.leave-in-Hindered.new.pass _ c.begin.ensures.begins c.begin.ensures.sees ended.0 lays, tt)
 
 -- and that is others' doing
 pub returns-in-Hindered-clause-others : goal.returns-in-Hindered-clause-others

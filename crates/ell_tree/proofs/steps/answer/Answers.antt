@@ -40,4 +40,5 @@ returns-clause-answers g c op busy =
       called = of_taken op old.view.worker.card c.args.said old.view.told (λ deed. new.view.answers ≡ deed old.view.answers ∷ old.view.answers) called;
       idle = search rules;
       outside = search rules;
+      sees = c.answer.ensures.ends op busy;
     }
