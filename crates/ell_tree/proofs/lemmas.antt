@@ -58,6 +58,8 @@ pub mod LettingGo
 pub mod Computing
 -- a call that removes a key if it has a value
 pub mod Removing
+-- what a pass was answered that has seen all of the history, as of one thread
+pub mod OneThread
 -- the steps of the rounds of such a call
 pub mod Rounds
 -- how many stretches of keys a look goes through that goes on

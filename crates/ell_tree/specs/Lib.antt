@@ -63,6 +63,8 @@ pub mod Cursors
 pub use Rattle.ell_cards.specs.Looking
 -- what a pass was answered by a call
 pub mod Called
+-- what a pass was answered that has seen all of the history, as of one thread
+pub mod OneThread
 -- what passes were answered, as of one thread, and the history of a tree
 pub use Rattle.ell_cards.specs.Accounts
 pub use Rattle.ell_cards.specs.Stories

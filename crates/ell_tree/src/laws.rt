@@ -1,9 +1,10 @@
-//! Laws of the tree's bounds. Each is the contract of a function that does nothing.
+//! Laws of the tree's bounds, and of what passes were answered. Each is the contract of a function that does nothing.
 ghost use Rattle.ell_tree.specs.Computing.{UpdatesAreShort};
 ghost use Rattle.ell_tree.specs.Ends.{ChangesAreShort, FindsAreShort, find_steps, try_steps};
 ghost use Rattle.ell_tree.specs.Flat.{IsFlatBound};
 ghost use Rattle.ell_tree.specs.Helps.{help_steps};
 ghost use Rattle.ell_tree.specs.Looks.{look_steps, stretch_steps};
+ghost use Rattle.ell_tree.specs.OneThread.{StoriesAreOfOneThread};
 
 /// If `c` is the most internal nodes above an internal node, which is the number of the last card unless the tree is
 /// flat, and `t` the number of tries, the bound on the steps of a find is at most `64 * (c + 2)`, and that of an
@@ -26,4 +27,13 @@ pub fn flat_bounds()
     ensures change { IsFlatBound try_steps 475 615 }
     ensures help { IsFlatBound help_steps 264 344 }
     ensures stretch { IsFlatBound stretch_steps 130 170 }
+{}
+
+/// What a pass was answered that has seen all of its tree's history, and has the whole share of a tree that shares its keys, it
+/// and the passes that were joined to it, is as of one thread.
+pub fn stories_are_of_one_thread()
+    // If keys are shared, and a pass has seen all of the history, and has the whole share and nothing in hand, one thread that
+    // makes its calls in some order gets their answers. The order has these calls and no other, and a call that had ended
+    // before another one began stands before it.
+    ensures { StoriesAreOfOneThread }
 {}

@@ -28,7 +28,7 @@ pub use ell_layout::table_size;
 pub use ell_ops::{KEY_MAX, NoMemory, distinct_keys};
 pub use ell_word::{CARDS_MAX, START_MAX};
 pub use gate::{Kind, NoGate, StepGate};
-pub use laws::{bounds_in_short, flat_bounds};
+pub use laws::{bounds_in_short, flat_bounds, stories_are_of_one_thread};
 pub use operations::NotDone;
 pub use scanning::{Pair, Scanned};
 pub use tree::Tree as TreeOver;

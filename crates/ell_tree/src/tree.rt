@@ -10,6 +10,7 @@ ghost use Rattle.ell_word.specs.Node.{most_start};
 ghost use Rattle.ell_core.specs.state.Opening.{last_card};
 ghost use Rattle.ell_cards.specs.Changes.{inherited};
 ghost use Rattle.ell_cards.specs.Models.{IsCardCount, MayPart, RefusesCards, SplitRefuses};
+ghost use Rattle.ell_cards.specs.Sights.{given_sight, joined_sight};
 ghost use Rattle.ell_tree.specs.Called.{IsCalled, IsDeleteCalled, IsPutCalled, IsRemoveCalled, IsTakeCalled, IsUpdateCalled, SeesAnswer, SeesPut, SeesRemove, SeesUpdate};
 ghost use Rattle.ell_tree.specs.CardsLeft.{AreLeftAtMost, ReadsCardsLeft};
 ghost use Rattle.ell_tree.specs.CardsTaken.{TakesNoCard};
@@ -74,6 +75,9 @@ impl<M: Memory> Tree<M> {
         ensures left { IfOk result (λ parts. IsLeftPart left_keys.now pass parts.0) }
         // The right part has the other keys and a piece of the share, knows the same milestones, and counts anew.
         ensures right { IfOk result (λ parts. IsRightPart left_keys.now pass parts.1) }
+        // Both parts have seen of the tree's history what the pass has. The left part keeps the calls that the pass has, and
+        // the right part has none.
+        ensures sees { IfOk result (λ parts. (parts.0.sight ≡ pass.sight) × (parts.1.sight ≡ given_sight pass.sight)) }
         // The left part was answered what the pass was answered, and the right part knows of that.
         ensures called { IfOk result (λ parts. (parts.0.view.answers ≡ pass.view.answers)
             × (parts.1.view.answers ≡ inherited pass.view.answers)) }
@@ -99,6 +103,8 @@ impl<M: Memory> Tree<M> {
         // The pass has the keys and the shares of both, and knows no fewer milestones. In a row it counts one step more
         // than the greater of the two counts, and in all one more than their sum.
         ensures joined { IfOk result (IsUnion left right) }
+        // It has seen the longer one of the beginnings of the tree's history that they have seen, and has the calls of both.
+        ensures sees { IfOk result (λ both. both.sight ≡ joined_sight left.sight right.sight) }
         // It was answered what both were answered.
         ensures called { IfOk result (λ both. both.view.answers ≡ left.view.answers ++ right.view.answers) }
         // If an allocation fails, both come back as they were.

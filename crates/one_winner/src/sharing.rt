@@ -7,10 +7,12 @@ ghost use Rattle.ell_tree.specs.Ends.{Answers};
 ghost use Rattle.ell_tree.specs.Ledgers.{IsIdlePassOf};
 ghost use Rattle.ell_tree.specs.PassParts.{IsFirst};
 ghost use Rattle.ell_tree.specs.Promises.{MayDo};
-ghost use Rattle.one_winner.specs.Sharing.{AreFromNothing, SharesEachKey};
+ghost use Rattle.ell_tree.specs.Contents.{nothing};
+ghost use Rattle.ell_tree.specs.OneThread.{IsOfOneThread};
+ghost use Rattle.one_winner.specs.Sharing.{SharesEachKey};
 
 use crate::fault::RaceFault;
-use ell_tree::{NoGate, Pass, Tree};
+use ell_tree::{NoGate, Pass, Tree, stories_are_of_one_thread};
 use std::alloc::Global;
 
 // How many cards a tree is asked for.
@@ -37,7 +39,6 @@ pub(crate) fn open(alloc: Global, kind: Kind) -> Result<(Tree<Global>, Pass<Glob
     ensures shares { IfOk result (λ made. SharesEachKey made.0) }
     // The pass has the whole share, and was answered nothing.
     ensures first { IfOk result (λ made. IsFirst made.0 made.1) }
-    ensures called { IfOk result (λ made. made.1.view.answers ≡ []) }
 {
     match kind {
         Kind::Plain => Ok(Tree::reserve_shared(alloc, &[], &[], CARDS)?),
@@ -78,8 +79,9 @@ pub(crate) fn conclude(map: &Tree<Global>, pass: Pass<Global>)
     requires shares { SharesEachKey map.now }
     requires whole { pass.view.share ≡ whole_share }
     // What the pass was answered is what one thread is answered that begins with an empty map.
-    ensures { AreFromNothing pass.view.answers }
+    ensures { IsOfOneThread nothing pass.sight.mine }
 {
     let mut pass = pass;
     map.story(&mut pass);
+    stories_are_of_one_thread();
 }

@@ -1,6 +1,7 @@
 -- What a pass sees of the history in a call.
-use Rattle.std.proofs.Common.{◌≡◌, ◌≢◌, ℕ, ◌+◌, ◌≤◌, ◌⊎◌, inl, inr, List, [], ◌∷◌, ◌++◌, length, refl, sym, ap, ◌∙◌, subst, arith, append-nil}
+use Rattle.std.proofs.Common.{◌≡◌, ◌≢◌, ℕ, ◌+◌, ◌<◌, ◌≤◌, nat_le, if◌then◌else◌, Bool, true, false, ◌⊎◌, inl, inr, List, [], ◌∷◌, ◌++◌, length, refl, sym, ap, ◌∙◌, subst, arith, append-nil}
 use Rattle.std.proofs.lemmas.List.{append_assoc}
+use Rattle.std.proofs.lemmas.Bool.Decides.{nat_tests}
 use Rattle.ell_ops.specs.declared.op.Op.{Op}
 use Rattle.ell_ops.specs.declared.reply.Reply.{Reply}
 use Rattle.ell_core.specs.statements.Effects.{reply_of_change}
@@ -11,8 +12,8 @@ use Rattle.ell_cards.specs.declared.view.Sight.{Sight}
 use Rattle.ell_cards.specs.Histories.{IsCall}
 use Rattle.ell_cards.specs.Models.{Has, latest, earlier}
 use Rattle.ell_cards.specs.Seeing.{HasSeenMore, SeesBegin, SeesCall, SeesEnd}
-use Rattle.ell_cards.specs.Sights.{IsPart}
-use Rattle.ell_cards.proofs.lemmas.whole.Seeing.{call_more}
+use Rattle.ell_cards.specs.Sights.{IsPart, longer}
+use Rattle.ell_cards.proofs.lemmas.whole.Seeing.{at_inside, call_more}
 use Rattle.ell_tree.specs.Called.{SeesLast, SeesNoChange}
 
 -- a beginning of a beginning of a history is one of the history, and no longer
@@ -115,3 +116,22 @@ sees_last_after op said p q r g h = record { between = h.between; before = no_ch
 
 pub no_change_last : (op : Op) (said : Reply) (p q : Sight) → said ≢ reply_of_change op → SeesLast op said p q → SeesNoChange p q
 no_change_last op said p q other h = no_change_trans p h.between q h.before (no_change_call op said h.between q other h.last)
+
+-- a call has ended in the history of which it is one
+pub ends_inside : (h : List Event) (begin end : ℕ) (op : Op) (said : Reply) → IsCall h begin end op said → end < length h
+ends_inside h begin end op said c = at_inside h end (Ends c.seat said) c.ends
+
+-- the longer one of two histories is no shorter than either
+pub longer_left : (a b : List Event) → length a ≤ length (longer a b)
+longer_left a b = by (nat_le (length a) (length b)) refl
+  where
+    by : (c : Bool) → nat_le (length a) (length b) ≡ c → length a ≤ length (if c then b else a)
+    by true less = grind (arith, nat_tests)
+    by false more = omega arith
+
+pub longer_right : (a b : List Event) → length b ≤ length (longer a b)
+longer_right a b = by (nat_le (length a) (length b)) refl
+  where
+    by : (c : Bool) → nat_le (length a) (length b) ≡ c → length b ≤ length (if c then b else a)
+    by true less = omega arith
+    by false more = grind (arith, nat_tests)
