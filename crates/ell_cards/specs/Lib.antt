@@ -102,8 +102,6 @@ pub mod Taking
 pub mod LayingDown
 -- what passes were answered, as of one thread
 pub mod Accounts
--- the history of a table, as a pass may know it
-pub mod Stories
 -- the places of looks in the sequence of calls
 pub mod Placing
 -- what its public clauses cite of the crates below

@@ -19,7 +19,6 @@ ghost use Rattle.ell_cards.specs.Linearizing.{RunsAreLinearizable, LastAnswersAr
 ghost use Rattle.ell_cards.specs.Accounts.{WholeAccountsAreOfOneThread};
 ghost use Rattle.ell_cards.specs.Histories.{HistoriesAreLinearizable};
 ghost use Rattle.ell_cards.specs.SeenLaws.{HistoriesAreTold, SeenIsInLine, SeenIsLinearizable};
-ghost use Rattle.ell_cards.specs.Stories.{StoriesAreTold};
 ghost use Rattle.ell_cards.specs.Placing.{LooksHavePlaces};
 ghost use Rattle.ell_cards.specs.LayingDown.{LaidDownCallsChangeNothing, LaidDownLastChangesNothing};
 ghost use Rattle.ell_cards.specs.Answering.{AnswersHaveTheirPoints};
@@ -290,15 +289,6 @@ pub fn whole_accounts_are_of_one_thread()
 pub fn histories_are_linearizable()
     // The history of every run is linearizable.
     ensures { HistoriesAreLinearizable }
-{}
-
-/// Wherever turns have led a table, there is for each pass an order of calls in which all replies fit, and which has the
-/// calls that the pass was answered.
-pub fn stories_are_told()
-    // For each pass, wherever turns have led a table, there is an order of calls in which all replies fit, and which has
-    // the calls that the pass was answered, each as often as it was, and no others if keys are shared, all passes were
-    // joined to it, and it has nothing in hand. Each delete stands where the key had the value that it took.
-    ensures { StoriesAreTold }
 {}
 
 /// What each pass has seen is a beginning of its table's one history, which is linearizable, and whose calls are those that

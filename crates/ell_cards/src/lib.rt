@@ -36,7 +36,7 @@ pub use laws::{
     laid_down_calls_change_nothing, looks_are_of_one_state, looks_have_places, readings_are_past,
     runs_are_lawful, runs_are_linearizable, runs_from_starts_are_lawful, safe_numbers_are_safe,
     searches_read_meanwhile, seen_is_history, shares_add_up, splits_and_joins_are_handovers,
-    steps_are_events, steps_tell_what_is_there, stories_are_told, stretches_are_of_one_state,
+    steps_are_events, steps_tell_what_is_there, stretches_are_of_one_state,
     table_answers_are_the_maps, table_nodes_go_on, table_pairs_change_at_wins,
     table_wins_are_in_order, tables_are_sound, tables_start, whole_accounts_are_of_one_thread,
 };

@@ -4,7 +4,6 @@ ghost use Rattle.ell_cards.specs.declared.call.Call.TheVariants as call;
 ghost use Rattle.ell_cards.specs.Models.{SeesOn};
 ghost use Rattle.ell_cards.specs.Calls.{after};
 ghost use Rattle.ell_cards.specs.Seeing.{HasSeenAll, HasSeenMore};
-ghost use Rattle.ell_cards.specs.Stories.{HasStory};
 
 use crate::memory::Memory;
 use crate::pass::Pass;
@@ -12,15 +11,11 @@ use crate::table::CardTable;
 use std::marker::Brand;
 
 impl<M: Memory> CardTable<M> {
-    /// Reads the claim word, and does nothing else, so that the pass knows this law: all that was done with the table
-    /// up to now, by whichever passes, is one history, which is linearizable, and in whose sequence are the calls that
-    /// the pass was answered. The step is not counted.
+    /// Reads the claim word, and does nothing else, so that the pass has seen all that was done with the table up to now,
+    /// by whichever passes: its one history, which is linearizable, and which has the calls that the pass was answered.
+    /// The step is not counted.
     pub fn story(&self, pass: &mut Pass<M>)
         requires own { pass.old.table ≡ self.now.id }
-        // All that was done with the table is one linearizable history. Its sequence has the calls that the pass was
-        // answered, it and the passes that were joined to it, and no others if it has the whole share. Each delete
-        // stands where the key had the value that it took.
-        ensures story { HasStory self.now.plan pass.new.view }
         // The pass has seen all of the table's history, and has the calls that it had. The history is linearizable; the
         // calls that the pass was answered, it and the passes that were joined to it, are calls of it, and no two are
         // one; and the order has no others if keys are shared, and the pass has the whole share and nothing in hand.

@@ -67,7 +67,6 @@ pub mod Called
 pub mod OneThread
 -- what passes were answered, as of one thread, and the history of a tree
 pub use Rattle.ell_cards.specs.Accounts
-pub use Rattle.ell_cards.specs.Stories
 pub use Rattle.ell_cards.specs.Seeing
 pub use Rattle.ell_cards.specs.Sights
 pub use Rattle.ell_cards.specs.declared.view.Act

@@ -5,7 +5,6 @@ ghost use Rattle.ell_ops.specs.Contents.{contents_of};
 ghost use Rattle.ell_cards.specs.Accounts.{AreOfOneThread};
 ghost use Rattle.ell_cards.specs.Models.{whole_share};
 ghost use Rattle.ell_cards.specs.Seeing.{HasSeenAll, HasSeenMore};
-ghost use Rattle.ell_cards.specs.Stories.{HasStory};
 ghost use Rattle.ell_tree.specs.CardsTaken.{TakesNoCard};
 ghost use Rattle.ell_tree.specs.Closing.{ClosesTo};
 ghost use Rattle.ell_tree.specs.Counts.{Took};
@@ -23,11 +22,6 @@ impl<M: Memory> Tree<M> {
     /// answers of several threads, it concludes from this, once it has joined their passes.
     pub fn story(&self, pass: &mut Pass<M>)
         requires own { pass.old.table ≡ self.now.id }
-        // There is an order of calls in which all replies fit: that of a linearizable history, which need not be that of
-        // the run. It has the calls that the pass was answered, it and the passes that were joined to it, and no others
-        // if keys are shared, and the pass has the whole share and nothing in hand. Each delete stands where the key had
-        // the value that it took.
-        ensures story { HasStory self.now.plan pass.new.view }
         // The pass has seen all of the tree's history, and has the calls that it had. The history is linearizable; the
         // calls that the pass was answered, it and the passes that were joined to it, are calls of it, and no two are
         // one; and its order has no others if keys are shared, and the pass has the whole share and nothing in hand.

@@ -112,8 +112,6 @@ pub mod Deeds
 pub mod Accounts
 -- the history of a run
 pub mod Histories
--- and of a table
-pub mod Stories
 -- the places of looks
 pub mod Placing
 -- What step calls touch was there when the operation began.

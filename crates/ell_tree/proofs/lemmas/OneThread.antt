@@ -1,5 +1,5 @@
 -- What a pass was answered that has seen all of a tree's history is as of one thread.
-use Rattle.std.proofs.Common.{◌≡◌, ◌≢◌, ℕ, zero, suc, ◌+◌, ◌<◌, ◌≤◌, ◌⊎◌, inl, inr, if◌then◌else◌, Bool, true, false, List, [], ◌∷◌, refl, sym, ap, ◌∙◌, subst, arith}
+use Rattle.std.proofs.Common.{◌≡◌, ◌≢◌, ℕ, zero, suc, ◌+◌, ◌≤◌, ◌⊎◌, inl, inr, if◌then◌else◌, Bool, List, [], ◌∷◌, refl, sym, ap, ◌∙◌, subst, arith}
 use mathlib.Core.Option.{some, some-injective, some-ne-none}
 use lib.ListN.{get_elem?}
 use Rattle.ell_ops.specs.declared.op.Op.{Op}
@@ -8,11 +8,10 @@ use Rattle.ell_ops.specs.Contents.{contents_of}
 use Rattle.ell_ops.specs.Meaning.{replies}
 use Rattle.ell_cards.specs.declared.view.Act.{Act}
 use Rattle.ell_cards.specs.Accounts.{count_such, ops_in, replies_in}
-use Rattle.ell_cards.specs.Linearizing.{Item, HasItem, StandsIn, ops_of, replies_of}
+use Rattle.ell_cards.specs.Linearizing.{Item, HasItem, StandsIn, calls_of, ops_of, replies_of}
 use Rattle.ell_cards.specs.Models.{Has, latest, earlier}
 use Rattle.ell_cards.specs.Seeing.{AreApart}
-use Rattle.ell_cards.specs.Stories.{calls_of}
-use Rattle.ell_tree.specs.OneThread.{IsOfOneThread, StandsBefore, StoriesAreOfOneThread, answers_of}
+use Rattle.ell_tree.specs.OneThread.{StoriesAreOfOneThread, answers_of}
 
 -- a list has what stands in it
 at_has : (xs : List Item) (j : ℕ) (x : Item) → StandsIn xs j x → Has xs x

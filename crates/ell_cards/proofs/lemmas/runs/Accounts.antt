@@ -16,9 +16,8 @@ use Rattle.ell_cards.specs.Calls.{after}
 use Rattle.ell_cards.specs.States.{TableState}
 use Rattle.ell_cards.specs.Starts.{Starts}
 use Rattle.ell_cards.specs.Turns.{Turn, Makes, Splits, Joins, CallIsMade, TableTurns, TableRun, found_by}
-use Rattle.ell_cards.specs.Linearizing.{IsAnswered, Item, ops_of, replies_of, StandsIn, HasItem, IsLinearized}
+use Rattle.ell_cards.specs.Linearizing.{IsAnswered, Item, ops_of, replies_of, StandsIn, HasItem, IsLinearized, calls_of}
 use Rattle.ell_cards.specs.Accounts.{ops_in, replies_in, count_such, own_calls, StandAt, WholeAccountsAreOfOneThread}
-use Rattle.ell_cards.specs.Stories.{calls_of}
 use Rattle.ell_cards.proofs.lemmas.seats.Seats.{inside}
 use Rattle.ell_cards.proofs.lemmas.runs.Linearizing.{item, same_item, same_answer, is_answer, linearized}
 use Rattle.ell_cards.proofs.lemmas.runs.LinearizingStates.{at_end, turn_inside}
@@ -46,12 +45,6 @@ total_set such (x ∷ vs) (suc i) v w e = let h = total_set such vs i v w e in o
 total_more : (such : Op × Reply → Bool) (vs : List View) (w : View) → total such (vs ++ w ∷ []) ≡ total such vs + count_such such (own_calls w.answers)
 total_more such [] w = omega arith
 total_more such (x ∷ vs) w = let h = total_more such vs w in omega arith
-
--- each was answered no more than all
-pub total_within : (such : Op × Reply → Bool) (vs : List View) (i : ℕ) (v : View) → get_elem? vs i ≡ some v → count_such such (own_calls v.answers) ≤ total such vs
-total_within such [] i v e = absurd (some-ne-none v (sym e))
-total_within such (x ∷ vs) zero v e = let same = ap (λ (u : View). count_such such (own_calls u.answers)) (some-injective x v e) in omega arith
-total_within such (x ∷ vs) (suc i) v e = let h = total_within such vs i v e in omega arith
 
 -- if no other was answered anything, it is what one was answered
 total_none : (such : Op × Reply → Bool) (vs : List View) → ((j : ℕ) (u : View) → get_elem? vs j ≡ some u → u.answers ≡ []) → total such vs ≡ 0

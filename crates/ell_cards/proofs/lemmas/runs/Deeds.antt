@@ -18,9 +18,8 @@ use Rattle.ell_cards.specs.Calls.{after, May}
 use Rattle.ell_cards.specs.States.{TableState}
 use Rattle.ell_cards.specs.Starts.{Starts}
 use Rattle.ell_cards.specs.Turns.{Turn, Makes, Splits, Joins, TableTurns, TableRun, found_by}
-use Rattle.ell_cards.specs.Linearizing.{IsAnswered, Item, ops_of, StandsIn, HasItem, IsLinearized}
+use Rattle.ell_cards.specs.Linearizing.{IsAnswered, Item, ops_of, StandsIn, HasItem, IsLinearized, calls_of}
 use Rattle.ell_cards.specs.Accounts.{ops_in, own_calls, AreBelow, StandAt}
-use Rattle.ell_cards.specs.Stories.{calls_of}
 use Rattle.ell_cards.proofs.lemmas.seats.Seats.{inside}
 use Rattle.ell_cards.proofs.lemmas.lifetimes.Openings.{each_first}
 use Rattle.ell_cards.proofs.lemmas.runs.LinearizingStates.{at_end, turn_inside}
