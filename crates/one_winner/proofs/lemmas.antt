@@ -2,3 +2,7 @@
 pub mod FirstInsert
 -- so it is of what several threads were answered
 pub mod OneWinner
+-- of one insert of a key, in an order with other inserts and finds, the finds behind it find its value
+pub mod OneInsert
+-- so who finds a flag finds what was inserted before it
+pub mod Flag

@@ -1,15 +1,17 @@
 //! Pairs of threads insert the same key, round after round: in each round exactly one is told that it added the key,
-//! and its value is found afterwards. And what one thread inserted, another finds as soon as it is told of it. Every other
-//! round is on a tree whose cards come back.
+//! and its value is found afterwards. And what one thread inserted, another finds as soon as it is told of it, or as soon as it
+//! finds a flag that the first inserted after it. Every other round is on a tree whose cards come back.
 #![tactic(auto)]
 
 mod fault;
+mod flagging;
 mod racing;
 mod sharing;
 mod telling;
 
 use anyhow::Result;
 use ell_tree::KEY_MAX;
+use flagging::insert_and_flag;
 use racing::insert_by_two;
 use sharing::Kind;
 use telling::insert_and_tell;
@@ -24,6 +26,8 @@ struct Tally {
     told_found: u64,
     first_won: u64,
     found_early: u64,
+    flag_found: u64,
+    flag_alone: u64,
 }
 
 fn main(rt: HostRuntime) -> Result<()> {
@@ -33,6 +37,8 @@ fn main(rt: HostRuntime) -> Result<()> {
         told_found: 0,
         first_won: 0,
         found_early: 0,
+        flag_found: 0,
+        flag_alone: 0,
     };
     for round in 0..ROUNDS {
         let key = KEY_MAX - round;
@@ -50,6 +56,9 @@ fn main(rt: HostRuntime) -> Result<()> {
         let told = insert_and_tell(&rt, rt.alloc(), kind, key, first)?;
         tally.told_found += u64::from(told.late == Some(first));
         tally.found_early += u64::from(told.early.is_some());
+        let seen = insert_and_flag(&rt, rt.alloc(), kind, key, round, first)?;
+        tally.flag_found += u64::from(seen.flag.is_some());
+        tally.flag_alone += u64::from(seen.flag.is_some() && seen.there != Some(first));
     }
     println!(rt; "rounds: {ROUNDS}")?;
     println!(rt;
@@ -61,10 +70,15 @@ fn main(rt: HostRuntime) -> Result<()> {
         "a thread that was told of a key found it: {}",
         tally.told_found
     )?;
+    println!(rt;
+        "a thread found the flag of a key without the key: {}",
+        tally.flag_alone
+    )?;
     eprintln!(rt; "the first thread added the key: {}", tally.first_won)?;
     eprintln!(rt;
         "the key was found before the message: {}",
         tally.found_early
     )?;
+    eprintln!(rt; "the flag was found: {}", tally.flag_found)?;
     Ok(())
 }

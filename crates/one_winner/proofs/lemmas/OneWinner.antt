@@ -1,7 +1,5 @@
 use Rattle.std.proofs.Common.{◌≡◌, ◌≢◌, ℕ, ◌+◌, ◌<◌, ◌≤◌, ◌==◌, if◌then◌else◌, Bool, true, false, not, Option, Some, IfSome, List, [], ◌∷◌, refl, sym, ap, ◌∙◌, subst, arith, eqb-true, eq-eqb}
 use Rattle.std.proofs.lemmas.Bool.{false≢true}
-use mathlib.Core.Option.{some}
-use lib.ListN.{get_elem?}
 use Rattle.ell_tree.specs.Op.{Op}
 use Rattle.ell_tree.specs.Op.TheVariants.{Find, Insert}
 use Rattle.ell_tree.specs.Reply.{Reply}

@@ -8,4 +8,6 @@ invariant-loop-round g l = record {
   told_found : l.tally.told_found ≤ l.round;
   first_won : l.tally.first_won ≤ l.round;
   found_early : l.tally.found_early ≤ l.round;
+  flag_found : l.tally.flag_found ≤ l.round;
+  flag_alone : l.tally.flag_alone ≤ l.round;
 }

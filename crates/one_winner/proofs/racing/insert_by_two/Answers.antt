@@ -1,4 +1,4 @@
-use Rattle.std.proofs.Common.{rules, ◌≡◌, ◌<◌, List, ◌∷◌, ◌++◌, length, ap, ap₂, ◌∙◌, arith}
+use Rattle.std.proofs.Common.{rules, ◌<◌, List, ◌∷◌, ◌++◌, length, ap, ap₂, ◌∙◌, arith}
 use Rattle.ell_tree.specs.Op.TheVariants.{Find, Insert}
 use Rattle.ell_tree.specs.Meaning.{found, yes_if}
 use Rattle.ell_tree.specs.Act.{Act}

@@ -1,4 +1,4 @@
-use Rattle.std.proofs.Common.{ap, sym, ◌∙◌, subst}
+use Rattle.std.proofs.Common.{ap, ◌∙◌, subst}
 use Rattle.ell_tree.specs.Contents.{contents_of, nothing}
 use Rattle.ell_tree.specs.Models.{IsFree}
 use Rattle.ell_tree.specs.OneThread.{IsOfOneThread}
