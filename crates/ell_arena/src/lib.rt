@@ -1,0 +1,13 @@
+//! One block of words, each of which is shared by threads, or lent to one of them as plain memory.
+#![tactic(auto)]
+
+mod block;
+mod shared;
+mod steps;
+#[cfg(test)]
+mod tests;
+mod words;
+
+pub use block::Block;
+pub use shared::{Base, Seat, Shared};
+pub use words::Words;
