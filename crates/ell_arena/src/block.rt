@@ -20,9 +20,11 @@ impl<T, A: Allocator> Model for Block<T, A> {
 }
 
 impl<T, A: Allocator> Block<T, A> {
-    /// Room for `len` values.
+    /// Room for `len` values, or `Err` if the system grants none.
     pub(crate) fn reserve(alloc: &A, len: usize) -> Result<Block<T, A>, AllocError>
+        // So many values take fewer than 2^63 bytes.
         requires { Fits T.row len }
+        // The allocator may free the block, no value is written, and there is room for `len`.
         ensures { IfOk result (λ b. (b.heap ≡ alloc.now) × (b.items ≡ []) × (b.left ≡ len)) }
     {
         match alloc.allocate(len * size_of::<T>(), align_of::<T>()) {
@@ -37,8 +39,18 @@ impl<T, A: Allocator> Block<T, A> {
 
     /// One more value.
     pub(crate) fn push(self, index: usize, value: T) -> Block<T, A>
-        requires { (index ≡ length self.items) × (0 < self.left) }
-        ensures { (result.ptr ≡ self.ptr) × (result.heap ≡ self.heap) × (result.items ≡ self.items ++ value ∷ []) × (result.left + 1 ≡ self.left) }
+        // The index is that of the first value that is not written.
+        requires index { index ≡ length self.items }
+        // There is room for it.
+        requires room { 0 < self.left }
+        // It is the same block.
+        ensures place { result.ptr ≡ self.ptr }
+        // The same allocator may free it.
+        ensures heap { result.heap ≡ self.heap }
+        // The value stands behind the others.
+        ensures items { result.items ≡ self.items ++ value ∷ [] }
+        // There is room for one less.
+        ensures left { result.left + 1 ≡ self.left }
     {
         let Block { ptr, marker } = self;
         unsafe {
@@ -49,7 +61,10 @@ impl<T, A: Allocator> Block<T, A> {
 
     /// Frees the block. Its values are not dropped.
     pub(crate) fn release(self, alloc: &A, len: usize)
-        requires { (self.heap ≡ alloc.now) × (length self.items + self.left ≡ len) }
+        // The block is this allocator's.
+        requires heap { self.heap ≡ alloc.now }
+        // The length is that of its values and its room.
+        requires len { length self.items + self.left ≡ len }
     {
         let Block { ptr, marker: _ } = self;
         unsafe {
@@ -59,9 +74,14 @@ impl<T, A: Allocator> Block<T, A> {
 }
 
 impl<A: Allocator> Block<u64, A> {
-    /// A block of so many words, of which the first are these, and the others are not written.
+    /// A block of `count` words, of which the first are these, and nothing writes the others; or `Err` if the system
+    /// grants no memory.
     pub(crate) fn of(alloc: &A, words: &[u64], count: usize) -> Result<Block<u64, A>, AllocError>
-        requires { (length words.now ≤ count) × (count < 2 ^ 40) }
+        // There are no more first words than words.
+        requires first { length words.now ≤ count }
+        // The words take fewer than 2^63 bytes.
+        requires size { count < 2 ^ 40 }
+        // The allocator may free the block, the first words are written, and there is room for the others.
         ensures { IfOk result (λ b. (b.heap ≡ alloc.now) × (b.items ≡ words.now) × (b.left + length words.now ≡ count)) }
     {
         let mut block = Block::reserve(alloc, count)?;

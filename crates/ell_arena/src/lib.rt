@@ -4,8 +4,6 @@
 mod block;
 mod shared;
 mod steps;
-#[cfg(test)]
-mod tests;
 mod words;
 
 pub use block::Block;

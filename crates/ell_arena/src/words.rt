@@ -1,16 +1,15 @@
 //! Words of one block, of which the first are written at the opening.
-ghost use Rattle.std.specs.Prelude.{◌≡◌, ℕ, suc, ◌+◌, ◌-◌, ◌^◌, ◌<◌, ◌≤◌, ◌==◌, [], length, slice_set, IfOk};
-ghost use mathlib.Core.Option.{some};
-ghost use lib.ListN.{get_elem?};
+ghost use Rattle.std.specs.Prelude.{◌≡◌, ℕ, ◌+◌, ◌^◌, ◌<◌, ◌≤◌, ◌==◌, [], length, IfOk};
 ghost use prog.Atomic.{either};
-ghost use Rattle.ell_arena.specs.Words.{Tells, AllowsHome, SplitsAt, opening, place_of};
-ghost use Rattle.ell_arena.specs.Same.{SameSeat};
+ghost use Rattle.ell_arena.specs.Seats.{SameSeat, IsLent, after_put};
+ghost use Rattle.ell_arena.specs.Words.{Tells, Allows, Splits, opening};
 
 use crate::block::Block;
 use crate::shared::{Base, Seat, Shared};
 use atomic_table::{Play, Split, TableRule};
 use std::alloc::{AllocError, Global};
 
+/// Words of 64 bits in one block. Each is unwritten, shared, or lent to one seat. A rule holds of them at all times.
 pub struct Words<V, K, P: TableRule<u64, V, K>> {
     pub(crate) shared: Shared<V, K, P>,
     pub(crate) base: Base,
@@ -21,16 +20,29 @@ pub struct Words<V, K, P: TableRule<u64, V, K>> {
 }
 
 impl<V, K, P: TableRule<u64, V, K>> Words<V, K, P> {
-    /// So many words, of which these are written, and the others have no value.
+    /// Opens `count` words, with their first seat. The first words are `first`, and nothing touches the memory of the
+    /// others. `Err` if the system grants no memory for the block: then nothing stays.
     pub fn open(
         alloc: Global,
         about: &K,
         count: usize,
         first: &[u64],
     ) -> Result<(Words<V, K, P>, Seat<V>), AllocError>
-        requires sizes { (length first.now ≤ count) × (count < 2 ^ 40) }
-        requires rule { (left : ℕ) → left + length first.now ≡ count → P.holds about.now (opening first.now left (P.first about.now)) }
-        ensures { IfOk result (λ r. (r.0.shared.key ≡ about.now) × (r.0.shared.id.count ≡ count) × (r.1.words ≡ r.0.shared.id) × (r.1.id ≡ 0) × (r.1.me ≡ (P.first about.now, []))) }
+        // There are no more first words than words.
+        requires first { length first.now ≤ count }
+        // The words take fewer than 2^43 bytes.
+        requires size { count < 2 ^ 40 }
+        // The rule holds of the words as they start.
+        requires rule { (left : ℕ) → left + length first.now ≡ count
+            → P.holds about.now (opening first.now left (P.first about.now)) }
+        // The rule has this key.
+        ensures key { IfOk result (λ r. r.0.shared.key ≡ about.now) }
+        // There are so many words.
+        ensures count { IfOk result (λ r. r.0.shared.id.count ≡ count) }
+        // The seat is one of these words.
+        ensures of_these { IfOk result (λ r. r.1.words ≡ r.0.shared.id) }
+        // It has the first view, and nothing is lent to it.
+        ensures me { IfOk result (λ r. r.1.me ≡ (P.first about.now, [])) }
     {
         let block = Block::of(&alloc, first, count)?;
         let (shared, seat, base) = Shared::open(about, block);
@@ -45,35 +57,43 @@ impl<V, K, P: TableRule<u64, V, K>> Words<V, K, P> {
         ))
     }
 
-    /// Loads a word that is at home.
+    /// Loads a shared word, as one atomic step. By the rule, the step may lend words to the seat, or share ones that
+    /// were lent to it.
     pub fn load<M: Play<u64, V>>(&self, seat: &mut Seat<V>, address: usize) -> u64
-        requires own { (seat.old.words ≡ self.now.shared.id) × (address < self.now.shared.id.count) }
-        requires rule { AllowsHome (P.holds self.now.shared.key) seat.old.id seat.old.me address (λ n. n) (Tells M.then address 0 0 seat.old.me) }
-        ensures { SameSeat seat.old seat.new × Tells M.then address 0 0 seat.old.me result seat.new.me }
+        // The seat is one of these words.
+        requires of_these { seat.old.words ≡ self.now.shared.id }
+        // The address is that of one of them.
+        requires inside { address < self.now.shared.id.count }
+        // The rule shows that the word is shared, and allows the step.
+        requires rule { Allows (P.holds self.now.shared.key) seat.old.id seat.old.me address (λ n. n)
+            (Tells M.then address 0 0 seat.old.me) }
+        // It stays the same seat.
+        ensures same { SameSeat seat.old seat.new }
+        // The play holds of the number and of the seat.
+        ensures told { Tells M.then address 0 0 seat.old.me result seat.new.me }
     {
         self.shared.load_at::<M>(seat, self.base, address)
     }
 
-    /// Stores a word that is at home.
+    /// Stores a shared word, as one atomic step.
     pub fn store<M: Play<u64, V>>(&self, seat: &mut Seat<V>, address: usize, new: u64)
-        requires own { (seat.old.words ≡ self.now.shared.id) × (address < self.now.shared.id.count) }
-        requires rule { AllowsHome (P.holds self.now.shared.key) seat.old.id seat.old.me address (λ _. new) (λ _. Tells M.then address new 0 seat.old.me new) }
-        ensures { SameSeat seat.old seat.new × Tells M.then address new 0 seat.old.me new seat.new.me }
+        // The seat is one of these words.
+        requires of_these { seat.old.words ≡ self.now.shared.id }
+        // The address is that of one of them.
+        requires inside { address < self.now.shared.id.count }
+        // The rule shows that the word is shared, and allows the step.
+        requires rule { Allows (P.holds self.now.shared.key) seat.old.id seat.old.me address (λ _. new)
+            (λ _. Tells M.then address new 0 seat.old.me new) }
+        // It stays the same seat.
+        ensures same { SameSeat seat.old seat.new }
+        // The play holds of the number and of the seat.
+        ensures told { Tells M.then address new 0 seat.old.me new seat.new.me }
     {
         self.shared.store_at::<M>(seat, self.base, address, new)
     }
 
-    /// Parts what a seat knows between it and a new one, which has no word. What is out stays with the first. It costs one load of a word that is always at home.
-    pub fn split<M: Split<V>>(&self, seat: &mut Seat<V>, address: usize) -> Seat<V>
-        requires own { (seat.old.words ≡ self.now.shared.id) × (address < self.now.shared.id.count) }
-        requires rule { SplitsAt (P.holds self.now.shared.key) address seat.old.id seat.old.me.0 (M.left seat.old.me.0) (M.right seat.old.me.0) }
-        ensures old { SameSeat seat.old seat.new × (seat.new.me ≡ (M.left seat.old.me.0, seat.old.me.1)) }
-        ensures new { (result.words ≡ seat.old.words) × (result.me ≡ (M.right seat.old.me.0, [])) }
-    {
-        self.shared.split_at::<M>(seat, self.base, address)
-    }
-
-    /// Exchanges a word that is at home, if it has the expected value, and returns what it found. Words go out with the seat or come home, as the rule says.
+    /// Makes a shared word `new` if it is `expected`, as one atomic step, and returns what it was. By the rule, the
+    /// step may lend words to the seat, or share ones that were lent to it, as it depends on the number found.
     pub fn compare_exchange<M: Play<u64, V>>(
         &self,
         seat: &mut Seat<V>,
@@ -81,24 +101,61 @@ impl<V, K, P: TableRule<u64, V, K>> Words<V, K, P> {
         expected: u64,
         new: u64,
     ) -> u64
-        requires own { (seat.old.words ≡ self.now.shared.id) × (address < self.now.shared.id.count) }
-        requires rule { AllowsHome (P.holds self.now.shared.key) seat.old.id seat.old.me address (λ n. either (n == expected) new n) (Tells M.then address expected new seat.old.me) }
-        ensures { SameSeat seat.old seat.new × Tells M.then address expected new seat.old.me result seat.new.me }
+        // The seat is one of these words.
+        requires of_these { seat.old.words ≡ self.now.shared.id }
+        // The address is that of one of them.
+        requires inside { address < self.now.shared.id.count }
+        // The rule shows that the word is shared, and allows the step.
+        requires rule { Allows (P.holds self.now.shared.key) seat.old.id seat.old.me address (λ n. either (n == expected) new n)
+            (Tells M.then address expected new seat.old.me) }
+        // It stays the same seat.
+        ensures same { SameSeat seat.old seat.new }
+        // The play holds of the number and of the seat.
+        ensures told { Tells M.then address expected new seat.old.me result seat.new.me }
     {
         self.shared
             .exchange_at::<M>(seat, self.base, address, expected, new)
     }
 
-    /// Writes a word that is out with the seat, as plain memory.
+    /// Writes a word that is lent to the seat, as plain memory. The rule has no part in it.
     pub fn put(&self, seat: &mut Seat<V>, address: usize, new: u64)
-        requires { (seat.old.words ≡ self.now.shared.id) × ((y : ℕ) × (get_elem? seat.old.me.1 (place_of seat.old.me.1 address) ≡ some (address, y))) }
-        ensures { SameSeat seat.old seat.new × (seat.new.me ≡ (seat.old.me.0, slice_set seat.old.me.1 (place_of seat.old.me.1 address) (address, suc new))) }
+        // The seat is one of these words.
+        requires of_these { seat.old.words ≡ self.now.shared.id }
+        // The word is lent to the seat.
+        requires lent { IsLent seat.old.me.1 address }
+        // It stays the same seat.
+        ensures same { SameSeat seat.old seat.new }
+        // The word is `new`, and nothing else of the seat changes.
+        ensures written { seat.new.me ≡ (seat.old.me.0, after_put seat.old.me.1 address new) }
     {
         self.shared.put_at(seat, self.base, address, new)
+    }
+
+    /// Parts what a seat knows between it and a new one. What is lent to the seat stays with it. It costs one load of a
+    /// word that is always shared.
+    pub fn split<M: Split<V>>(&self, seat: &mut Seat<V>, address: usize) -> Seat<V>
+        // The seat is one of these words.
+        requires of_these { seat.old.words ≡ self.now.shared.id }
+        // The address is that of one of them.
+        requires inside { address < self.now.shared.id.count }
+        // The rule shows that the word is shared, and allows the cut.
+        requires rule { Splits (P.holds self.now.shared.key) address seat.old.id seat.old.me.0
+            (M.left seat.old.me.0) (M.right seat.old.me.0) }
+        // It stays the same seat.
+        ensures same { SameSeat seat.old seat.new }
+        // It has the left part, and what was lent to it.
+        ensures left { seat.new.me ≡ (M.left seat.old.me.0, seat.old.me.1) }
+        // The new seat is one of the same words.
+        ensures of_same { result.words ≡ seat.old.words }
+        // It has the right part, and nothing is lent to it.
+        ensures right { result.me ≡ (M.right seat.old.me.0, []) }
+    {
+        self.shared.split_at::<M>(seat, self.base, address)
     }
 }
 
 impl<V, K, P: TableRule<u64, V, K>> Drop for Words<V, K, P> {
+    /// Frees the block, whatever was lent, and whichever seats were dropped.
     fn drop(self) {
         let Self {
             shared,

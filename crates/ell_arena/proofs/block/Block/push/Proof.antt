@@ -10,6 +10,7 @@ use mir.Raw.{raw as bare}
 use prog.Memory.{size}
 use prog.Wp.{WpFn}
 use types.Logic.{sem}
+use types.Kit.{join}
 use types.Kit.{◌∵◌, ‵, raw, ◌⊛◌, given, at_ret, ◌$◌, !, qed, by, move, keep, use0, use1, use2, split, fsplit, fsplit3, fjoin, fpick, fpack, learn, suffices, rewrite}
 use types.Run.{stop, fld, size_word, of_opd, bin, init, assigns_last, no_more, and_then, first, blocks, exec, returns, enter}
 use types.ByLocal.{alloc_all, pass_all, free_all, look_at, get, get_in, through, sets, is, env}
@@ -33,8 +34,8 @@ use Rattle.atomic_table.proofs.Walks.{proved_at, leaves}
 use Rattle.atomic_blocks.proofs.RowMade.{uncapped}
 use Rattle.ell_arena.specs.Blocks.{Fits, block_owns}
 use Rattle.ell_arena.specs.contracts.block.Block as block
-use Rattle.ell_arena.proofs.Made.{block_val, block_good, AnyData, any_told, any_made}
-use Rattle.ell_arena.proofs.Rooms as rooms
+use Rattle.ell_arena.proofs.lemmas.Made.{block_val, block_good, AnyData, any_told, any_made}
+use Rattle.ell_arena.proofs.lemmas.Rooms as rooms
 use Rattle.ell_arena.specs.contracts.block.Block.push.{ended, clauses}
 use Rattle.ell_arena.specs.contracts.block.Block.push.Key.{name as #self}
 use Rattle.ell_arena.proofs.block.Block.push.Statement.{statement}
@@ -49,9 +50,9 @@ push_spec 𝓤 𝓛 𝓜 𝓡 wired T Al L _ ga da dd _ _ =
     (#self inst) fn (code.unfolded 𝓤 H 𝓜 𝓡 wired (T, (Al, tt)) da dd) (λ y are. let κs = y.0.0 in let qs = y.0.1 in let a = y.0.3 in let vss = y.0.4 in let Post : Val → SProp 𝓤 = (walk_of 𝓛 En hs c).post y in
     let h : Bk.Denot = a.0 in let token : Ty → Ptr → Fml = ga.dealloc_token h.heap in let p : Ptr = h.ptr in let j : ℕ = a.1.0 in let new : T.Denot = a.1.1.0 in
     let b : ℕ = block_of p in let e : ℕ = j * s + count_of p in let left : ℕ = h.left - 1 in let LR = (param_laws 0 T L).lawful 𝓛 in let m : Member = record { row = R; ty = layout T } in let got = one (layout T) vss.1.1.0 (LR.typed new vss.1.1.0 are.1.1.0) in let vy : Val = got.0 in
-    let others : Fml = fsep (flft κs.0 qs.0) (fsep (flft κs.1.0 qs.1.0) ftrue) in let Asked : Type 0 = (j ≡ length h.items) × (0 < h.left) in
-    qed 𝓛 ((‵ others ⊛ ‵ (owns (types_at En.signature.params κs) a vss)) ∷ raw (fact 𝓤 _) ∷ raw (fact 𝓤 _) ∷ raw (fact 𝓤 Asked) ∷ []) ∵
-    keep ! (3 ∷ 0 ∷ []) $ heard ! Asked (λ asked. split ! $ move ! (1 ∷ []) $ fsplit3 ! $ move ! (2 ∷ []) $ fsplit ! $ move ! (2 ∷ []) $ fsplit ! $
+    let others : Fml = fsep (flft κs.0 qs.0) (fsep (flft κs.1.0 qs.1.0) ftrue) in
+    qed 𝓛 ((‵ others ⊛ ‵ (owns (types_at En.signature.params κs) a vss)) ∷ raw (fact 𝓤 _) ∷ raw (fact 𝓤 _) ∷ raw (fact 𝓤 (j ≡ length h.items)) ∷ raw (fact 𝓤 (0 < h.left)) ∷ []) ∵
+    keep ! (3 ∷ 4 ∷ 0 ∷ []) $ heard ! (j ≡ length h.items) (λ h₀. heard ! (0 < h.left) (λ h₁. let asked : (j ≡ length h.items) × (0 < h.left) = (h₀, h₁) in split ! $ move ! (1 ∷ []) $ fsplit3 ! $ move ! (2 ∷ []) $ fsplit ! $ move ! (2 ∷ []) $ fsplit ! $
     -- [the block's fields; what it owns; the value; nothing; the index; the tokens]
     keep ! (1 ∷ 2 ∷ 5 ∷ []) $ fsplit ! $ fpick ! (λ so. fpack ! (InBlock p × Fits R (length h.items + h.left)) (λ _. ftrue) so $ fjoin ! $
     let pos : 0 < h.left = asked.1 in let long : j ≡ length h.items = asked.0 in let p' : Ptr = block_ptr b (count_of p) in let Again = rooms.More 𝓛 R token p h.items left e in
@@ -72,6 +73,6 @@ push_spec 𝓤 𝓛 𝓜 𝓡 wired T Al L _ ga da dd _ _ =
     use2 𝓛 (‵ (block_owns R token p new_items left)) (apply∗ 𝓤 (sem 𝓛 (part_at R full_share new b e)) (sem 𝓛 (block_owns R token p new_items left))) $
     let r : Bk.Denot = record { ptr = p; marker = record {}; heap = h.heap; items = new_items; left = left } in
     use0 𝓛 (‵ ((AnyData R Z ga).own_val (p, (tt, tt)) (block_val p ∷ []))) (any_made R Z ga 𝓛 p) $ fjoin ! $ rewrite ! 0 (λ (u : Ptr). ‵ (Bk.own_val r (block_val u ∷ []))) (at_block p so.0) refl $
-    let Told : Type 0 = (p ≡ h.ptr) × (h.heap ≡ h.heap) × (new_items ≡ new_items) × (left + 1 ≡ h.left) in use0 𝓛 (raw (fact 𝓤 Told)) (fact_i 𝓤 Told (emp 𝓤) (refl, refl, refl, omega arith)) $
+    use0 𝓛 (raw (fact 𝓤 (left + 1 ≡ h.left))) (fact_i 𝓤 (left + 1 ≡ h.left) (emp 𝓤) (omega arith)) $ use0 𝓛 (raw (fact 𝓤 (new_items ≡ new_items))) (fact_i 𝓤 (new_items ≡ new_items) (emp 𝓤) (refl)) $ join ! $ use0 𝓛 (raw (fact 𝓤 (h.heap ≡ h.heap))) (fact_i 𝓤 (h.heap ≡ h.heap) (emp 𝓤) (refl)) $ join ! $ use0 𝓛 (raw (fact 𝓤 (p ≡ h.ptr))) (fact_i 𝓤 (p ≡ h.ptr) (emp 𝓤) (refl)) $ join ! $
     nothing ! $ nothing ! $ fjoin ! $ nothing ! $ fjoin ! $ nothing ! $ fjoin ! $
-    returns ! (look_at ! 0 refl) $ free_all ! refl $ keep ! (3 ∷ 0 ∷ 2 ∷ 1 ∷ []) $ by ! (leaves 𝓛 En hs c y (block_val p') r (tt, (tt, (tt, tt))) (tt, (tt, (tt, tt)))))))))
+    returns ! (look_at ! 0 refl) $ free_all ! refl $ keep ! (3 ∷ 0 ∷ 2 ∷ 1 ∷ []) $ by ! (leaves 𝓛 En hs c y (block_val p') r (tt, (tt, (tt, tt))) (tt, (tt, (tt, tt))))))))))

@@ -37,8 +37,8 @@ use Rattle.atomic_table.proofs.Calls.{fm}
 use Rattle.atomic_blocks.proofs.RowMade.{uncapped}
 use Rattle.ell_arena.specs.Blocks.{block_ty, Fits, block_owns}
 use Rattle.ell_arena.specs.contracts.block.Block as block
-use Rattle.ell_arena.proofs.Made.{block_val, block_good, any_told}
-use Rattle.ell_arena.proofs.Rooms as rooms
+use Rattle.ell_arena.proofs.lemmas.Made.{block_val, block_good, any_told}
+use Rattle.ell_arena.proofs.lemmas.Rooms as rooms
 use Rattle.ell_arena.specs.contracts.block.Block.release.{ended, clauses}
 use Rattle.ell_arena.specs.contracts.block.Block.release.Key.{name as #self}
 use Rattle.ell_arena.proofs.block.Block.release.Statement.{statement}
@@ -55,12 +55,12 @@ release_spec 𝓤 𝓛 𝓜 𝓡 wired T Al L LA ga da dd met _ =
     (λ κs. ((λ x. block_val x.ptr ∷ []), (shr_vals, (uint_vals w64, tt)))) (λ κs. (any_told R Z ga, (shr_Tells (named 0) κs.0 Z, (uint_Tells w64, tt)))) (λ κs qs bounds a gh are.
     let h : Bk.Denot = a.0 in let hp : ℕ × ℕ = a.1.0.ref_ptr in let heap : Al.Denot = a.1.0.now in let p : Ptr = h.ptr in let n : ℕ = a.1.1.0 in let τ : Ty = block_ty R n in let s : ℕ = n * size el in let κ : Lft = κs.0 in let q : Share = qs.0 in let token : Ty → Ptr → Fml = ga.dealloc_token heap in
     let y : (walk_of 𝓛 En hs c).Ghost = ((κs, qs, bounds, a, (block_val p ∷ [], (vptr hp.0 hp.1 ∷ [], (vint w64 n ∷ [], tt)))), gh) in let Post : Val → SProp 𝓤 = (walk_of 𝓛 En hs c).post y in
-    let others : Fml = fsep (flft κs.1.0 qs.1.0) (fsep (flft κs.1.1.0 qs.1.1.0) ftrue) in let Asked : Type 0 = (h.heap ≡ heap) × (length h.items + h.left ≡ n) in let b : ℕ = block_of p in let o : ℕ = count_of p in let p' : Ptr = block_ptr b o in
+    let others : Fml = fsep (flft κs.1.0 qs.1.0) (fsep (flft κs.1.1.0 qs.1.1.0) ftrue) in let b : ℕ = block_of p in let o : ℕ = count_of p in let p' : Ptr = block_ptr b o in
     let us : Ptr → List Val = λ u. block_val u ∷ vptr hp.0 hp.1 ∷ vint w64 n ∷ [] in let Run : List Val → SProp 𝓤 = λ ws. WpFn 𝓤 H 𝓣.C 𝓣.Λ fn ws Post in
     let gives = λ (x : R.Denot) (b o : ℕ). qed 𝓛 (‵ (part_at R full_share x b o) ∷ []) ∵ use1 𝓛 (some (λ (v : Val). given (Good E v) (‵ (fat full_share (elτ E) b o v) ⊛ ‵ (E.row.own_val x (v ∷ []))))) (el_out E 𝓛 b x o) $ pick ! (λ v. learn ! (λ tv. split ! $
     keep ! (0 ∷ []) $ use1 𝓛 (‵ (froom (elτ E) b o)) (𝓛.laws.at_room (elτ E) b o v) $ by ! (𝓛.laws.room-raw (elτ E) b o))) in
-    qed 𝓛 (((‵ (flft κ q) ⊛ ‵ others) ⊛ ‵ (owns (types_at En.signature.params κs) a y.0.4)) ∷ raw (fact 𝓤 _) ∷ raw (fact 𝓤 (κs.1.1.0 ⊑ Al.lives)) ∷ raw (fact 𝓤 Asked) ∷ []) ∵
-    keep ! (2 ∷ 3 ∷ 0 ∷ []) $ heard ! (κs.1.1.0 ⊑ Al.lives) (λ inside. heard ! Asked (λ asked. split ! $ split ! $ move ! (2 ∷ []) $ fsplit3 ! $ fsplit ! $ move ! (2 ∷ []) $ fsplit ! $ keep ! (3 ∷ 1 ∷ 5 ∷ 6 ∷ []) $
+    qed 𝓛 (((‵ (flft κ q) ⊛ ‵ others) ⊛ ‵ (owns (types_at En.signature.params κs) a y.0.4)) ∷ raw (fact 𝓤 _) ∷ raw (fact 𝓤 (κs.1.1.0 ⊑ Al.lives)) ∷ raw (fact 𝓤 (h.heap ≡ heap)) ∷ raw (fact 𝓤 (length h.items + h.left ≡ n)) ∷ []) ∵
+    keep ! (2 ∷ 3 ∷ 4 ∷ 0 ∷ []) $ heard ! (κs.1.1.0 ⊑ Al.lives) (λ inside. heard ! (h.heap ≡ heap) (λ h₀. heard ! (length h.items + h.left ≡ n) (λ h₁. let asked : (h.heap ≡ heap) × (length h.items + h.left ≡ n) = (h₀, h₁) in split ! $ split ! $ move ! (2 ∷ []) $ fsplit3 ! $ fsplit ! $ move ! (2 ∷ []) $ fsplit ! $ keep ! (3 ∷ 1 ∷ 5 ∷ 6 ∷ []) $
     rewrite ! 0 (λ (u : Al.Denot). ‵ (block_owns R (ga.dealloc_token u) p h.items h.left)) asked.0 refl $
     use1 𝓛 (given (InBlock p × Fits R n) (‵ (froom τ b o) ⊛ ‵ (token τ p))) (rooms.gathers 𝓛 R token gives p h.items h.left n asked.1) $ learn ! (λ fits. let small : s < 2 ^ 64 = (let x : s < 2 ^ 63 = fits.1 in omega arith) in split ! $ rewrite ! 1 (λ (u : Ptr). ‵ (token τ u)) (at_block p fits.0) refl $
     suffices ! (Run (us p')) (subst (λ (u : Ptr). ent 𝓤 (Run (us p')) (Run (us u))) (sym (at_block p fits.0)) (id⊢ 𝓤 (Run (us p')))) $
@@ -73,4 +73,4 @@ release_spec 𝓤 𝓛 𝓜 𝓡 wired T Al L LA ga da dd met _ =
     calls_at_last ! (fm 𝓛 𝓜 𝓡) Asks (met.deallocate dd) w (and_then ! (get ! refl) (and_then ! (get ! refl) (and_then ! (get ! refl) (and_then ! (align_word !) (no_more !))))) (λ u.
     use1 𝓛 (later (given (u ≡ vunit) (‵ (flft κ q)))) (Gives-Gives Hd 𝓛 𝓜.mem 𝓡.returns κ q hp heap b o s al τ u) $ await ! tt $ learn ! (λ e. lands_last ! refl (subst (λ (z : Val). lib.Dec.T (mir.Val.has_ty mir.Syntax.ty_unit z) × mir.Val.WT z) (sym e) (tt, tt)) $
     exec ! 𝓣.C 𝓣.Λ Ev (after 2 fn.body) (at_ret Ev Post) $ sets ! (of_opd ! (unit_lit !)) refl (tt, tt) $ join ! $ nothing ! $ feq_i ! (List Val) (vunit ∷ []) (vunit ∷ []) refl $ nothing ! $ nothing ! $ fjoin ! $ nothing ! $ fjoin ! $ nothing ! $ fjoin ! $
-    returns ! (look_at ! 0 refl) $ free_all ! refl $ keep ! (3 ∷ 0 ∷ 1 ∷ 2 ∷ []) $ by ! (leaves 𝓛 En hs c y vunit tt (tt, (tt, (tt, tt))) (tt, (tt, (tt, tt)))))))))))
+    returns ! (look_at ! 0 refl) $ free_all ! refl $ keep ! (3 ∷ 0 ∷ 1 ∷ 2 ∷ []) $ by ! (leaves 𝓛 En hs c y vunit tt (tt, (tt, (tt, tt))) (tt, (tt, (tt, tt))))))))))))

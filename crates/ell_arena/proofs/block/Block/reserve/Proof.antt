@@ -40,8 +40,8 @@ use Rattle.atomic_table.proofs.Calls.{fm}
 use Rattle.atomic_blocks.proofs.RowMade.{uncapped}
 use Rattle.ell_arena.specs.Blocks.{block_ty, Fits, block_owns}
 use Rattle.ell_arena.specs.contracts.block.Block as block
-use Rattle.ell_arena.proofs.Made.{block_val, AnyData, any_made}
-use Rattle.ell_arena.proofs.Rooms.{block_size, block_align, fresh}
+use Rattle.ell_arena.proofs.lemmas.Made.{block_val, AnyData, any_made}
+use Rattle.ell_arena.proofs.lemmas.Rooms.{block_size, block_align, fresh}
 use Rattle.ell_arena.specs.contracts.block.Block.reserve.{ended, clauses}
 use Rattle.ell_arena.specs.contracts.block.Block.reserve.Key.{name as #self}
 use Rattle.ell_arena.proofs.block.Block.reserve.Statement.{statement}

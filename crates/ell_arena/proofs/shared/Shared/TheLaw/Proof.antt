@@ -10,7 +10,7 @@ use Rattle.core.specs.contracts.marker.PhantomData as P
 use Rattle.atomic_table.specs.declared.shared.TableRule.{Ghosts}
 use Rattle.ell_arena.specs.contracts.shared.Shared as C
 use Rattle.ell_arena.proofs.shared.Shared.TheLaw.Statement.{statement}
-use Rattle.ell_arena.proofs.Shown.{shown_laws, lends_shown}
+use Rattle.ell_arena.proofs.lemmas.Shown.{shown_laws, lends_shown}
 
 pub shares : (U X Y : RattleType) (g : Ghosts Y.Denot ℕ U.Denot X.Denot) (L₁ : Laws U) (L₂ : Laws X) (L₃ : Laws Y) → statement U X Y g L₁ L₂ L₃
 shares U X Y g L₁ L₂ L₃ = let All = RawPtr in

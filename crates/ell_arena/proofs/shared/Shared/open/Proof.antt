@@ -6,6 +6,7 @@ use mir.Val.{Val, vptr, vstruct, vcons, vnil}
 use mir.MapTy.{inst_fn}
 use base.Stored.{Coded}
 use base.Logic.{SProp, emp}
+use types.Kit.{join}
 use types.Kit.{◌∵◌, ‵, raw, ◌⊛◌, some, given, later, ◌$◌, !, qed, by, move, keep, drop, use0, use1, split, fsplit, fsplit3, fjoin, fjoin3, fpick, fpack, pick, learn, await, feq_i}
 use types.Run.{no_more, and_then, returns, enter}
 use types.ByLocal.{alloc_all, pass_all, free_all, look_at, get, sets, env}
@@ -27,7 +28,7 @@ use denote.Triple.Walked.{Stays, stay_dropped, walk_of, Goes-dropped}
 use Rattle.atomic_table.proofs.Walks.{proved, leaves}
 use Rattle.atomic_blocks.proofs.RowMade.{token_val, Token, token_made}
 use Rattle.ell_arena.specs.Words.{opening}
-use Rattle.ell_arena.specs.Laid.{WordsId, mine, words_own}
+use Rattle.ell_arena.specs.Ownership.{WordsId, mine, words_own}
 use Rattle.std.proofs.Common.{ℕ, ◌+◌, length, sym, ◌∙◌, subst}
 use Rattle.ell_arena.specs.contracts.shared.Base as place
 use Rattle.ell_arena.specs.Blocks.{block_owns, Fits}
@@ -40,17 +41,17 @@ use types.Kit.{suffices}
 use types.Run.{stop, fld, of_opd}
 use types.ByLocal.{get_in}
 use types.Part.{sub, whole as all_of_it}
-use Rattle.ell_arena.proofs.Made.{Words, place_val, place_good, place_made, block_val, block_good, block_told}
+use Rattle.ell_arena.proofs.lemmas.Made.{Words, place_val, place_good, place_made, block_val, block_good, block_told}
 use Rattle.ell_arena.specs.contracts.shared.Shared as words
 use Rattle.ell_arena.specs.contracts.shared.Seat as seat
-use Rattle.ell_arena.proofs.Moves as moves
+use Rattle.ell_arena.proofs.lemmas.Moves as moves
 use Rattle.ell_arena.specs.contracts.shared.Shared.open.{ended, clauses}
 use Rattle.ell_arena.specs.contracts.shared.Shared.open.Key.{name as #self}
 use Rattle.ell_arena.proofs.shared.Shared.open.Statement.{statement}
 use Rattle.ell_arena.proofs.shared.Shared.open.Code as code
 
 pub open_spec : {M : Type 1} → statement M
-unfolding Rattle.ell_arena.specs.Laid.seal
+unfolding Rattle.ell_arena.specs.Ownership.seal
 open_spec 𝓤 𝓛 𝓜 𝓡 wired U Q P _ _ _ g d _ =
     let H = 𝓛.H in let 𝓣 = tables 𝓤 H 𝓜 𝓡 𝓡.env in let W : RattleType = param 0 U in let X : RattleType = param 1 Q in let Y : RattleType = param 2 P in
     let Row : RattleType = words.the_row W X Y g in let Sr : RattleType = seat.the_row W in let Lk : RattleType = place.the_row in let cv : Coded U.Denot = W.coded in let En = ended U Q P g d in let c = clauses U Q P g d 𝓛 𝓜.mem 𝓡.returns in
@@ -70,7 +71,6 @@ open_spec 𝓤 𝓛 𝓜 𝓡 wired U Q P _ _ _ g d _ =
     enter ! 𝓣.C 𝓣.Λ fn (us p') Post $ alloc_all ! (λ l. pass_all ! refl ((tt, tt), (block_good p', tt)) $ let Ev = env fn.locals l in
     use1 𝓛 (later (some (λ (z : WordsId). given ((z.base ≡ p) × (z.count ≡ length ns + left) × InBlock p) (‵ (words_own cv.code z holds) ⊛ ‵ (mine cv.code z 0 (v, [])))))) (moves.begins 𝓛 cv holds p ns left v good) $ await ! tt $ pick ! (λ z. learn ! (λ is. split ! $
     let w : Row.Denot = record { marker = record {}; id = z; key = key } in let r : Sr.Denot = record { marker = record {}; words = z; id = 0; me = (v, []) } in let k : Lk.Denot = record { ptr = p' } in
-    let Made : Type 0 = (key ≡ key) × (z.count ≡ length ns + left) × (z ≡ z) × (0 ≡ 0) × (r.me ≡ r.me) × (p' ≡ z.base) in
     sets ! (of_opd ! (get_in ! (fld ! refl (stop !)) (sub ! 0 refl (all_of_it !)))) refl (tt, tt) $
     sets ! (agg ! (no_more !)) refl (tt, tt) $ sets ! (agg ! (and_then ! (get ! refl) (no_more !))) refl (tt, (tt, tt)) $ sets ! (agg ! (no_more !)) refl (tt, tt) $ sets ! (agg ! (and_then ! (get ! refl) (no_more !))) refl (tt, (tt, tt)) $
     sets ! (agg ! (and_then ! (get ! refl) (no_more !))) refl (place_good p') $ sets ! (agg ! (and_then ! (get ! refl) (and_then ! (get ! refl) (and_then ! (get ! refl) (no_more !))))) refl (tt, ((tt, tt), ((tt, tt), ((tt, tt), tt)))) $
@@ -78,5 +78,5 @@ open_spec 𝓤 𝓛 𝓜 𝓡 wired U Q P _ _ _ g d _ =
     use0 𝓛 (‵ ((Token W).own_val (record {}, tt) (token_val ∷ []))) (token_made W 𝓛) $ fjoin ! $ use0 𝓛 (‵ (Lk.own_val k (place_val p' ∷ []))) (place_made 𝓛 p') $ nothing ! $ move ! (1 ∷ 0 ∷ []) $ fjoin ! $ move ! (2 ∷ 1 ∷ 0 ∷ []) $ fjoin3 ! $
     feq_i ! (List Val) (all_three ∷ []) (all_three ∷ []) refl $ fjoin ! $
     fpack ! (Valss (Row ∷ Sr ∷ Lk ∷ [])) (within (declared.shape (tuple_type (Row ∷ Sr ∷ Lk ∷ []))) (w, (r, (k, tt))) (all_three ∷ [])) (token_val ∷ [], (token_val ∷ [], (place_val p' ∷ [], tt))) $
-    use0 𝓛 (raw (fact 𝓤 Made)) (fact_i 𝓤 Made (emp 𝓤) (refl, is.1, refl, refl, refl, sym at ∙ sym is.0)) $ nothing ! $ nothing ! $ fjoin ! $ nothing ! $ fjoin ! $
+    use0 𝓛 (raw (fact 𝓤 (p' ≡ z.base))) (fact_i 𝓤 (p' ≡ z.base) (emp 𝓤) (sym at ∙ sym is.0)) $ use0 𝓛 (raw (fact 𝓤 (r.me ≡ r.me))) (fact_i 𝓤 (r.me ≡ r.me) (emp 𝓤) (refl)) $ join ! $ use0 𝓛 (raw (fact 𝓤 (r.id ≡ r.id))) (fact_i 𝓤 (r.id ≡ r.id) (emp 𝓤) (refl)) $ join ! $ use0 𝓛 (raw (fact 𝓤 (z ≡ z))) (fact_i 𝓤 (z ≡ z) (emp 𝓤) (refl)) $ join ! $ use0 𝓛 (raw (fact 𝓤 (z.count ≡ length ns + left))) (fact_i 𝓤 (z.count ≡ length ns + left) (emp 𝓤) (is.1)) $ join ! $ use0 𝓛 (raw (fact 𝓤 (key ≡ key))) (fact_i 𝓤 (key ≡ key) (emp 𝓤) (refl)) $ join ! $ nothing ! $ nothing ! $ fjoin ! $ nothing ! $ fjoin ! $
     returns ! (look_at ! 0 refl) $ free_all ! refl $ keep ! (4 ∷ 0 ∷ 2 ∷ 1 ∷ []) $ by ! (leaves 𝓛 En hs c y all_three (w, r, k) (tt, (tt, tt)) (tt, (tt, tt)))))))))

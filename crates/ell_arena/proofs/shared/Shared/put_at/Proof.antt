@@ -27,7 +27,7 @@ use denote.Exit.{yes}
 use denote.RattleType.{RattleType, owns}
 use denote.Signature.{types_at, plain}
 use denote.RawPtr.{Ptr, block_ptr, block_of, count_of, at_block, InBlock}
-use denote.Steps.{nothing, opens, closes}
+use denote.Steps.{nothing, heard, opens, closes}
 use denote.Opens.{unhide}
 use denote.Param.{param, bounded}
 use denote.Builtin.{RefOf, u64, usize}
@@ -37,21 +37,22 @@ use denote.Triple.Walked.{Stays, stay_dropped, stay_ref, walk_of, Goes-dropped, 
 use Rattle.core.proofs.atomic.Steps.{tail}
 use Rattle.atomic_table.proofs.Walks.{proved, leaves}
 use Rattle.atomic_table.proofs.Roster.{resets}
-use Rattle.ell_arena.proofs.Shelves.{told_joined}
+use Rattle.ell_arena.proofs.lemmas.Shelves.{told_joined}
+use Rattle.ell_arena.specs.Seats.{IsLent, place_of, after_put}
 use Rattle.ell_arena.specs.Words.{Me}
-use Rattle.ell_arena.specs.Laid.{WordsId, age, told, holding, held, tracked, mine}
+use Rattle.ell_arena.specs.Ownership.{WordsId, age, told, holding, held, tracked, mine}
 use Rattle.ell_arena.specs.contracts.shared.Base as place
 use Rattle.ell_arena.specs.contracts.shared.Shared as words
 use Rattle.ell_arena.specs.contracts.shared.Seat as seat
-use Rattle.ell_arena.proofs.Made.{place_val, place_told, place_good}
-use Rattle.ell_arena.proofs.Moves as moves
+use Rattle.ell_arena.proofs.lemmas.Made.{place_val, place_told, place_good}
+use Rattle.ell_arena.proofs.lemmas.Moves as moves
 use Rattle.ell_arena.specs.contracts.shared.Shared.put_at.{ended, clauses}
 use Rattle.ell_arena.specs.contracts.shared.Shared.put_at.Key.{name as #self}
 use Rattle.ell_arena.proofs.shared.Shared.put_at.Statement.{statement}
 use Rattle.ell_arena.proofs.shared.Shared.put_at.Code as code
 
 pub put_at_spec : {M : Type 1} → statement M
-unfolding Rattle.ell_arena.specs.Laid.seal
+unfolding Rattle.ell_arena.specs.Ownership.seal
 put_at_spec 𝓤 𝓛 𝓜 𝓡 wired U Q P _ _ _ g d _ =
     let H = 𝓛.H in let 𝓣 = tables 𝓤 H 𝓜 𝓡 𝓡.env in let W : RattleType = param 0 U in let X : RattleType = param 1 Q in let Y : RattleType = param 2 P in
     let Row : RattleType = words.the_row W X Y g in let Sr : RattleType = seat.the_row W in let Lk : RattleType = place.the_row in let cv : Coded U.Denot = W.coded in let En = ended U Q P g d in let c = clauses U Q P g d 𝓛 𝓜.mem 𝓡.returns in
@@ -63,10 +64,10 @@ put_at_spec 𝓤 𝓛 𝓜 𝓡 wired U Q P _ _ _ g d _ =
     let y : (walk_of 𝓛 En hs c).Ghost = ((κs, qs, bounds, a, (vptr a.0.ref_ptr.0 a.0.ref_ptr.1 ∷ [], (vptr a.1.0.ref_ptr.0 a.1.0.ref_ptr.1 ∷ [], (place_val a.1.1.0.ptr ∷ [], (vint w64 a.1.1.1.0 ∷ [], (vint w64 a.1.1.1.1.0 ∷ [], tt)))))), gh) in let Post : Val → SProp 𝓤 = (walk_of 𝓛 En hs c).post y in
     let κ : Lft = κs.0 in let t : Row.Denot = a.0.now in let z : WordsId = t.id in let α : Lft = age z in let holds = g.holds t.key in
     let b' : ℕ = a.1.0.ref_ptr.0 in let o' : ℕ = a.1.0.ref_ptr.1 in let h : Sr.Denot = a.1.0.now in let id : ℕ = h.id in let v : Me U.Denot = h.me in let p : Ptr = a.1.1.0.ptr in
-    let i : ℕ = a.1.1.1.0 in let new : ℕ = a.1.1.1.1.0 in let j : ℕ = gh in let w' : Me U.Denot = (v.0, set v.1 j (i, suc new)) in let b : ℕ = block_of z.base in let ω : ℕ = z.words_name in let others : Fml = fsep (flft κs.1.1.0 qs.1.1.0) (fsep (flft κs.1.1.1.0 qs.1.1.1.0) (fsep (flft κs.1.1.1.1.0 qs.1.1.1.1.0) ftrue)) in
+    let i : ℕ = a.1.1.1.0 in let new : ℕ = a.1.1.1.1.0 in let j : ℕ = place_of v.1 i in let w' : Me U.Denot = (v.0, after_put v.1 i new) in let b : ℕ = block_of z.base in let ω : ℕ = z.words_name in let others : Fml = fsep (flft κs.1.1.0 qs.1.1.0) (fsep (flft κs.1.1.1.0 qs.1.1.1.0) (fsep (flft κs.1.1.1.1.0 qs.1.1.1.1.0) ftrue)) in
     qed 𝓛 (((‵ (flft κ qs.0) ⊛ ‵ (flft κs.1.0 qs.1.0) ⊛ ‵ others) ⊛ ‵ (owns (types_at En.signature.params κs) a y.0.4)) ∷ raw (fact 𝓤 _) ∷ raw (fact 𝓤 _) ∷ raw (fact 𝓤 _)
-    ∷ given ((h.words ≡ z) × (p ≡ z.base) × ((y : ℕ) × (get_elem? v.1 j ≡ some (i, y)))) (‵ ftrue) ∷ []) ∵
-    keep ! (4 ∷ 0 ∷ []) $ learn ! (λ asked. drop ! $ split ! $ split3 ! $ move ! (3 ∷ []) $ fsplit3 ! $ fsplit ! $ move ! (2 ∷ []) $ fsplit3 ! $ keep ! (4 ∷ 6 ∷ 1 ∷ 2 ∷ 7 ∷ 8 ∷ []) $ unhide ! $ fsplit ! $ drop ! $ fsplit ! $ move ! (1 ∷ []) $ fsplit ! $ fpick ! (λ rooted. drop ! $ move ! (1 ∷ 0 ∷ []) $
+    ∷ raw (fact 𝓤 (h.words ≡ z)) ∷ raw (fact 𝓤 (p ≡ z.base)) ∷ raw (fact 𝓤 (IsLent v.1 i)) ∷ []) ∵
+    keep ! (4 ∷ 5 ∷ 6 ∷ 0 ∷ []) $ heard ! (h.words ≡ z) (λ h₀. heard ! (p ≡ z.base) (λ h₁. heard ! (IsLent v.1 i) (λ h₂. let asked : (h.words ≡ z) × (p ≡ z.base) × (IsLent v.1 i) = (h₀, h₁, h₂) in split ! $ split3 ! $ move ! (3 ∷ []) $ fsplit3 ! $ fsplit ! $ move ! (2 ∷ []) $ fsplit3 ! $ keep ! (4 ∷ 6 ∷ 1 ∷ 2 ∷ 7 ∷ 8 ∷ []) $ unhide ! $ fsplit ! $ drop ! $ fsplit ! $ move ! (1 ∷ []) $ fsplit ! $ fpick ! (λ rooted. drop ! $ move ! (1 ∷ 0 ∷ []) $
     let us : Ptr → List Val = λ u. vptr a.0.ref_ptr.0 a.0.ref_ptr.1 ∷ vptr a.1.0.ref_ptr.0 a.1.0.ref_ptr.1 ∷ place_val u ∷ vint w64 a.1.1.1.0 ∷ vint w64 a.1.1.1.1.0 ∷ [] in let Run : List Val → SProp 𝓤 = λ ws. WpFn 𝓤 H 𝓣.C 𝓣.Λ fn ws Post in let p' : Ptr = block_ptr (block_of z.base) (count_of z.base) in
     suffices ! (Run (us p')) (subst (λ (u : Ptr). ent 𝓤 (Run (us p')) (Run (us u))) (sym (asked.1 ∙ at_block z.base rooted.0)) (id⊢ 𝓤 (Run (us p')))) $
     enter ! 𝓣.C 𝓣.Λ fn (us p') Post $ alloc_all ! (λ l. pass_all ! refl ((tt, tt), ((tt, tt), (place_good p', ((tt, record { fits = are.1.1.1.0.1 }), ((tt, record { fits = are.1.1.1.1.0.1 }), tt))))) $ let Ev = env fn.locals l in
@@ -89,5 +90,5 @@ put_at_spec 𝓤 𝓛 𝓜 𝓡 wired U Q P _ _ _ g d _ =
     let h' : Sr.Denot = record { marker = h.marker; words = z; id = id; me = w' } in
     move ! (2 ∷ 0 ∷ []) $ fjoin ! $ move ! (2 ∷ 0 ∷ 3 ∷ 4 ∷ 5 ∷ []) $ closes ! tt Sr h' ts b' o' $ feq_i ! (List Val) (vptr b' o' ∷ []) (vptr b' o' ∷ []) refl $ fjoin3 ! $
     nothing ! $ nothing ! $ fjoin ! $ nothing ! $ fjoin ! $ nothing ! $ fjoin ! $ move ! (1 ∷ 0 ∷ []) $ fjoin ! $ nothing ! $ fjoin ! $ move ! (1 ∷ 3 ∷ []) $ join ! $ move ! (2 ∷ 0 ∷ []) $ join ! $
-    let Told : Type 0 = ((z ≡ h.words) × (id ≡ id)) × (w' ≡ w') in use0 𝓛 (raw (fact 𝓤 Told)) (fact_i 𝓤 Told (emp 𝓤) ((sym asked.0, refl), refl)) $ feq_i ! (List Val) (vunit ∷ []) (vunit ∷ []) refl $
-    returns ! (look_at ! 0 refl) $ free_all ! refl $ keep ! (2 ∷ 3 ∷ 0 ∷ 1 ∷ []) $ by ! (leaves 𝓛 En hs c y vunit tt (tt, (h', (tt, (tt, (tt, tt))))) (tt, (tt, (tt, (tt, (tt, tt)))))))))))))))
+    use0 𝓛 (raw (fact 𝓤 (w' ≡ w'))) (fact_i 𝓤 (w' ≡ w') (emp 𝓤) (refl)) $ use0 𝓛 (raw (fact 𝓤 ((z ≡ h.words) × (id ≡ id)))) (fact_i 𝓤 ((z ≡ h.words) × (id ≡ id)) (emp 𝓤) (sym asked.0, refl)) $ join ! $ feq_i ! (List Val) (vunit ∷ []) (vunit ∷ []) refl $
+    returns ! (look_at ! 0 refl) $ free_all ! refl $ keep ! (2 ∷ 3 ∷ 0 ∷ 1 ∷ []) $ by ! (leaves 𝓛 En hs c y vunit tt (tt, (h', (tt, (tt, (tt, tt))))) (tt, (tt, (tt, (tt, (tt, tt)))))))))))))))))

@@ -13,7 +13,7 @@ use denote.Sharing.{ShrLaws, one, said}
 use denote.SharingLaws.{beside_shr_laws, one_shr_laws}
 use denote.Struct.Lending.{Lends, Lends-both}
 use Rattle.ell_arena.specs.Words.{State}
-use Rattle.ell_arena.specs.Laid.{WordsId, age, Placed, inner, common, rights, words_own, words_share}
+use Rattle.ell_arena.specs.Ownership.{WordsId, age, Placed, inner, common, rights, words_own, words_share}
 
 module _ {V : Type 0} (cv : Coded V) (z : WordsId) (holds : State V → Type 0) where
   abbrev I : Fml
@@ -30,7 +30,7 @@ module _ {V : Type 0} (cv : Coded V) (z : WordsId) (holds : State V → Type 0) 
       nothing ! $ fpack ! (Placed z) (λ _. base.Fml.ftrue) placed $ fjoin ! $ frame ! $ nothing ! $ fpack ! (Placed z) (λ _. base.Fml.ftrue) placed $ done !))
 
   pub shown_laws : ShrLaws (words_share cv.code z holds)
-  unfolding Rattle.ell_arena.specs.Laid.seal
+  unfolding Rattle.ell_arena.specs.Ownership.seal
   shown_laws = beside_shr_laws (one Φ) (said C) (one_shr_laws Φ)
       record { contraction = λ M 𝓤 𝓛 ν. twice 𝓛; mono = λ M 𝓤 𝓛 μ ν. snd∗ 𝓤 (sem 𝓛 (base.Before.before μ ν)) (sem 𝓛 C) }
 
@@ -48,5 +48,5 @@ module _ {V : Type 0} (cv : Coded V) (z : WordsId) (holds : State V → Type 0) 
         use2 𝓛 (later (‵ (fbor ν P) ⊛ raw (lfts 𝓛 ts))) (apply∗ 𝓤 (sem 𝓛 P) Back) $ await ! tt $ split ! $ drop ! $ move ! (1 ∷ 0 ∷ []) $ now ! $ done !)
 
     pub lends_shown : Lends 𝓛 (words_own cv.code z holds) (words_share cv.code z holds) l
-    unfolding Rattle.ell_arena.specs.Laid.seal
+    unfolding Rattle.ell_arena.specs.Ownership.seal
     lends_shown = Lends-both 𝓛 (Φ full_share) (fsep C (rights cv.code z holds)) (one Φ) (said C) l lasting knowledge

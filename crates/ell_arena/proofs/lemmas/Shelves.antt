@@ -17,7 +17,7 @@ use denote.RawPtr.{Ptr}
 use denote.Steps.{nothing}
 use Rattle.atomic_table.specs.Seated.{fact, halved}
 use Rattle.atomic_table.specs.Table.{Act, keeps, takes, gives, chain, homes_after, carried_after, Valid}
-use Rattle.ell_arena.specs.Laid.{told, tracked, home, shelf, carried}
+use Rattle.ell_arena.specs.Ownership.{told, tracked, home, shelf, carried}
 
 pub set_twice : (hs : List (Option ℕ)) (i : ℕ) (x y : Option ℕ) → set (set hs i x) i y ≡ set hs i y
 set_twice [] i x y = refl

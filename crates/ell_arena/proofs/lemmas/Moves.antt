@@ -31,13 +31,13 @@ use Rattle.atomic_table.specs.Table.{Act, homes_after, carried_after, Valid}
 use Rattle.atomic_table.specs.Seated.{word, fact, seen, roster, halved, unused}
 use Rattle.atomic_table.proofs.Roster.{Moved, moves, Joined, joins, apart, resets}
 use Rattle.ell_arena.specs.Blocks.{block_ty, Fits, block_owns}
-use Rattle.ell_arena.specs.Words.{State, Me, written, IsHome, fresh, opening, stepped, AllowsHome, SplitsAt, JoinsAt}
-use Rattle.ell_arena.specs.Laid.{WordsId, age, content, told, holding, held, tracked, shelf, carried, owed, mine, Good, standing, inner, Placed, common, rights, words_own}
-use Rattle.ell_arena.proofs.Borrows as borrows
-use Rattle.ell_arena.proofs.Shelves.{set_twice, told_joined, taken, returned, acts, Put, carried_at}
+use Rattle.ell_arena.specs.Words.{State, Me, written, IsShared, unwritten, opening, stepped, Allows, Splits, Joins}
+use Rattle.ell_arena.specs.Ownership.{WordsId, age, content, told, holding, held, tracked, shelf, carried, owed, mine, Good, standing, inner, Placed, common, rights, words_own}
+use Rattle.ell_arena.proofs.lemmas.Borrows as borrows
+use Rattle.ell_arena.proofs.lemmas.Shelves.{set_twice, told_joined, taken, returned, acts, Put, carried_at}
 
 -- a word has one content
-home_once : (homes : List (Option ℕ)) (a n m : ℕ) → IsHome homes a n → IsHome homes a m → n ≡ m
+home_once : (homes : List (Option ℕ)) (a n m : ℕ) → IsShared homes a n → IsShared homes a m → n ≡ m
 home_once homes a n m p q = let e : suc n ≡ suc m = some-injective (suc n) (suc m) (some-injective (written n) (written m) (sym p ∙ q)) in omega arith
 
 module _ {M : Type 1} {𝓤 : Ura M} (𝓛 : Logic 𝓤) {V : Type 0} (cv : Coded V) (holds : State V → Type 0) (z : WordsId) where
@@ -104,10 +104,10 @@ module _ {M : Type 1} {𝓤 : Ura M} (𝓛 : Logic 𝓤) {V : Type 0} (cv : Code
     W = held κ z.base ω a
 
     abbrev Is : State V → ℕ → Type 0
-    Is s n = Good cv.code z holds s × IsHome s.homes a n
+    Is s n = Good cv.code z holds s × IsShared s.homes a n
 
     abbrev Showing : State V → ℕ → Pr
-    Showing s n = guard 𝓤 (IsHome s.homes a n) (Q s)
+    Showing s n = guard 𝓤 (IsShared s.homes a n) (Q s)
 
     abbrev Bare : ℕ → State V → Pr
     Bare n s = guard 𝓤 (Is s n) (⟦ told ω a three_quarters (suc n) ⟧ ∗ ⟦ on (set s.homes a maybe.none) ⟧ ∗ Q s)
@@ -126,7 +126,7 @@ module _ {M : Type 1} {𝓤 : Ura M} (𝓛 : Logic 𝓤) {V : Type 0} (cv : Code
         → A.inv (fbor κ I) ∗ A.lft κ q ∗ ⟦ K ⟧ ⊢ asks 𝓛 (block_ptr b e) f always (λ n. fsep (flft κ q) (after n))
     opened shows ends = borrows.borrowed_twice 𝓛 κ q I W b e f always after Mid Past ⟦ K ⟧
         (qed 𝓛 (‵ I ∷ ‵ K ∷ []) ∵ suffices ! _ (upd_i 𝓤 (⟦ fbor κ W ⟧ ∗ Mid)) $ fpick ! (λ s. fsplit3 ! $ move ! (2 ∷ []) $ fpick ! (λ so. drop ! $ move ! (1 ∷ 2 ∷ []) $
-        use2 𝓛 (some (λ (n : ℕ). given (IsHome s.homes a n) (raw (Q s)))) (shows s so) $ pick ! (λ n. learn ! (λ is. move ! (1 ∷ []) $
+        use2 𝓛 (some (λ (n : ℕ). given (IsShared s.homes a n) (raw (Q s)))) (shows s so) $ pick ! (λ n. learn ! (λ is. move ! (1 ∷ []) $
         use1 𝓛 (given (a < length s.homes) (‵ (tracked κ z.base ω a (suc n)) ⊛ ‵ (on (set s.homes a maybe.none)))) (taken 𝓛 κ z.base ω s.homes 0 a a (suc n) (omega arith) is) $ learn ! (λ near. split ! $ fsplit ! $
         move ! (1 ∷ []) $ frame ! $ show ! (λ (t : ℕ × State V). Bare t.0 t.1) (n, s) $ check ! (so, is) $ done !))))))
         (qed 𝓛 (‵ W ∷ some (λ (t : ℕ × State V). given (Is t.1 t.0) (‵ (told ω a three_quarters (suc t.0)) ⊛ ‵ (on (set t.1.homes a maybe.none)) ⊛ raw (Q t.1))) ∷ []) ∵
@@ -161,11 +161,11 @@ module _ {M : Type 1} {𝓤 : Ura M} (𝓛 : Logic 𝓤) {V : Type 0} (cv : Code
       abbrev Yields : State V → ℕ → Type 0
       Yields s n = n < 18446744073709551616 → (w : V) × (act : Act ℕ) × Valid (set s.homes a (written (f n))) m.1 act × holds (stepped holds s a (f n) id m.1 w act) × then n (w, carried_after m.1 act)
 
-      pub steps : AllowsHome holds id m a f then → A.inv (fbor κ I) ∗ A.lft κ q ∗ ⟦ sat id m ⟧ ⊢ asks 𝓛 (block_ptr b (a * 8 + o)) f always (λ n. fsep (flft κ q) (after n))
+      pub steps : Allows holds id m a f then → A.inv (fbor κ I) ∗ A.lft κ q ∗ ⟦ sat id m ⟧ ⊢ asks 𝓛 (block_ptr b (a * 8 + o)) f always (λ n. fsep (flft κ q) (after n))
       steps law = opened q a f after (sat id m) Moves
           (λ s so. qed 𝓛 (‵ (roster cv.code γ 0 s.views) ∷ ‵ (half id m.0) ∷ ‵ (out m.1) ∷ []) ∵
           use2 𝓛 (given (At s) (raw (all 𝓤 (Moved 𝓛 cv γ 0 s.views id id)))) (moves 𝓛 cv γ s.views 0 id id m.0 (omega arith)) $ learn ! (λ at. let r = law s so.0 at in
-          show ! (λ (n : ℕ). guard 𝓤 (IsHome s.homes a n) (Moves s)) r.0 $ check ! r.1 $ check ! at $ done !))
+          show ! (λ (n : ℕ). guard 𝓤 (IsShared s.homes a n) (Moves s)) r.0 $ check ! r.1 $ check ! at $ done !))
           (λ s n is small. let hs : List (Option ℕ) = set s.homes a (written (f n)) in qed 𝓛 (‵ (on hs) ∷ given (At s) (raw (all 𝓤 (Moved 𝓛 cv γ 0 s.views id id)) ⊛ ‵ (out m.1)) ∷ []) ∵
           move ! (1 ∷ []) $ learn ! (λ at. split ! $ let r = law s is.0.0 at in let u = subst (Yields s) (home_once s.homes a r.0 n r.1 is.1) r.2 small in let w : V = u.0 in let act : Act ℕ = u.1 in
           let t : State V = stepped holds s a (f n) id m.1 w act in let m' : Me V = (w, carried_after m.1 act) in let Z : Pr = ⟦ I ⟧ ∗ ⟦ after n ⟧ in
@@ -179,11 +179,11 @@ module _ {M : Type 1} {𝓤 : Ura M} (𝓛 : Logic 𝓤) {V : Type 0} (cv : Code
       abbrev pub two : ℕ → Fml
       two j = fsep (sat id (l, m.1)) (sat j (r, []))
 
-      pub forks : SplitsAt holds a id m.0 l r → A.inv (fbor κ I) ∗ A.lft κ q ∗ ⟦ sat id m ⟧ ⊢ asks 𝓛 (block_ptr b (a * 8 + o)) (λ n. n) always (λ n. fsep (flft κ q) (fex ℕ two))
+      pub forks : Splits holds a id m.0 l r → A.inv (fbor κ I) ∗ A.lft κ q ∗ ⟦ sat id m ⟧ ⊢ asks 𝓛 (block_ptr b (a * 8 + o)) (λ n. n) always (λ n. fsep (flft κ q) (fex ℕ two))
       forks law = opened q a (λ n. n) (λ _. fex ℕ two) (sat id m) Moves
           (λ s so. qed 𝓛 (‵ (roster cv.code γ 0 s.views) ∷ ‵ (half id m.0) ∷ ‵ (out m.1) ∷ []) ∵
           use2 𝓛 (given (At s) (raw (all 𝓤 (Moved 𝓛 cv γ 0 s.views id id)))) (moves 𝓛 cv γ s.views 0 id id m.0 (omega arith)) $ learn ! (λ at. let u = law s so.0 at in
-          show ! (λ (n : ℕ). guard 𝓤 (IsHome s.homes a n) (Moves s)) u.0.0 $ check ! u.0.1 $ check ! at $ done !))
+          show ! (λ (n : ℕ). guard 𝓤 (IsShared s.homes a n) (Moves s)) u.0.0 $ check ! u.0.1 $ check ! at $ done !))
           (λ s n is small. let hs : List (Option ℕ) = set s.homes a (written n) in let same : hs ≡ s.homes = set_is s.homes a (written n) is.1 in let Z : Pr = ⟦ I ⟧ ∗ ⟦ fex ℕ two ⟧ in let vs : List V = set s.views id l in
           qed 𝓛 (‵ (on hs) ∷ given (At s) (raw (all 𝓤 (Moved 𝓛 cv γ 0 s.views id id)) ⊛ ‵ (out m.1)) ∷ []) ∵ rewrite ! 0 (λ (x : List (Option ℕ)). ‵ (on x)) same refl $ move ! (1 ∷ []) $ learn ! (λ at. split ! $
           let good = (law s is.0.0 at).1 in let t : State V = record { words = s.words; homes = s.homes; views = vs ++ r ∷ [] } in
@@ -228,11 +228,11 @@ module _ {M : Type 1} {𝓤 : Ura M} (𝓛 : Logic 𝓤) {V : Type 0} (cv : Code
       emptied (suc n) x = qed 𝓛 (‵ (word b x n) ∷ []) ∵ use1 𝓛 (‵ (froom (ty_int w64) b x)) (𝓛.laws.at_room (ty_int w64) b x (vint w64 n)) $ by ! (𝓛.laws.room-raw (ty_int w64) b x)
 
   pub lies : ⟦ words_own cv.code z holds ⟧ ⊢ guard 𝓤 (Placed z) ⟦ words_own cv.code z holds ⟧
-  unfolding Rattle.ell_arena.specs.Laid.seal
+  unfolding Rattle.ell_arena.specs.Ownership.seal
   lies = qed 𝓛 (‵ (flft κ full_share) ∷ ‵ (common cv.code z holds) ∷ ‵ (rights cv.code z holds) ∷ []) ∵ move ! (1 ∷ []) $ fsplit ! $ fpick ! (λ at. check ! at $ fpack ! (Placed z) (λ _. ftrue) at $ fjoin ! $ move ! (1 ∷ 0 ∷ []) $ done !)
 
   pub ends : ⟦ words_own cv.code z holds ⟧ ⊢ H.⇛ (guard 𝓤 (Placed z) ⟦ block_owns u64 chunk z.base [] z.count ⟧)
-  unfolding Rattle.ell_arena.specs.Laid.seal
+  unfolding Rattle.ell_arena.specs.Ownership.seal
   ends = qed 𝓛 (‵ (flft κ full_share) ∷ ‵ (common cv.code z holds) ∷ ‵ (rights cv.code z holds) ∷ []) ∵ updating ! $ lft_end ! tt $ move ! (1 ∷ []) $ fsplit ! $ fpick ! (λ at. drop ! $ drop ! $ move ! (1 ∷ []) $ fsplit ! $ move ! (2 ∷ 0 ∷ []) $
       use2 𝓛 (later (‵ (froom (ty_array (bare (lone u64.mir)) z.count) b (0 * 8 + o)))) (collects z.count 0 (0 * 8 + o) refl) $ await ! tt $ let long : z.count ≡ 0 + z.count = omega arith in
       rewrite ! 1 (λ (n : ℕ). ‵ (chunk (block_ty u64 n) z.base)) long refl $ nothing ! $ nothing ! $ fpack ! (InBlock z.base × Fits u64 (0 + z.count)) (λ _. ftrue) (at.0, subst (Fits u64) long at.1) $
@@ -261,30 +261,30 @@ module _ {M : Type 1} {𝓤 : Ura M} (𝓛 : Logic 𝓤) (κ : Lft) (p : Ptr) (�
       use1 𝓛 (later (‵ L ⊛ ‵ R)) (via 𝓤 _ (resets 𝓛 coded_ℕ ω k 0 y) (basic 𝓛 (sep 𝓤 ⟪ L ⟫ ⟪ R ⟫))) $ await ! tt $ split ! $ move ! (3 ∷ 0 ∷ []) $ rewrite ! 0 (λ (x : ℕ). ‵ (content (block_of p) x y)) is refl $ fjoin ! $
       fpack ! ℕ (holding κ p ω k) y $ bor_new ! tt κ $ move ! (2 ∷ 0 ∷ []) $ fjoin ! $ now ! $ done !
 
-  lends_fresh : (n k e : ℕ) → e ≡ k * 8 + count_of p → sep 𝓤 ⟪ names k ⟫ ⟪ froom (ty_array τ n) (block_of p) e ⟫ ⊢₂ H.⇛ (sep 𝓤 ⟪ shelf κ p ω k (fresh n) ⟫ ⟪ owed κ p ω k n ⟫)
+  lends_fresh : (n k e : ℕ) → e ≡ k * 8 + count_of p → sep 𝓤 ⟪ names k ⟫ ⟪ froom (ty_array τ n) (block_of p) e ⟫ ⊢₂ H.⇛ (sep 𝓤 ⟪ shelf κ p ω k (unwritten n) ⟫ ⟪ owed κ p ω k n ⟫)
   lends_fresh zero k e is = qed 𝓛 (‵ (names k) ∷ ‵ (froom (ty_array τ 0) (block_of p) e) ∷ []) ∵ updating ! $ nothing ! $ nothing ! $ keep ! (0 ∷ 1 ∷ []) $ now ! $ done !
   lends_fresh (suc n) k e is = let b : ℕ = block_of p in let next : e + size τ ≡ e + 8 = ap (λ (w : ℕ). e + w) (size-raw (lone u64.mir)) in qed 𝓛 (‵ (names k) ∷ ‵ (froom (ty_array τ (suc n)) b e) ∷ []) ∵ updating ! $ move ! (1 ∷ []) $
       use1 𝓛 (‵ (froom τ b e) ⊛ ‵ (froom (ty_array τ n) b (e + size τ))) (𝓛.laws.room_uncons τ n b e) $ split ! $ use1 𝓛 (‵ (content b e 0)) (𝓛.laws.raw-room (ty_int w64) b e) $ move ! (2 ∷ 0 ∷ []) $
       use2 𝓛 (later (‵ (tracked κ p ω k 0) ⊛ ‵ (flent κ (held κ p ω k)) ⊛ ‵ (names (suc k)))) (lends_one k e 0 is) $ await ! tt $ split3 ! $ move ! (2 ∷ 3 ∷ []) $ rewrite ! 1 (λ (x : ℕ). ‵ (froom (ty_array τ n) b x)) next refl $
-      use2 𝓛 (later (‵ (shelf κ p ω (suc k) (fresh n)) ⊛ ‵ (owed κ p ω (suc k) n))) (lends_fresh n (suc k) (e + 8) (omega (arith, suc-mul k 8))) $ await ! tt $ split ! $
+      use2 𝓛 (later (‵ (shelf κ p ω (suc k) (unwritten n)) ⊛ ‵ (owed κ p ω (suc k) n))) (lends_fresh n (suc k) (e + 8) (omega (arith, suc-mul k 8))) $ await ! tt $ split ! $
       -- [the words; the owed; the word; its right]
       move ! (2 ∷ 0 ∷ []) $ fjoin ! $ move ! (2 ∷ 1 ∷ []) $ fjoin ! $ now ! $ move ! (1 ∷ 0 ∷ []) $ done !
 
   pub lends : {V : Type 0} (v : V) (ns : List ℕ) (left k e e' : ℕ) → e ≡ k * 8 + count_of p → e' ≡ length ns * 8 + e
       → sep 𝓤 ⟪ names k ⟫ (sep 𝓤 ⟪ cells (mem u64) ns (block_of p) e ⟫ ⟪ froom (ty_array τ left) (block_of p) e' ⟫) ⊢₂ H.⇛ (sep 𝓤 ⟪ shelf κ p ω k (opening ns left v).homes ⟫ ⟪ owed κ p ω k (length ns + left) ⟫)
   lends v [] left k e e' is at = let same : e' ≡ e = omega arith in let none : left ≡ 0 + left = omega arith in qed 𝓛 (‵ (names k) ∷ ‵ ftrue ∷ ‵ (froom (ty_array τ left) (block_of p) e') ∷ []) ∵ move ! (0 ∷ 2 ∷ []) $ rewrite ! 1 (λ (x : ℕ). ‵ (froom (ty_array τ left) (block_of p) x)) same refl $ updating ! $
-      use2 𝓛 (later (‵ (shelf κ p ω k (fresh left)) ⊛ ‵ (owed κ p ω k left))) (lends_fresh left k e is) $ await ! tt $ split ! $ rewrite ! 1 (λ (x : ℕ). ‵ (owed κ p ω k x)) none refl $ now ! $ keep ! (0 ∷ 1 ∷ []) $ done !
+      use2 𝓛 (later (‵ (shelf κ p ω k (unwritten left)) ⊛ ‵ (owed κ p ω k left))) (lends_fresh left k e is) $ await ! tt $ split ! $ rewrite ! 1 (λ (x : ℕ). ‵ (owed κ p ω k x)) none refl $ now ! $ keep ! (0 ∷ 1 ∷ []) $ done !
   lends v (n ∷ ns) left k e e' is at = let b : ℕ = block_of p in let long : suc (length ns + left) ≡ suc (length ns) + left = omega arith in qed 𝓛 (‵ (names k) ∷ ‵ (cells (mem u64) (n ∷ ns) b e) ∷ ‵ (froom (ty_array τ left) b e') ∷ []) ∵ updating ! $ move ! (1 ∷ []) $ fsplit ! $
       use1 𝓛 (‵ (content b e (suc n))) (word_out 𝓛 b e n) $ move ! (2 ∷ 0 ∷ []) $ use2 𝓛 (later (‵ (tracked κ p ω k (suc n)) ⊛ ‵ (flent κ (held κ p ω k)) ⊛ ‵ (names (suc k)))) (lends_one k e (suc n) is) $ await ! tt $ split3 ! $
       move ! (2 ∷ 3 ∷ 4 ∷ []) $ use3 𝓛 (later (‵ (shelf κ p ω (suc k) (opening ns left v).homes) ⊛ ‵ (owed κ p ω (suc k) (length ns + left)))) (lends v ns left (suc k) (e + 8) e' (omega (arith, suc-mul k 8)) (omega (arith, suc-mul (length ns) 8))) $ await ! tt $ split ! $
       move ! (2 ∷ 0 ∷ []) $ fjoin ! $ move ! (2 ∷ 1 ∷ []) $ fjoin ! $ rewrite ! 0 (λ (x : ℕ). ‵ (owed κ p ω k x)) long refl $ now ! $ move ! (1 ∷ 0 ∷ []) $ done !
 
 pub opening_long : {V : Type 0} (v : V) (ns : List ℕ) (left : ℕ) → length (opening ns left v).homes ≡ length ns + left
-opening_long v [] left = fresh_long left ∙ (let r : left ≡ 0 + left = omega arith in r)
+opening_long v [] left = unwritten_long left ∙ (let r : left ≡ 0 + left = omega arith in r)
   where
-    fresh_long : (n : ℕ) → length (fresh n) ≡ n
-    fresh_long zero = refl
-    fresh_long (suc n) = ap suc (fresh_long n)
+    unwritten_long : (n : ℕ) → length (unwritten n) ≡ n
+    unwritten_long zero = refl
+    unwritten_long (suc n) = ap suc (unwritten_long n)
 opening_long v (n ∷ ns) left = ap suc (opening_long v ns left) ∙ (let r : suc (length ns + left) ≡ suc (length ns) + left = omega arith in r)
 
 opening_views : {V : Type 0} (v : V) (ns : List ℕ) (left : ℕ) → (opening ns left v).views ≡ v ∷ []
@@ -298,7 +298,7 @@ module _ {M : Type 1} {𝓤 : Ura M} (𝓛 : Logic 𝓤) {V : Type 0} (cv : Code
   Begun z = guard 𝓤 ((z.base ≡ p) × (z.count ≡ length ns + left) × InBlock p) (sep 𝓤 (sem 𝓛 (words_own cv.code z holds)) (sem 𝓛 (mine cv.code z 0 (v, []))))
 
   pub begins : holds (opening ns left v) → ent 𝓤 (sem 𝓛 (block_owns u64 chunk p ns left)) (H.⇛ (ex 𝓤 Begun))
-  unfolding Rattle.ell_arena.specs.Laid.seal
+  unfolding Rattle.ell_arena.specs.Ownership.seal
   begins good = let s₀ : State V = opening ns left v in let b : ℕ = block_of p in let o : ℕ = count_of p in let n : ℕ = length ns + left in
       qed 𝓛 (‵ (block_owns u64 chunk p ns left) ∷ []) ∵ updating ! $ fsplit3 ! $ fpick ! (λ so. drop ! $ move ! (1 ∷ []) $ fsplit ! $
       -- [the room; the token; the words]

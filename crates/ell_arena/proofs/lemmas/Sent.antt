@@ -10,7 +10,7 @@ use Rattle.libc.specs.Heap.{chunk-Keyless}
 use Rattle.atomic_table.specs.Seated.{halved}
 use Rattle.atomic_table.proofs.Sent.{roster_keyless}
 use Rattle.ell_arena.specs.Words.{State, Me}
-use Rattle.ell_arena.specs.Laid.{WordsId, age, content, held, tracked, home, shelf, carried, owed, mine, inner, rights, words_own, words_share}
+use Rattle.ell_arena.specs.Ownership.{WordsId, age, content, held, tracked, home, shelf, carried, owed, mine, inner, rights, words_own, words_share}
 
 content_keyless : (b e y : ℕ) → Keyless (content b e y)
 content_keyless b e zero = tt
@@ -48,9 +48,9 @@ module _ {V : Type 0} (c : V → Gv) (z : WordsId) where
     inner_keyless = λ s. (shelf_keyless (age z) z.base z.words_name 0 s.homes, (roster_keyless c z.views_name 0 s.views, λ _. tt))
 
     pub owns_keyless : Keyless (words_own c z holds)
-    unfolding Rattle.ell_arena.specs.Laid.seal
+    unfolding Rattle.ell_arena.specs.Ownership.seal
     owns_keyless = (tt, (((λ _. tt), inner_keyless), (owed_keyless (age z) z.base z.words_name 0 z.count, chunk-Keyless _ z.base)))
 
     pub shares_keyless : (ν : Lft) → Keyless (words_share c z holds ν)
-    unfolding Rattle.ell_arena.specs.Laid.seal
+    unfolding Rattle.ell_arena.specs.Ownership.seal
     shares_keyless ν = ((λ _. tt), ((λ _. tt), inner_keyless))
