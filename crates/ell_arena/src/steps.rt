@@ -1,8 +1,8 @@
 //! Single steps on a word that is shared, and plain reads and writes of one that is lent to a seat.
-ghost use Rattle.std.specs.Prelude.{◌≡◌, ◌<◌, ◌==◌, []};
+ghost use Rattle.std.specs.Prelude.{◌≡◌, ◌<◌, ◌++◌, ◌==◌, []};
 ghost use prog.Atomic.{either};
-ghost use Rattle.ell_arena.specs.Seats.{SameSeat, IsLent, after_put};
-ghost use Rattle.ell_arena.specs.Words.{Tells, Allows, Splits};
+ghost use Rattle.ell_arena.specs.Seats.{SameSeat, IsLent, IsLentAs, IsWritten, after_put};
+ghost use Rattle.ell_arena.specs.Words.{Tells, Allows, Splits, Joins};
 
 use crate::shared::{Base, Seat, Shared};
 use atomic_table::{Join, Play, Split, TableRule, exchange};
@@ -100,6 +100,52 @@ impl<V, K, P: TableRule<u64, V, K>> Shared<V, K, P> {
         ensures written { seat.new.me ≡ (seat.old.me.0, after_put seat.old.me.1 address new) }
     {
         unsafe { base.ptr.add(address).write(new) }
+    }
+
+    /// Reads a word that is lent to the seat.
+    pub(crate) fn get_at(&self, seat: &mut Seat<V>, base: Base, address: usize) -> u64
+        // The seat is one of these words.
+        requires of_these { seat.old.words ≡ self.now.id }
+        // The base is where they lie.
+        requires place { base.ptr ≡ self.now.id.base }
+        // The word is lent to the seat, and has been written.
+        requires written { IsWritten seat.old.me.1 address }
+        // It stays the same seat.
+        ensures same { SameSeat seat.old seat.new }
+        // Nothing of it changes.
+        ensures me { seat.new.me ≡ seat.old.me }
+        // The number is the one that was written last.
+        ensures found { IsLentAs seat.old.me.1 address result }
+    {
+        unsafe { base.ptr.add(address).read() }
+    }
+
+    /// Adds what another seat knows and has to a seat. It costs one load of a shared word, which is the step for the
+    /// proof.
+    pub(crate) fn join_at<M: Join<V>>(
+        &self,
+        seat: &mut Seat<V>,
+        other: &mut Seat<V>,
+        base: Base,
+        address: usize,
+    )
+        // The seat is one of these words.
+        requires of_these { seat.old.words ≡ self.now.id }
+        // So is the other.
+        requires of_these_too { other.old.words ≡ self.now.id }
+        // The base is where they lie.
+        requires place { base.ptr ≡ self.now.id.base }
+        // The address is that of one of them.
+        requires inside { address < self.now.id.count }
+        // The rule shows that the word is shared, and allows the join.
+        requires rule { Joins (P.holds self.now.key) address seat.old.id seat.old.me.0 other.old.id other.old.me.0
+            (M.both seat.old.me.0 other.old.me.0) M.spent }
+        // It stays the same seat.
+        ensures same { SameSeat seat.old seat.new }
+        // It has both views as one, and what was lent to it and to the other.
+        ensures both { seat.new.me ≡ (M.both seat.old.me.0 other.old.me.0, seat.old.me.1 ++ other.old.me.1) }
+    {
+        unsafe { raw::load::<Brand>(base.ptr.add(address), SeqCst) };
     }
 
     /// Parts what a seat knows between it and a new one. It costs one load of a shared word, which is the step for the

@@ -1,12 +1,12 @@
 //! Words of one block, of which the first are written at the opening.
-ghost use Rattle.std.specs.Prelude.{◌≡◌, ℕ, ◌+◌, ◌^◌, ◌<◌, ◌≤◌, ◌==◌, [], length, IfOk};
+ghost use Rattle.std.specs.Prelude.{◌≡◌, ℕ, ◌+◌, ◌^◌, ◌<◌, ◌≤◌, ◌++◌, ◌==◌, [], length, IfOk};
 ghost use prog.Atomic.{either};
-ghost use Rattle.ell_arena.specs.Seats.{SameSeat, IsLent, after_put};
-ghost use Rattle.ell_arena.specs.Words.{Tells, Allows, Splits, opening};
+ghost use Rattle.ell_arena.specs.Seats.{SameSeat, IsLent, IsLentAs, IsWritten, after_put};
+ghost use Rattle.ell_arena.specs.Words.{Tells, Allows, Splits, Joins, opening};
 
 use crate::block::Block;
 use crate::shared::{Base, Seat, Shared};
-use atomic_table::{Play, Split, TableRule};
+use atomic_table::{Join, Play, Split, TableRule};
 use std::alloc::{AllocError, Global};
 
 /// Words of 64 bits in one block. Each is unwritten, shared, or lent to one seat. A rule holds of them at all times.
@@ -129,6 +129,43 @@ impl<V, K, P: TableRule<u64, V, K>> Words<V, K, P> {
         ensures written { seat.new.me ≡ (seat.old.me.0, after_put seat.old.me.1 address new) }
     {
         self.shared.put_at(seat, self.base, address, new)
+    }
+
+    /// Reads a word that is lent to the seat, as plain memory. It changes nothing.
+    pub fn get(&self, seat: &mut Seat<V>, address: usize) -> u64
+        // The seat is one of these words.
+        requires of_these { seat.old.words ≡ self.now.shared.id }
+        // The word is lent to the seat, and has been written.
+        requires written { IsWritten seat.old.me.1 address }
+        // It stays the same seat.
+        ensures same { SameSeat seat.old seat.new }
+        // Nothing of it changes.
+        ensures me { seat.new.me ≡ seat.old.me }
+        // The number is the one that was written last.
+        ensures found { IsLentAs seat.old.me.1 address result }
+    {
+        self.shared.get_at(seat, self.base, address)
+    }
+
+    /// Adds what another seat knows to a seat, and the words that are lent to it. It costs one load of a word that is
+    /// always shared.
+    pub fn join<M: Join<V>>(&self, seat: &mut Seat<V>, mut other: Seat<V>, address: usize)
+        // The seat is one of these words.
+        requires of_these { seat.old.words ≡ self.now.shared.id }
+        // So is the other.
+        requires of_these_too { other.words ≡ self.now.shared.id }
+        // The address is that of one of them.
+        requires inside { address < self.now.shared.id.count }
+        // The rule shows that the word is shared, and allows the join.
+        requires rule { Joins (P.holds self.now.shared.key) address seat.old.id seat.old.me.0 other.id other.me.0
+            (M.both seat.old.me.0 other.me.0) M.spent }
+        // It stays the same seat.
+        ensures same { SameSeat seat.old seat.new }
+        // It has both views as one, and what was lent to it and to the other.
+        ensures both { seat.new.me ≡ (M.both seat.old.me.0 other.me.0, seat.old.me.1 ++ other.me.1) }
+    {
+        self.shared
+            .join_at::<M>(seat, &mut other, self.base, address);
     }
 
     /// Parts what a seat knows between it and a new one. What is lent to the seat stays with it. It costs one load of a

@@ -34,7 +34,7 @@ use Rattle.ell_arena.specs.Blocks.{block_ty, Fits, block_owns}
 use Rattle.ell_arena.specs.Words.{State, Me, written, IsShared, unwritten, opening, stepped, Allows, Splits, Joins}
 use Rattle.ell_arena.specs.Ownership.{WordsId, age, content, told, holding, held, tracked, shelf, carried, owed, mine, Good, standing, inner, Placed, common, rights, words_own}
 use Rattle.ell_arena.proofs.lemmas.Borrows as borrows
-use Rattle.ell_arena.proofs.lemmas.Shelves.{set_twice, told_joined, taken, returned, acts, Put, carried_at}
+use Rattle.ell_arena.proofs.lemmas.Shelves.{set_is, carried_both, set_twice, told_joined, taken, returned, acts, Put, carried_at}
 
 -- a word has one content
 home_once : (homes : List (Option ℕ)) (a n m : ℕ) → IsShared homes a n → IsShared homes a m → n ≡ m
@@ -192,11 +192,30 @@ module _ {M : Type 1} {𝓤 : Ura M} (𝓛 : Logic 𝓤) {V : Type 0} (cv : Code
           -- [the roster; the new view; the old one; what is out; the words]
           move ! (4 ∷ 0 ∷ []) $ use2 𝓛 (‵ I) (packs t (good, is.0.1)) $ suffices ! _ (upd_i 𝓤 Z) $ frame ! $ show ! (λ (x : ℕ). ⟦ two x ⟧) j $
           nothing ! $ move ! (1 ∷ 0 ∷ []) $ fjoin ! $ move ! (1 ∷ 2 ∷ []) $ fjoin ! $ done !)))
-        where
-          set_is : (hs : List (Option ℕ)) (i : ℕ) (x : Option ℕ) → get_elem? hs i ≡ maybe.some x → set hs i x ≡ hs
-          set_is [] i x at = refl
-          set_is (h ∷ hs) zero x at = ap (λ (y : Option ℕ). y ∷ hs) (sym (some-injective h x at))
-          set_is (h ∷ hs) (suc i) x at = ap (λ (ys : List (Option ℕ)). h ∷ ys) (set_is hs i x at)
+
+    module _ (q : Share) (a other : ℕ) (it : Me V) (both spent : V) where
+      abbrev pub merged : Fml
+      merged = fsep (sat id (both, m.1 ++ it.1)) (sat other (spent, []))
+
+      abbrev Both : State V → Pr
+      Both s = guard 𝓤 (At s × ¬ (other ≡ id)) (all 𝓤 (Moved 𝓛 cv γ 0 s.views id id) ∗ ⟦ out m.1 ⟧ ∗ ⟦ sat other it ⟧)
+
+      pub absorbs : Joins holds a id m.0 other it.0 both spent → A.inv (fbor κ I) ∗ A.lft κ q ∗ ⟦ fsep (sat id m) (sat other it) ⟧ ⊢ asks 𝓛 (block_ptr b (a * 8 + o)) (λ n. n) always (λ n. fsep (flft κ q) merged)
+      absorbs law = opened q a (λ n. n) (λ _. merged) (fsep (sat id m) (sat other it)) Both
+          (λ s so. qed 𝓛 (‵ (roster cv.code γ 0 s.views) ∷ ‵ (sat id m) ∷ ‵ (sat other it) ∷ []) ∵ move ! (1 ∷ []) $ fsplit ! $ move ! (3 ∷ []) $ fsplit ! $ move ! (2 ∷ 0 ∷ []) $
+          -- [a view; the other's; what is lent to the other; what is lent; the roster]
+          use2 𝓛 (given (¬ (other ≡ id)) (‵ (half id m.0) ⊛ ‵ (half other it.0))) (apart 𝓛 cv γ id other m.0 it.0) $ learn ! (λ distinct. split ! $ move ! (4 ∷ 0 ∷ []) $
+          use2 𝓛 (given (At s) (raw (all 𝓤 (Moved 𝓛 cv γ 0 s.views id id)))) (moves 𝓛 cv γ s.views 0 id id m.0 (omega arith)) $ learn ! (λ at. let u = law s so.0 at in
+          show ! (λ (n : ℕ). guard 𝓤 (IsShared s.homes a n) (Both s)) u.0.0 $ check ! u.0.1 $ check ! (at, distinct) $ move ! (1 ∷ 2 ∷ []) $ fjoin ! $ move ! (1 ∷ 2 ∷ 0 ∷ []) $ done !)))
+          (λ s n is small. let hs : List (Option ℕ) = set s.homes a (written n) in let same : hs ≡ s.homes = set_is s.homes a (written n) is.1 in let Z : Pr = ⟦ I ⟧ ∗ ⟦ merged ⟧ in let vs : List V = set s.views id both in
+          qed 𝓛 (‵ (on hs) ∷ given (At s × ¬ (other ≡ id)) (raw (all 𝓤 (Moved 𝓛 cv γ 0 s.views id id)) ⊛ ‵ (out m.1) ⊛ ‵ (sat other it)) ∷ []) ∵ rewrite ! 0 (λ (x : List (Option ℕ)). ‵ (on x)) same refl $ move ! (1 ∷ []) $ learn ! (λ at. split3 ! $
+          let t : State V = record { words = s.words; homes = s.homes; views = set vs other spent } in
+          use1 𝓛 (raw (Moved 𝓛 cv γ 0 s.views id id both)) (all_e 𝓤 (Moved 𝓛 cv γ 0 s.views id id) both) $ settle 𝓛 Z (‵ (roster cv.code γ 0 vs) ⊛ ‵ (half id both)) $ split ! $ move ! (3 ∷ []) $ fsplit ! $ move ! (2 ∷ 0 ∷ []) $
+          -- [the roster; the other's view; what is lent to the other; a view; what is lent; the words]
+          use2 𝓛 (given (get_elem? vs other ≡ maybe.some it.0) (raw (all 𝓤 (Moved 𝓛 cv γ 0 vs other other)))) (moves 𝓛 cv γ vs 0 other other it.0 (omega arith)) $ learn ! (λ there.
+          use1 𝓛 (raw (Moved 𝓛 cv γ 0 vs other other spent)) (all_e 𝓤 (Moved 𝓛 cv γ 0 vs other other) spent) $ settle 𝓛 Z (‵ (roster cv.code γ 0 t.views) ⊛ ‵ (half other spent)) $ split ! $
+          move ! (5 ∷ 0 ∷ []) $ use2 𝓛 (‵ I) (packs t ((law s is.0.0 at.0).1 at.1 there, is.0.1)) $ suffices ! _ (upd_i 𝓤 Z) $ frame ! $ move ! (3 ∷ 1 ∷ []) $
+          use2 𝓛 (‵ (out (m.1 ++ it.1))) (carried_both 𝓛 κ z.base ω z.count m.1 it.1) $ move ! (2 ∷ 0 ∷ []) $ fjoin ! $ move ! (1 ∷ []) $ nothing ! $ move ! (1 ∷ 0 ∷ []) $ fjoin ! $ move ! (1 ∷ 0 ∷ []) $ done !)))
 
   -- ---- plain memory
   pub emptied_word : (y x : ℕ) → ⟦ content b x y ⟧ ⊢ ⟦ froom (ty_int w64) b x ⟧

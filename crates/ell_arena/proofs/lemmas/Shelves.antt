@@ -1,5 +1,5 @@
 -- A word among those at home, or among those that are out with a seat. Assumes `Logic`.
-use Rattle.std.proofs.Common.{◌≡◌, ℕ, zero, suc, ◌+◌, ◌*◌, ◌<◌, List, [], ◌∷◌, length, set, sym, refl, ap, ◌∙◌, subst, arith, length-set}
+use Rattle.std.proofs.Common.{◌≡◌, ℕ, zero, suc, ◌+◌, ◌*◌, ◌<◌, List, [], ◌∷◌, ◌++◌, length, set, sym, refl, ap, ◌∙◌, subst, arith, length-set}
 use mathlib.Core.Option.{Option, none, some, some-injective, some-ne-none}
 use lib.ListN.{get_elem?}
 use mathlib.Mathlib.Data.Part.{◌∈◌}
@@ -23,6 +23,12 @@ pub set_twice : (hs : List (Option ℕ)) (i : ℕ) (x y : Option ℕ) → set (s
 set_twice [] i x y = refl
 set_twice (h ∷ hs) zero x y = refl
 set_twice (h ∷ hs) (suc i) x y = λ j. h ∷ set_twice hs i x y j
+
+-- what stands at a place may be put there again
+pub set_is : {X : Type 0} (xs : List X) (i : ℕ) (x : X) → get_elem? xs i ≡ some x → set xs i x ≡ xs
+set_is [] i x at = refl
+set_is (y ∷ ys) zero x at = ap (λ (z : _). z ∷ ys) (sym (some-injective y x at))
+set_is (y ∷ ys) (suc i) x at = ap (λ (zs : List _). y ∷ zs) (set_is ys i x at)
 
 module _ {M : Type 1} {𝓤 : Ura M} (𝓛 : Logic 𝓤) (κ : Lft) (p : Ptr) (ω : ℕ) where
   abbrev Pr : Type 2
@@ -75,6 +81,11 @@ module _ {M : Type 1} {𝓤 : Ura M} (𝓛 : Logic 𝓤) (κ : Lft) (p : Ptr) (�
         use2 𝓛 (‵ (shelf κ p ω 0 (set hs x.0 (some x.1)))) (returned hs 0 x.0 x.0 x.1 (omega arith)) $ done !
     acts hs cs (chain a a') long ok = let hs' : List (Option ℕ) = homes_after hs cs a in let cs' : List (ℕ × ℕ) = carried_after cs a in qed 𝓛 (‵ (shelf κ p ω 0 hs) ∷ ‵ (carried κ p ω n cs) ∷ []) ∵
         use2 𝓛 (given (length hs' ≡ n) (‵ (shelf κ p ω 0 hs') ⊛ ‵ (carried κ p ω n cs'))) (acts hs cs a long ok.0) $ learn ! (λ long'. split ! $ by ! (acts hs' cs' a' long' ok.1))
+
+    -- what is lent to one seat and to another, together
+    pub carried_both : (xs ys : List (ℕ × ℕ)) → ⟦ carried κ p ω n xs ⟧ ∗ ⟦ carried κ p ω n ys ⟧ ⊢ ⟦ carried κ p ω n (xs ++ ys) ⟧
+    carried_both [] ys = base.Logic.snd∗ 𝓤 (emp 𝓤) ⟦ carried κ p ω n ys ⟧
+    carried_both (x ∷ xs) ys = qed 𝓛 (‵ (carried κ p ω n (x ∷ xs)) ∷ ‵ (carried κ p ω n ys) ∷ []) ∵ fsplit3 ! $ frame ! $ frame ! $ by ! (carried_both xs ys)
 
     abbrev pub Put : List (ℕ × ℕ) → ℕ → ℕ → ℕ → Pr
     Put cs j k y = ⟦ tracked κ p ω k y ⟧ -∗ ⟦ carried κ p ω n (set cs j (k, y)) ⟧
