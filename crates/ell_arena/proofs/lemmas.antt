@@ -12,5 +12,7 @@ pub mod Shown
 pub mod Rooms
 -- That words and seats may go to other threads.
 pub mod Sent
+-- What an act does that lends a stretch of words, or returns it.
+pub mod Stretches
 -- A rule of two words, which shows what a rule can allow and what it cannot.
 pub mod ToyRule

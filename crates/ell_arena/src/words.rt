@@ -9,6 +9,9 @@ use crate::shared::{Base, Seat, Shared};
 use atomic_table::{Join, Play, Split, TableRule};
 use std::alloc::{AllocError, Global};
 
+/// How often `open_largest` halves the number of words: from there on it is the least.
+const HALVINGS: usize = 40;
+
 /// Words of 64 bits in one block. Each is unwritten, shared, or lent to one seat. A rule holds of them at all times.
 pub struct Words<V, K, P: TableRule<u64, V, K>> {
     pub(crate) shared: Shared<V, K, P>,
@@ -55,6 +58,53 @@ impl<V, K, P: TableRule<u64, V, K>> Words<V, K, P> {
             },
             seat,
         ))
+    }
+
+    /// Opens as many words as the system grants memory for: `most` of them, or half as many, and so on, but never fewer
+    /// than `least`. The first words are `first`. `Err` if it does not grant the memory of `least` words.
+    pub fn open_largest(
+        alloc: Global,
+        about: &K,
+        least: usize,
+        most: usize,
+        first: &[u64],
+    ) -> Result<(Words<V, K, P>, Seat<V>), AllocError>
+        // There are no more first words than the least number of words.
+        requires first { length first.now ≤ least }
+        // The least number is no more than the greatest.
+        requires order { least ≤ most }
+        // The words take fewer than 2^43 bytes.
+        requires size { most < 2 ^ 40 }
+        // The rule holds of the words as they start, however many there are.
+        requires rule { (left : ℕ) → least ≤ left + length first.now → left + length first.now ≤ most
+            → P.holds about.now (opening first.now left (P.first about.now)) }
+        // The rule has this key.
+        ensures key { IfOk result (λ r. r.0.shared.key ≡ about.now) }
+        // There are no fewer words than the least number.
+        ensures least { IfOk result (λ r. least ≤ r.0.shared.id.count) }
+        // There are no more than the greatest.
+        ensures most { IfOk result (λ r. r.0.shared.id.count ≤ most) }
+        // The seat is one of these words.
+        ensures of_these { IfOk result (λ r. r.1.words ≡ r.0.shared.id) }
+        // It has the first view, and nothing is lent to it.
+        ensures me { IfOk result (λ r. r.1.me ≡ (P.first about.now, [])) }
+    {
+        let mut count = most;
+        for _ in 0..HALVINGS {
+            if let Ok(opened) = Words::open(alloc, about, count, first) {
+                return Ok(opened);
+            }
+            count = if count / 2 < least { least } else { count / 2 };
+        }
+        Words::open(alloc, about, least, first)
+    }
+
+    /// How many words there are.
+    pub fn len(&self) -> usize
+        // It is the number with which they were opened.
+        ensures { result ≡ self.now.shared.id.count }
+    {
+        self.count
     }
 
     /// Loads a shared word, as one atomic step. By the rule, the step may lend words to the seat, or share ones that

@@ -29,12 +29,13 @@ use Rattle.core.proofs.tally.Steps.{word_out}
 use Rattle.libc.specs.Heap.{chunk}
 use Rattle.atomic_table.specs.Table.{Act, homes_after, carried_after, Valid}
 use Rattle.atomic_table.specs.Seated.{word, fact, seen, roster, halved, unused}
+use Rattle.atomic_table.proofs.Lists.{set_again}
 use Rattle.atomic_table.proofs.Roster.{Moved, moves, Joined, joins, apart, resets}
 use Rattle.ell_arena.specs.Blocks.{block_ty, Fits, block_owns}
 use Rattle.ell_arena.specs.Words.{State, Me, written, IsShared, unwritten, opening, stepped, Allows, Splits, Joins}
 use Rattle.ell_arena.specs.Ownership.{WordsId, age, content, told, holding, held, tracked, shelf, carried, owed, mine, Good, standing, inner, Placed, common, rights, words_own}
 use Rattle.ell_arena.proofs.lemmas.Borrows as borrows
-use Rattle.ell_arena.proofs.lemmas.Shelves.{set_is, carried_both, set_twice, told_joined, taken, returned, acts, Put, carried_at}
+use Rattle.ell_arena.proofs.lemmas.Shelves.{carried_both, set_twice, told_joined, taken, returned, acts, Put, carried_at}
 
 -- a word has one content
 home_once : (homes : List (Option ℕ)) (a n m : ℕ) → IsShared homes a n → IsShared homes a m → n ≡ m
@@ -184,7 +185,7 @@ module _ {M : Type 1} {𝓤 : Ura M} (𝓛 : Logic 𝓤) {V : Type 0} (cv : Code
           (λ s so. qed 𝓛 (‵ (roster cv.code γ 0 s.views) ∷ ‵ (half id m.0) ∷ ‵ (out m.1) ∷ []) ∵
           use2 𝓛 (given (At s) (raw (all 𝓤 (Moved 𝓛 cv γ 0 s.views id id)))) (moves 𝓛 cv γ s.views 0 id id m.0 (omega arith)) $ learn ! (λ at. let u = law s so.0 at in
           show ! (λ (n : ℕ). guard 𝓤 (IsShared s.homes a n) (Moves s)) u.0.0 $ check ! u.0.1 $ check ! at $ done !))
-          (λ s n is small. let hs : List (Option ℕ) = set s.homes a (written n) in let same : hs ≡ s.homes = set_is s.homes a (written n) is.1 in let Z : Pr = ⟦ I ⟧ ∗ ⟦ fex ℕ two ⟧ in let vs : List V = set s.views id l in
+          (λ s n is small. let hs : List (Option ℕ) = set s.homes a (written n) in let same : hs ≡ s.homes = set_again s.homes a (written n) is.1 in let Z : Pr = ⟦ I ⟧ ∗ ⟦ fex ℕ two ⟧ in let vs : List V = set s.views id l in
           qed 𝓛 (‵ (on hs) ∷ given (At s) (raw (all 𝓤 (Moved 𝓛 cv γ 0 s.views id id)) ⊛ ‵ (out m.1)) ∷ []) ∵ rewrite ! 0 (λ (x : List (Option ℕ)). ‵ (on x)) same refl $ move ! (1 ∷ []) $ learn ! (λ at. split ! $
           let good = (law s is.0.0 at).1 in let t : State V = record { words = s.words; homes = s.homes; views = vs ++ r ∷ [] } in
           use1 𝓛 (raw (Moved 𝓛 cv γ 0 s.views id id l)) (all_e 𝓤 (Moved 𝓛 cv γ 0 s.views id id) l) $ settle 𝓛 Z (‵ (roster cv.code γ 0 vs) ⊛ ‵ (half id l)) $ split ! $
@@ -207,7 +208,7 @@ module _ {M : Type 1} {𝓤 : Ura M} (𝓛 : Logic 𝓤) {V : Type 0} (cv : Code
           use2 𝓛 (given (¬ (other ≡ id)) (‵ (half id m.0) ⊛ ‵ (half other it.0))) (apart 𝓛 cv γ id other m.0 it.0) $ learn ! (λ distinct. split ! $ move ! (4 ∷ 0 ∷ []) $
           use2 𝓛 (given (At s) (raw (all 𝓤 (Moved 𝓛 cv γ 0 s.views id id)))) (moves 𝓛 cv γ s.views 0 id id m.0 (omega arith)) $ learn ! (λ at. let u = law s so.0 at in
           show ! (λ (n : ℕ). guard 𝓤 (IsShared s.homes a n) (Both s)) u.0.0 $ check ! u.0.1 $ check ! (at, distinct) $ move ! (1 ∷ 2 ∷ []) $ fjoin ! $ move ! (1 ∷ 2 ∷ 0 ∷ []) $ done !)))
-          (λ s n is small. let hs : List (Option ℕ) = set s.homes a (written n) in let same : hs ≡ s.homes = set_is s.homes a (written n) is.1 in let Z : Pr = ⟦ I ⟧ ∗ ⟦ merged ⟧ in let vs : List V = set s.views id both in
+          (λ s n is small. let hs : List (Option ℕ) = set s.homes a (written n) in let same : hs ≡ s.homes = set_again s.homes a (written n) is.1 in let Z : Pr = ⟦ I ⟧ ∗ ⟦ merged ⟧ in let vs : List V = set s.views id both in
           qed 𝓛 (‵ (on hs) ∷ given (At s × ¬ (other ≡ id)) (raw (all 𝓤 (Moved 𝓛 cv γ 0 s.views id id)) ⊛ ‵ (out m.1) ⊛ ‵ (sat other it)) ∷ []) ∵ rewrite ! 0 (λ (x : List (Option ℕ)). ‵ (on x)) same refl $ move ! (1 ∷ []) $ learn ! (λ at. split3 ! $
           let t : State V = record { words = s.words; homes = s.homes; views = set vs other spent } in
           use1 𝓛 (raw (Moved 𝓛 cv γ 0 s.views id id both)) (all_e 𝓤 (Moved 𝓛 cv γ 0 s.views id id) both) $ settle 𝓛 Z (‵ (roster cv.code γ 0 vs) ⊛ ‵ (half id both)) $ split ! $ move ! (3 ∷ []) $ fsplit ! $ move ! (2 ∷ 0 ∷ []) $

@@ -24,12 +24,6 @@ set_twice [] i x y = refl
 set_twice (h ∷ hs) zero x y = refl
 set_twice (h ∷ hs) (suc i) x y = λ j. h ∷ set_twice hs i x y j
 
--- what stands at a place may be put there again
-pub set_is : {X : Type 0} (xs : List X) (i : ℕ) (x : X) → get_elem? xs i ≡ some x → set xs i x ≡ xs
-set_is [] i x at = refl
-set_is (y ∷ ys) zero x at = ap (λ (z : _). z ∷ ys) (sym (some-injective y x at))
-set_is (y ∷ ys) (suc i) x at = ap (λ (zs : List _). y ∷ zs) (set_is ys i x at)
-
 module _ {M : Type 1} {𝓤 : Ura M} (𝓛 : Logic 𝓤) (κ : Lft) (p : Ptr) (ω : ℕ) where
   abbrev Pr : Type 2
   Pr = SProp 𝓤

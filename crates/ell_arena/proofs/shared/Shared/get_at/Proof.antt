@@ -36,8 +36,9 @@ use denote.Plain.{uint_vals, uint_Tells}
 use denote.Triple.Walked.{Stays, stay_dropped, stay_ref, walk_of, Goes-dropped, Goes-ref}
 use Rattle.core.proofs.atomic.Steps.{tail}
 use Rattle.atomic_table.proofs.Walks.{proved, leaves}
+use Rattle.atomic_table.proofs.Lists.{set_again}
 use Rattle.atomic_table.proofs.Roster.{resets}
-use Rattle.ell_arena.proofs.lemmas.Shelves.{set_is, told_joined}
+use Rattle.ell_arena.proofs.lemmas.Shelves.{told_joined}
 use Rattle.ell_arena.specs.Seats.{IsLentAs, IsWritten, place_of}
 use Rattle.ell_arena.specs.Words.{Me}
 use Rattle.ell_arena.specs.Ownership.{WordsId, age, content, told, holding, held, tracked, mine}
@@ -87,7 +88,7 @@ get_at_spec 𝓤 𝓛 𝓜 𝓡 wired U Q P _ _ _ g d _ =
     use1 𝓛 (later (‵ L ⊛ ‵ R)) (via 𝓤 _ (resets 𝓛 coded_ℕ ω i x (suc n)) (basic 𝓛 (sep 𝓤 (sem 𝓛 L) (sem 𝓛 R)))) $ await ! tt $ split ! $ move ! (2 ∷ 0 ∷ []) $ fjoin ! $ fpack ! ℕ (holding α z.base ω i) (suc n) $
     move ! (2 ∷ 0 ∷ []) $ obor_close ! tt $ move ! (2 ∷ 0 ∷ []) $ fjoin ! $ move ! (2 ∷ []) $ use1 𝓛 (raw (Back (suc n))) (all_e 𝓤 Back (suc n)) $ move ! (1 ∷ 0 ∷ []) $
     use2 𝓛 (‵ (mine cv.code z id (v.0, set v.1 j (i, suc n)))) (apply∗ 𝓤 (sem 𝓛 (tracked α z.base ω i (suc n))) (sem 𝓛 (mine cv.code z id (v.0, set v.1 j (i, suc n))))) $
-    rewrite ! 0 (λ (xs : List (ℕ × ℕ)). ‵ (mine cv.code z id (v.0, xs))) (set_is v.1 j (i, suc n) asked.2.1) refl $
+    rewrite ! 0 (λ (xs : List (ℕ × ℕ)). ‵ (mine cv.code z id (v.0, xs))) (set_again v.1 j (i, suc n) asked.2.1) refl $
     -- [the seat; the words' token; its fields; its place; open; obs; auth; the words' open token; the invariant; the others]
     move ! (7 ∷ 1 ∷ []) $ obor_close ! tt $ drop ! $ move ! (7 ∷ []) $ drop ! $ move ! (1 ∷ []) $
     let h' : Sr.Denot = record { marker = h.marker; words = z; id = id; me = v } in
