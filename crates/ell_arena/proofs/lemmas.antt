@@ -14,5 +14,7 @@ pub mod Rooms
 pub mod Sent
 -- What an act does that lends a stretch of words, or returns it.
 pub mod Stretches
+-- What is lent to a seat, after it wrote to one of these words.
+pub mod Seats
 -- A rule of two words, which shows what a rule can allow and what it cannot.
 pub mod ToyRule

@@ -1,0 +1,2 @@
+-- lemmas on the rule of pairs
+pub mod lemmas

@@ -1,0 +1,2 @@
+-- the rule of the words, and what each step tells
+pub mod Pairs
