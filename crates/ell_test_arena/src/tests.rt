@@ -1,6 +1,8 @@
 //! Two threads race for pairs, write them, share them, and add to them.
 use crate::race::{count_of, enter, fill, mark, open_pairs, part, take, unite};
 use crate::working::{NOTHING, add_often, begin, visit, work};
+use atomic_table::TableRule;
+use ell_arena::Words;
 use std::test::Fail;
 use std::thread;
 
@@ -58,6 +60,41 @@ fn words_are_dropped_while_some_are_lent(rt: HostRuntime) -> Result<(), Fail> {
         assert!(rt; take(&words, &mut other).is_some());
         drop(other);
         drop(words);
+    }
+    Ok(())
+}
+
+// A rule that allows everything.
+struct Anything;
+
+impl TableRule<u64, (), ()> for Anything {
+    ghost holds = { λ _ _. Unit {0} };
+
+    ghost first = { λ _. tt };
+}
+
+// If the first request is refused, as under `--fail-alloc 1`, half as many words are opened.
+#[test]
+fn as_many_words_are_opened_as_the_system_grants(rt: HostRuntime) -> Result<(), Fail> {
+    let (words, _seat) = Words::<(), (), Anything>::open_largest(
+        rt.alloc(),
+        &(),
+        1_000,
+        1 << 20,
+        &[1, 2],
+    )?;
+    assert!(rt; words.len() == 1 << 20 || words.len() == 1 << 19);
+    Ok(())
+}
+
+// So many blocks of 2^30 bytes are more than the addresses that a process has.
+const BLOCKS: u32 = 140_000;
+
+#[test]
+fn dropped_words_give_their_block_back(rt: HostRuntime) -> Result<(), Fail> {
+    for _ in 0..BLOCKS {
+        let (words, mut seat) = open_pairs(rt.alloc(), 1 << 27)?;
+        assert!(rt; take(&words, &mut seat).is_some());
     }
     Ok(())
 }
