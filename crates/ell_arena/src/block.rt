@@ -82,7 +82,8 @@ impl<A: Allocator> Block<u64, A> {
         // The words take fewer than 2^63 bytes.
         requires size { count < 2 ^ 40 }
         // The allocator may free the block, the first words are written, and there is room for the others.
-        ensures { IfOk result (λ b. (b.heap ≡ alloc.now) × (b.items ≡ words.now) × (b.left + length words.now ≡ count)) }
+        ensures { IfOk result (λ b. (b.heap ≡ alloc.now) × (b.items ≡ words.now)
+            × (b.left + length words.now ≡ count)) }
     {
         let mut block = Block::reserve(alloc, count)?;
         for i in 0..words.len() {

@@ -6,6 +6,5 @@ mod shared;
 mod steps;
 mod words;
 
-pub use block::Block;
-pub use shared::{Base, Seat, Shared};
+pub use shared::Seat;
 pub use words::Words;

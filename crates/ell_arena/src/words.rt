@@ -156,8 +156,8 @@ impl<V, K, P: TableRule<u64, V, K>> Words<V, K, P> {
         // The address is that of one of them.
         requires inside { address < self.now.shared.id.count }
         // The rule shows that the word is shared, and allows the step.
-        requires rule { Allows (P.holds self.now.shared.key) seat.old.id seat.old.me address (λ n. either (n == expected) new n)
-            (Tells M.then address expected new seat.old.me) }
+        requires rule { Allows (P.holds self.now.shared.key) seat.old.id seat.old.me address
+            (λ n. either (n == expected) new n) (Tells M.then address expected new seat.old.me) }
         // It stays the same seat.
         ensures same { SameSeat seat.old seat.new }
         // The play holds of the number and of the seat.

@@ -1,7 +1,7 @@
 -- Words of an arena in pairs. The word 0, the mark, is the address of the first word that nobody has begun. The word 1, the
 -- door, is the address of a pair that is shared. Whoever moves the mark has a pair as plain memory, fills it, and shares it
 -- as he makes it the door.
-use Rattle.std.specs.Prelude.{◌≡◌, ◌≢◌, ℕ, suc, ◌+◌, ◌^◌, ◌<◌, ◌≤◌, List, [], ◌∷◌, length}
+use Rattle.std.specs.Prelude.{◌≡◌, ◌≢◌, ℕ, suc, ◌^◌, ◌<◌, ◌≤◌, List, [], ◌∷◌, length}
 use mathlib.Core.Option.{Option, some}
 use lib.ListN.{get_elem?}
 use Rattle.atomic_table.specs.Table.{Step, rest}

@@ -1,5 +1,5 @@
 -- One step on a word at home, under the invariant, and how the words begin and end. Assumes `Logic`.
-use Rattle.std.proofs.Common.{◌≡◌, ℕ, zero, suc, ◌+◌, ◌*◌, ◌^◌, ◌<◌, T, List, [], ◌∷◌, ◌++◌, length, set, sym, refl, ap, ◌∙◌, subst, arith, length-set, suc-mul, zero-mul, w64}
+use Rattle.std.proofs.Common.{◌≡◌, ℕ, zero, suc, ◌+◌, ◌*◌, ◌<◌, T, List, [], ◌∷◌, ◌++◌, length, set, sym, refl, ap, ◌∙◌, subst, arith, length-set, suc-mul, w64}
 use mathlib.Core.Option.{Option, some-injective}
 use mathlib.Core.Option as maybe
 use lib.ListN.{get_elem?}
@@ -21,13 +21,13 @@ use types.Tokens.{lft_new, lft_end, bor_new, lent_back}
 use types.SemTy.{cells}
 use types.Kit.{‵, raw, ◌⊛◌, some, given, later, ◌$◌, ◌∵◌, !, qed, by, move, keep, drop, use0, use1, use2, use3, split, split3, fsplit, fsplit3, fjoin, fjoin3, fpick, fpack, pick, learn, check, show, frame, each, assume, suffices, await, updating, now, rewrite, settle, done}
 use denote.Builtin.{u64}
-use denote.Memory.{mem, lone, part_at}
+use denote.Memory.{mem, lone}
 use denote.RawPtr.{Ptr, block_ptr, block_of, count_of, InBlock}
 use denote.Steps.{nothing}
 use Rattle.core.specs.Sync.RawAtomic.{asks, always}
 use Rattle.core.proofs.tally.Steps.{word_out}
 use Rattle.libc.specs.Heap.{chunk}
-use Rattle.atomic_table.specs.Table.{Act, homes_after, carried_after, Valid}
+use Rattle.atomic_table.specs.Table.{Act, carried_after, Valid}
 use Rattle.atomic_table.specs.Seated.{word, fact, seen, roster, halved, unused}
 use Rattle.atomic_table.proofs.Lists.{set_again}
 use Rattle.atomic_table.proofs.Roster.{Moved, moves, Joined, joins, apart, resets}

@@ -1,6 +1,5 @@
 -- Words that are lent to a seat, of which the one at an address stands first, or not first.
-use Rattle.std.proofs.Common.{◌≡◌, ◌≢◌, ℕ, suc, List, [], ◌∷◌, set, sym, refl, ap, ◌∙◌, subst, eq-eqb, ne_eqb}
-use mathlib.Core.Option.{some}
+use Rattle.std.proofs.Common.{◌≡◌, ◌≢◌, ℕ, suc, List, ◌∷◌, set, refl, ap, ◌∙◌, eq-eqb, ne_eqb}
 use lib.ListN.{get_elem?}
 use prog.Atomic.{either}
 use Rattle.ell_arena.specs.Seats.{place_of, HasContent, after_put}

@@ -1,5 +1,5 @@
 -- A word among those at home, or among those that are out with a seat. Assumes `Logic`.
-use Rattle.std.proofs.Common.{◌≡◌, ℕ, zero, suc, ◌+◌, ◌*◌, ◌<◌, List, [], ◌∷◌, ◌++◌, length, set, sym, refl, ap, ◌∙◌, subst, arith, length-set}
+use Rattle.std.proofs.Common.{◌≡◌, ℕ, zero, suc, ◌+◌, ◌<◌, List, [], ◌∷◌, ◌++◌, length, set, sym, refl, ◌∙◌, subst, arith, length-set}
 use mathlib.Core.Option.{Option, none, some, some-injective, some-ne-none}
 use lib.ListN.{get_elem?}
 use mathlib.Mathlib.Data.Part.{◌∈◌}
@@ -12,7 +12,7 @@ use base.Fml.{Lft, Share, Fml, ftrue}
 use base.Stored.{Gv}
 use types.Logic.{Logic, sem}
 use types.Keyed.{entry, entry_glue}
-use types.Kit.{‵, raw, ◌⊛◌, given, ◌$◌, ◌∵◌, !, qed, by, move, keep, drop, split, fsplit, fsplit3, fpick, fpack, fjoin, fjoin3, learn, check, frame, each, assume, done, use1, use2, rewrite}
+use types.Kit.{‵, raw, ◌⊛◌, given, ◌$◌, ◌∵◌, !, qed, by, move, drop, split, fsplit3, fpick, fpack, learn, check, frame, each, assume, done, use1, use2, rewrite}
 use denote.RawPtr.{Ptr}
 use denote.Steps.{nothing}
 use Rattle.atomic_table.specs.Seated.{fact, halved}

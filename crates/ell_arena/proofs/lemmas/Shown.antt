@@ -1,5 +1,5 @@
 -- A `&` to the words shows their invariant, and that their lifetime lasts. Assumes `Logic`.
-use Rattle.std.proofs.Common.{ℕ, List, [], ◌∷◌}
+use Rattle.std.proofs.Common.{[], ◌∷◌}
 use seplogic.Ra.Ura.{Ura}
 use base.Logic.{sep, wand, apply∗, snd∗}
 use base.Fraction.{full_share}

@@ -1,8 +1,8 @@
 -- What the act does that lends a stretch, and the one that returns it, for the rule of a client.
-use Rattle.std.proofs.Common.{◌≡◌, ◌≢◌, ℕ, zero, suc, ◌+◌, ◌<◌, ◌≤◌, List, [], ◌∷◌, ◌++◌, length, set, sym, refl, ap, ◌∙◌, subst, arith, length-set}
+use Rattle.std.proofs.Common.{◌≡◌, ℕ, zero, suc, ◌+◌, ◌<◌, ◌≤◌, List, [], ◌∷◌, ◌++◌, length, set, sym, refl, ap, ◌∙◌, subst, arith, length-set}
 use mathlib.Core.Option.{Option, none, some}
 use lib.ListN.{get_elem?}
-use Rattle.atomic_table.specs.Table.{Act, carried_after, homes_after, Valid}
+use Rattle.atomic_table.specs.Table.{carried_after, homes_after, Valid}
 use Rattle.atomic_table.proofs.Lists.{set_here, set_else}
 use Rattle.ell_arena.specs.Stretches.{stretch, AreHome, lends, returns, without, with_these}
 

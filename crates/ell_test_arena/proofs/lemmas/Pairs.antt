@@ -1,15 +1,15 @@
 -- What keeps the rule of pairs, and what each step owes it.
-use Rattle.std.proofs.Common.{◌≡◌, ◌≢◌, ℕ, zero, suc, ◌+◌, ◌<◌, ◌≤◌, ◌==◌, ◌⊎◌, inl, inr, List, [], ◌∷◌, ◌++◌, length, set, sym, refl, ap, ◌∙◌, subst, arith, length-set}
+use Rattle.std.proofs.Common.{◌≡◌, ◌≢◌, ℕ, zero, suc, ◌+◌, ◌<◌, ◌≤◌, ◌⊎◌, inl, inr, List, [], ◌∷◌, length, set, sym, refl, ap, ◌∙◌, subst, arith, length-set}
 use mathlib.Core.Logic.{dite}
 use native.Mathlib.Decide.{ℕ_discrete, dec_le}
 use mathlib.Core.Option.{Option, none, some, some-injective, some-ne-none}
 use lib.ListN.{get_elem?}
 use lib.Dec.{eqb}
 use prog.Atomic.{either}
-use Rattle.atomic_table.specs.Table.{Act, keeps, homes_after, carried_after, Valid, step}
+use Rattle.atomic_table.specs.Table.{keeps}
 use Rattle.atomic_table.proofs.Lists.{at_set, set_here, set_else, at_snoc, exchanged}
-use Rattle.ell_arena.specs.Words.{State, Me, IsShared, HasShared, written, unwritten, opening, Allows, Outcome, Splits, Joins, Tells, stepped}
-use Rattle.ell_arena.specs.Stretches.{lends, returns, without, with_these}
+use Rattle.ell_arena.specs.Words.{State, Me, IsShared, written, unwritten, opening, Allows, Outcome, Splits, Joins, Tells}
+use Rattle.ell_arena.specs.Stretches.{lends, returns}
 use Rattle.ell_arena.proofs.lemmas.Stretches.{valid_lends, valid_returns}
 use Rattle.ell_test_arena.specs.declared.pairs.Known.{Known}
 use Rattle.ell_test_arena.specs.Pairs.{HasWord, IsPair, IsFreshFrom, IsTrue, AreTrue, Stands, HoldsPairs, first_known, MarkFound, PairTaken, PairShared, DoorFound, Unchanged}

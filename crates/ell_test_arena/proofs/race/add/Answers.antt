@@ -1,4 +1,4 @@
-use Rattle.std.proofs.Common.{◌≡◌, ◌+◌, ◌%◌, ◌^◌, ap, refl, ◌∙◌}
+use Rattle.std.proofs.Common.{◌+◌, ◌%◌, ◌^◌, ap, refl, ◌∙◌}
 use lib.Dec.{eqb}
 use prog.Atomic.{either}
 use Rattle.ell_test_arena.proofs.lemmas.Pairs.{second_allowed}

@@ -6,9 +6,8 @@ use mir.Val.{Val, vptr}
 use mir.MapTy.{inst_fn}
 use base.Stored.{Coded}
 use base.Logic.{SProp, emp}
-use base.Fml.{ftrue, fsep}
 use types.Kit.{join}
-use types.Kit.{‵, raw, ◌⊛◌, some, given, later, ◌$◌, ◌∵◌, !, qed, by, move, keep, use0, use1, split, fsplit, fjoin, fpack, pick, learn, await}
+use types.Kit.{‵, raw, ◌⊛◌, given, later, ◌$◌, ◌∵◌, !, qed, by, move, keep, use0, use1, split, fsplit, fjoin, learn, await}
 use types.Run.{no_more, and_then, returns, enter}
 use types.ByLocal.{alloc_all, pass_all, free_all, look_at, get, sets, env}
 use types.Part.{agg}
@@ -26,7 +25,6 @@ use denote.Triple.Entry.{alive}
 use denote.Triple.Walked.{Stays, stay_dropped, walk_of, Goes-dropped}
 use Rattle.atomic_table.proofs.Walks.{proved, leaves}
 use Rattle.atomic_blocks.proofs.RowMade.{token_val, token_told}
-use Rattle.ell_arena.specs.Words.{State}
 use Rattle.ell_arena.specs.Ownership.{WordsId, Placed}
 use Rattle.std.specs.contracts.alloc.Global as heap
 use Rattle.ell_arena.specs.contracts.shared.Base as place
@@ -36,11 +34,11 @@ use denote.Ref.{shr_vals, shr_Tells}
 use mir.Syntax.{named}
 use prog.Wp.{WpFn}
 use base.Logic.{ent, id⊢}
-use types.Kit.{suffices, rewrite, drop}
+use types.Kit.{suffices, rewrite}
 use types.Run.{stop, fld}
 use types.ByLocal.{get_in}
 use types.Part.{sub, whole as all_of_it}
-use Rattle.std.proofs.Common.{ℕ, ◌+◌, length, sym, ap, ◌∙◌, subst, arith}
+use Rattle.std.proofs.Common.{ℕ, ◌+◌, sym, ◌∙◌, subst, arith}
 use Rattle.ell_arena.specs.contracts.shared.Shared as words
 use Rattle.ell_arena.proofs.lemmas.Moves as moves
 use Rattle.ell_arena.specs.contracts.shared.Shared.close.{ended, clauses}

@@ -1,24 +1,20 @@
 -- `get_at` reads a word that is lent to the seat.
-use Rattle.std.proofs.Common.{T, ◌≡◌, ℕ, ◌+◌, ◌*◌, ◌^◌, ◌<◌, List, [], ◌∷◌, suc, set, sym, refl, ◌∙◌, subst, arith, lit<, w64}
+use Rattle.std.proofs.Common.{T, ◌≡◌, ℕ, ◌+◌, ◌*◌, ◌^◌, ◌<◌, List, [], ◌∷◌, suc, set, sym, refl, ◌∙◌, subst, arith, w64}
 use mir.Syntax.{ty_int, a_type, dcons, dnil, named}
 use mir.Val.{Val, vint, vptr, has_ty, WT}
 use mir.MapTy.{inst_fn}
 use base.Stored.{Coded, coded_ℕ}
 use base.Fraction.{full_share}
 use base.Share.{quarter, three_quarters}
-use mathlib.Core.Option.{some}
-use lib.ListN.{get_elem?}
 use types.Logic.{sem}
 use types.Owned.{basic}
 use base.Logic.{SProp, ent, sep, emp, all, all_e, apply∗, via, id⊢}
-use base.Fml.{Lft, Fml, ftrue, fsep, fbor, flft, froom}
+use base.Fml.{Lft, Fml, ftrue, fsep, fbor, flft}
 use prog.Wp.{WpFn}
-use prog.Atomic.{either}
-use lib.Dec.{eqb}
-use types.Kit.{◌∵◌, mean, ‵, raw, ◌⊛◌, given, at_ret, ◌$◌, !, qed, by, move, keep, drop, use0, use1, use2, later, await, fpack, split, split3, join, fsplit, fsplit3, fjoin, fjoin3, fpick, learn, suffices, rewrite, feq_i, flt_i}
-use types.Run.{stop, fld, lit, look, load, unit_lit, of_opd, bin, init, assigns_last, no_more, and_then, first, blocks, exec, Calls-last, returns, enter}
-use types.ByLocal.{sets_last, alloc_all, pass_all, free_all, look_at, get, get_in, through, sets, lands_last, env}
-use types.Part.{agg, sub, whole as all_of_it}
+use types.Kit.{◌∵◌, ‵, raw, ◌⊛◌, given, at_ret, ◌$◌, !, qed, by, move, keep, drop, use0, use1, use2, later, await, fpack, split, split3, join, fsplit, fsplit3, fjoin, fjoin3, fpick, learn, suffices, rewrite, feq_i, flt_i}
+use types.Run.{stop, fld, lit, look, load, of_opd, bin, first, blocks, exec, returns, enter}
+use types.ByLocal.{sets_last, alloc_all, pass_all, free_all, look_at, get, get_in, through, sets, env}
+use types.Part.{sub, whole as all_of_it}
 use types.Tokens.{shr_bor-open, bor_open, obor_close}
 use types.Within.{tokens_halve}
 use contract.Running.{tables}
@@ -26,11 +22,11 @@ use contract.Monad.{fact, fact_i}
 use denote.Exit.{yes}
 use denote.RattleType.{RattleType, owns}
 use denote.Signature.{types_at, plain}
-use denote.RawPtr.{Ptr, block_ptr, block_of, count_of, at_block, InBlock}
+use denote.RawPtr.{Ptr, block_ptr, block_of, count_of, at_block}
 use denote.Steps.{nothing, heard, opens, closes}
 use denote.Opens.{unhide}
 use denote.Param.{param, bounded}
-use denote.Builtin.{RefOf, u64, usize}
+use denote.Builtin.{RefOf, usize}
 use denote.Ref.{mut_vals, mut_Tells, shr_vals, shr_Tells}
 use denote.Plain.{uint_vals, uint_Tells}
 use denote.Triple.Walked.{Stays, stay_dropped, stay_ref, walk_of, Goes-dropped, Goes-ref}

@@ -7,9 +7,7 @@ use base.Stored.{Coded}
 use base.Logic.{SProp, ent, emp, via, id⊢}
 use base.Fml.{Lft, Fml, ftrue, fsep, flft}
 use prog.Wp.{WpFn}
-use prog.Atomic.{either}
-use lib.Dec.{eqb}
-use types.Kit.{◌∵◌, mean, ‵, raw, ◌⊛◌, given, at_ret, ◌$◌, !, qed, by, move, keep, drop, use0, use3, split, split3, join, fsplit, fsplit3, fjoin, fjoin3, fpick, learn, suffices, rewrite, feq_i, flt_i}
+use types.Kit.{◌∵◌, mean, ‵, raw, ◌⊛◌, at_ret, ◌$◌, !, qed, by, move, keep, drop, use0, use3, split, split3, join, fsplit, fsplit3, fjoin, fjoin3, fpick, suffices, rewrite, feq_i}
 use types.Run.{stop, fld, lit, unit_lit, of_opd, bin, no_more, and_then, first, blocks, exec, Calls-last, returns, enter}
 use types.ByLocal.{alloc_all, pass_all, free_all, look_at, get, get_in, sets, lands_last, env}
 use types.Part.{agg, sub, whole as all_of_it}
@@ -20,11 +18,11 @@ use contract.Monad.{fact, fact_i}
 use denote.Exit.{yes}
 use denote.RattleType.{RattleType, owns}
 use denote.Signature.{types_at, plain}
-use denote.RawPtr.{Ptr, block_ptr, block_of, count_of, at_block, InBlock}
+use denote.RawPtr.{Ptr, block_ptr, block_of, count_of, at_block}
 use denote.Steps.{nothing, heard, opens, closes}
 use denote.Opens.{unhide}
 use denote.Param.{param, bounded}
-use denote.Builtin.{RefOf, u64, usize}
+use denote.Builtin.{RefOf, usize}
 use denote.Ref.{mut_vals, mut_Tells, shr_vals, shr_Tells}
 use denote.Plain.{uint_vals, uint_Tells}
 use denote.Triple.Walked.{Stays, stay_dropped, stay_ref, walk_of, Goes-dropped, Goes-ref}

@@ -31,8 +31,7 @@ use Rattle.ell_arena.specs.Words.{opening}
 use Rattle.ell_arena.specs.Ownership.{WordsId, mine, words_own}
 use Rattle.std.proofs.Common.{ℕ, ◌+◌, length, sym, ◌∙◌, subst}
 use Rattle.ell_arena.specs.contracts.shared.Base as place
-use Rattle.ell_arena.specs.Blocks.{block_owns, Fits}
-use Rattle.libc.specs.Heap.{chunk}
+use Rattle.ell_arena.specs.Blocks.{Fits}
 use denote.RawPtr.{Ptr, block_ptr, block_of, count_of, at_block, InBlock}
 use base.Fml.{ftrue}
 use base.Logic.{ent, id⊢}
