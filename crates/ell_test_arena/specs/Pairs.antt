@@ -1,6 +1,6 @@
--- Words of an arena in pairs. The word 0, the mark, is the address of the first word that nobody has begun. The word 1, the
--- door, is the address of a pair that is shared. Whoever moves the mark has a pair as plain memory, fills it, and shares it
--- as he makes it the door.
+-- Words of an arena in pairs. The word 0, the mark, is the address of the first word that nobody has begun. The word
+-- 1, the door, is the address of a pair that is shared. Whoever moves the mark has a pair as plain memory, fills it,
+-- and shares it as he makes it the door.
 use Rattle.std.specs.Prelude.{◌≡◌, ◌≢◌, ℕ, suc, ◌^◌, ◌<◌, ◌≤◌, List, [], ◌∷◌, length}
 use mathlib.Core.Option.{Option, some}
 use lib.ListN.{get_elem?}
@@ -57,7 +57,10 @@ MarkFound step old found new = (2 ≤ found) × (new ≡ old)
 -- what an exchange of the mark tells: who has won has a pair that nobody has written, and who has lost nothing
 abbrev pub PairTaken : Step ℕ → Me Known → ℕ → Me Known → Type 0
 PairTaken step old found new =
-    (found ≡ step.first → new ≡ (record { pair = old.0.pair; reached = step.second }, (step.first, 0) ∷ (suc step.first, 0) ∷ old.1))
+    (found ≡ step.first → new ≡ (
+      record { pair = old.0.pair; reached = step.second },
+      (step.first, 0) ∷ (suc step.first, 0) ∷ old.1,
+    ))
     × (found ≢ step.first → new ≡ old)
 
 -- what a store to the door tells: the pair that was taken last is shared, and the seat knows it
@@ -74,7 +77,8 @@ Unchanged step old found new = new ≡ old
 
 -- the rule has the number of these words, which is at least 2, and below 2^40
 abbrev pub IsSized : Words Known ℕ PairRule → Type 0
-IsSized words = (words.shared.key ≡ words.shared.id.count) × (2 ≤ words.shared.id.count) × (words.shared.id.count < 2 ^ 40)
+IsSized words = (words.shared.key ≡ words.shared.id.count) × (2 ≤ words.shared.id.count)
+    × (words.shared.id.count < 2 ^ 40)
 
 -- the seat is one of these words, and this is lent to it
 abbrev pub IsOurs : Words Known ℕ PairRule → Seat Known → List (ℕ × ℕ) → Type 0
@@ -82,8 +86,8 @@ IsOurs words seat lent = IsSized words × (seat.words ≡ words.shared.id) × (s
 
 -- a pair is lent to the seat, above the mark and the door, and the mark is past it; its words have these contents
 abbrev pub HasPair : Words Known ℕ PairRule → Seat Known → ℕ → ℕ → ℕ → Type 0
-HasPair words seat a y z = IsOurs words seat ((a, y) ∷ (suc a, z) ∷ []) × (2 ≤ a) × (suc a < words.shared.id.count)
-    × (suc (suc a) ≤ seat.me.0.reached)
+HasPair words seat a y z = IsOurs words seat ((a, y) ∷ (suc a, z) ∷ []) × (2 ≤ a)
+    × (suc a < words.shared.id.count) × (suc (suc a) ≤ seat.me.0.reached)
 
 -- the seat knows a shared pair above the mark and the door
 abbrev pub KnowsPair : Words Known ℕ PairRule → Seat Known → ℕ → Type 0

@@ -1,5 +1,5 @@
-//! An arena whose words threads take in pairs, fill as plain memory, and share: two threads race for them, and the program
-//! says what they found. Its tests race for longer.
+//! An arena whose words threads take in pairs, fill as plain memory, and share: two threads race for them, and the
+//! program says what they found. Its tests race for longer.
 #![tactic(auto)]
 
 mod pairs;
