@@ -12,9 +12,8 @@ use base.Fml.{Lft, Share, Fml, ftrue, fsep, fex, fbor, flent, flft, fshr_bor, fi
 use mir.Syntax.{w64, ty_int}
 use denote.Builtin.{u64}
 use denote.RawPtr.{Ptr, block_of, count_of, InBlock, coded_ptr}
-use Rattle.libc.specs.Heap.{chunk}
 use Rattle.atomic_table.specs.Seated.{word, fact, seen, roster}
-use Rattle.ell_arena.specs.Blocks.{block_ty}
+use Rattle.ell_arena.specs.Blocks.{block_ty, right_to_free}
 use Rattle.ell_arena.specs.Words.{State, Me}
 
 -- which words these are: how many, where they lie, and what no other words share with them: the names of the entries
@@ -113,7 +112,7 @@ module _ {V : Type 0} (c : V → Gv) (z : WordsId) where
 
     -- what the owner has for the end: all words again, and the right to free their block
     abbrev pub rights : Fml
-    rights = fsep (owed (age z) z.base z.words_name 0 z.count) (chunk (block_ty u64 z.count) z.base)
+    rights = fsep (owed (age z) z.base z.words_name 0 z.count) (right_to_free (block_ty u64 z.count) z.base)
 
 -- that the words last while they are borrowed
 abbrev pub lasts : WordsId → Lft → Fml

@@ -26,12 +26,13 @@ use denote.RawPtr.{Ptr, block_ptr, block_of, count_of, InBlock}
 use denote.Steps.{nothing}
 use Rattle.core.specs.Sync.RawAtomic.{asks, always}
 use Rattle.core.proofs.tally.Steps.{word_out}
-use Rattle.libc.specs.Heap.{chunk}
+use Rattle.std.specs.Global.{Global}
+use Rattle.std.specs.contracts.impls.GlobalAllocator.TheImpl.{ghosts}
 use Rattle.atomic_table.specs.Table.{Act, carried_after, Valid}
 use Rattle.atomic_table.specs.Seated.{word, fact, seen, roster, halved, unused}
 use Rattle.atomic_table.proofs.Lists.{set_again}
 use Rattle.atomic_table.proofs.Roster.{Moved, moves, Joined, joins, apart, resets}
-use Rattle.ell_arena.specs.Blocks.{block_ty, Fits, block_owns}
+use Rattle.ell_arena.specs.Blocks.{block_ty, Fits, block_owns, right_to_free}
 use Rattle.ell_arena.specs.Words.{State, Me, written, IsShared, unwritten, opening, stepped, Allows, Splits, Joins}
 use Rattle.ell_arena.specs.Ownership.{WordsId, age, content, told, holding, held, tracked, shelf, carried, owed, mine, Good, standing, inner, Placed, common, rights, words_own}
 use Rattle.ell_arena.proofs.lemmas.Borrows as borrows
@@ -251,11 +252,16 @@ module _ {M : Type 1} {𝓤 : Ura M} (𝓛 : Logic 𝓤) {V : Type 0} (cv : Code
   unfolding Rattle.ell_arena.specs.Ownership.seal
   lies = qed 𝓛 (‵ (flft κ full_share) ∷ ‵ (common cv.code z holds) ∷ ‵ (rights cv.code z holds) ∷ []) ∵ move ! (1 ∷ []) $ fsplit ! $ fpick ! (λ at. check ! at $ fpack ! (Placed z) (λ _. ftrue) at $ fjoin ! $ move ! (1 ∷ 0 ∷ []) $ done !)
 
-  pub ends : ⟦ words_own cv.code z holds ⟧ ⊢ H.⇛ (guard 𝓤 (Placed z) ⟦ block_owns u64 chunk z.base [] z.count ⟧)
+  -- what one handle to the heap may free, any other may
+  any_handle : (heap : Global) → ⟦ right_to_free (block_ty u64 z.count) z.base ⟧ ⊢ ⟦ ghosts.dealloc_token heap (block_ty u64 z.count) z.base ⟧
+  any_handle heap = qed 𝓛 (‵ (right_to_free (block_ty u64 z.count) z.base) ∷ []) ∵ fpick ! (λ _. done !)
+
+  pub ends : (heap : Global) → ⟦ words_own cv.code z holds ⟧ ⊢ H.⇛ (guard 𝓤 (Placed z) ⟦ block_owns u64 (ghosts.dealloc_token heap) z.base [] z.count ⟧)
   unfolding Rattle.ell_arena.specs.Ownership.seal
-  ends = qed 𝓛 (‵ (flft κ full_share) ∷ ‵ (common cv.code z holds) ∷ ‵ (rights cv.code z holds) ∷ []) ∵ updating ! $ lft_end ! tt $ move ! (1 ∷ []) $ fsplit ! $ fpick ! (λ at. drop ! $ drop ! $ move ! (1 ∷ []) $ fsplit ! $ move ! (2 ∷ 0 ∷ []) $
+  ends heap = qed 𝓛 (‵ (flft κ full_share) ∷ ‵ (common cv.code z holds) ∷ ‵ (rights cv.code z holds) ∷ []) ∵ updating ! $ lft_end ! tt $ move ! (1 ∷ []) $ fsplit ! $ fpick ! (λ at. drop ! $ drop ! $ move ! (1 ∷ []) $ fsplit ! $
+      move ! (1 ∷ []) $ use1 𝓛 (‵ (ghosts.dealloc_token heap (block_ty u64 z.count) z.base)) (any_handle heap) $ move ! (2 ∷ 1 ∷ []) $
       use2 𝓛 (later (‵ (froom (ty_array (bare (lone u64.mir)) z.count) b (0 * 8 + o)))) (collects z.count 0 (0 * 8 + o) refl) $ await ! tt $ let long : z.count ≡ 0 + z.count = omega arith in
-      rewrite ! 1 (λ (n : ℕ). ‵ (chunk (block_ty u64 n) z.base)) long refl $ nothing ! $ nothing ! $ fpack ! (InBlock z.base × Fits u64 (0 + z.count)) (λ _. ftrue) (at.0, subst (Fits u64) long at.1) $
+      rewrite ! 1 (λ (n : ℕ). ‵ (ghosts.dealloc_token heap (block_ty u64 n) z.base)) long refl $ nothing ! $ nothing ! $ fpack ! (InBlock z.base × Fits u64 (0 + z.count)) (λ _. ftrue) (at.0, subst (Fits u64) long at.1) $
       now ! $ check ! at $ keep ! (0 ∷ 1 ∷ 2 ∷ 3 ∷ []) $ done !)
 
 -- ---- the start
@@ -311,16 +317,16 @@ opening_views : {V : Type 0} (v : V) (ns : List ℕ) (left : ℕ) → (opening n
 opening_views v [] left = refl
 opening_views v (n ∷ ns) left = refl
 
-module _ {M : Type 1} {𝓤 : Ura M} (𝓛 : Logic 𝓤) {V : Type 0} (cv : Coded V) (holds : State V → Type 0) (p : Ptr) (ns : List ℕ) (left : ℕ) (v : V) where
+module _ {M : Type 1} {𝓤 : Ura M} (𝓛 : Logic 𝓤) {V : Type 0} (cv : Coded V) (holds : State V → Type 0) (heap : Global) (p : Ptr) (ns : List ℕ) (left : ℕ) (v : V) where
   open 𝓛 use {H}
 
   abbrev pub Begun : WordsId → SProp 𝓤
   Begun z = guard 𝓤 ((z.base ≡ p) × (z.count ≡ length ns + left) × InBlock p) (sep 𝓤 (sem 𝓛 (words_own cv.code z holds)) (sem 𝓛 (mine cv.code z 0 (v, []))))
 
-  pub begins : holds (opening ns left v) → ent 𝓤 (sem 𝓛 (block_owns u64 chunk p ns left)) (H.⇛ (ex 𝓤 Begun))
+  pub begins : holds (opening ns left v) → ent 𝓤 (sem 𝓛 (block_owns u64 (ghosts.dealloc_token heap) p ns left)) (H.⇛ (ex 𝓤 Begun))
   unfolding Rattle.ell_arena.specs.Ownership.seal
   begins good = let s₀ : State V = opening ns left v in let b : ℕ = block_of p in let o : ℕ = count_of p in let n : ℕ = length ns + left in
-      qed 𝓛 (‵ (block_owns u64 chunk p ns left) ∷ []) ∵ updating ! $ fsplit3 ! $ fpick ! (λ so. drop ! $ move ! (1 ∷ []) $ fsplit ! $
+      qed 𝓛 (‵ (block_owns u64 (ghosts.dealloc_token heap) p ns left) ∷ []) ∵ updating ! $ fsplit3 ! $ fpick ! (λ so. drop ! $ move ! (1 ∷ []) $ fsplit ! $
       -- [the room; the token; the words]
       use0 𝓛 (later (some (λ (ω : ℕ). ‵ (entries_from halved ω 0 (λ _. (full_share, coded_ℕ.code 0)))))) (via 𝓤 _ (entries_new halved 𝓛 0 (λ _. (full_share, coded_ℕ.code 0))) (basic 𝓛 (ex 𝓤 (λ (ω : ℕ). sem 𝓛 (entries_from halved ω 0 (λ _. (full_share, coded_ℕ.code 0))))))) $ await ! tt $ pick ! (λ ω.
       lft_new ! tt (λ a. let κ : Lft = a ∷ [] in
@@ -335,4 +341,4 @@ module _ {M : Type 1} {𝓤 : Ura M} (𝓛 : Logic 𝓤) {V : Type 0} (cv : Code
       move ! (2 ∷ 0 ∷ []) $ use2 𝓛 (‵ I) (packs 𝓛 cv holds z s₀ (good, opening_long v ns left)) $ bor_new ! tt κ $ use1 𝓛 (later (‵ (finv (fbor κ I)))) (𝓛.invs.inv_new (fbor κ I)) $ await ! tt $
       nothing ! $ fpack ! (Placed z) (λ _. ftrue) (so.0, so.1) $ fjoin ! $
       -- [what is common; the borrow's right; the view; the owed; the lifetime; the token]
-      move ! (3 ∷ 5 ∷ []) $ fjoin ! $ move ! (4 ∷ 1 ∷ 0 ∷ []) $ fjoin3 ! $ nothing ! $ move ! (3 ∷ 0 ∷ []) $ fjoin ! $ now ! $ show ! Begun z $ check ! (refl, refl, so.0) $ keep ! (1 ∷ 0 ∷ []) $ done !))))
+      move ! (5 ∷ []) $ fpack ! Global (λ h. ghosts.dealloc_token h (block_ty u64 n) p) heap $ move ! (4 ∷ 0 ∷ []) $ fjoin ! $ move ! (4 ∷ 1 ∷ 0 ∷ []) $ fjoin3 ! $ nothing ! $ move ! (3 ∷ 0 ∷ []) $ fjoin ! $ now ! $ show ! Begun z $ check ! (refl, refl, so.0) $ keep ! (1 ∷ 0 ∷ []) $ done !))))

@@ -6,7 +6,7 @@ use base.Fml.{Lft}
 use base.Shift.{Keyless}
 use types.Keyed.{entry_keyless}
 use denote.RawPtr.{Ptr, block_of, count_of}
-use Rattle.libc.specs.Heap.{chunk-Keyless}
+use Rattle.std.proofs.Crossing.{frees}
 use Rattle.atomic_table.specs.Seated.{halved}
 use Rattle.atomic_table.proofs.Sent.{roster_keyless}
 use Rattle.ell_arena.specs.Words.{State, Me}
@@ -49,7 +49,7 @@ module _ {V : Type 0} (c : V → Gv) (z : WordsId) where
 
     pub owns_keyless : Keyless (words_own c z holds)
     unfolding Rattle.ell_arena.specs.Ownership.seal
-    owns_keyless = (tt, (((λ _. tt), inner_keyless), (owed_keyless (age z) z.base z.words_name 0 z.count, chunk-Keyless _ z.base)))
+    owns_keyless = (tt, (((λ _. tt), inner_keyless), (owed_keyless (age z) z.base z.words_name 0 z.count, λ heap. frees.frees heap _ z.base)))
 
     pub shares_keyless : (ν : Lft) → Keyless (words_share c z holds ν)
     unfolding Rattle.ell_arena.specs.Ownership.seal

@@ -68,7 +68,7 @@ open_spec 𝓤 𝓛 𝓜 𝓡 wired U Q P _ _ _ g d _ =
     let us : Ptr → List Val = λ u. vptr a.0.ref_ptr.0 a.0.ref_ptr.1 ∷ block_val u ∷ [] in let Run : List Val → SProp 𝓤 = λ ws. WpFn 𝓤 H 𝓣.C 𝓣.Λ fn ws Post in let at : p ≡ p' = at_block p so.0 in
     suffices ! (Run (us p')) (subst (λ (u : Ptr). ent 𝓤 (Run (us p')) (Run (us u))) (sym at) (id⊢ 𝓤 (Run (us p')))) $
     enter ! 𝓣.C 𝓣.Λ fn (us p') Post $ alloc_all ! (λ l. pass_all ! refl ((tt, tt), (block_good p', tt)) $ let Ev = env fn.locals l in
-    use1 𝓛 (later (some (λ (z : WordsId). given ((z.base ≡ p) × (z.count ≡ length ns + left) × InBlock p) (‵ (words_own cv.code z holds) ⊛ ‵ (mine cv.code z 0 (v, [])))))) (moves.begins 𝓛 cv holds p ns left v good) $ await ! tt $ pick ! (λ z. learn ! (λ is. split ! $
+    use1 𝓛 (later (some (λ (z : WordsId). given ((z.base ≡ p) × (z.count ≡ length ns + left) × InBlock p) (‵ (words_own cv.code z holds) ⊛ ‵ (mine cv.code z 0 (v, [])))))) (moves.begins 𝓛 cv holds x.heap p ns left v good) $ await ! tt $ pick ! (λ z. learn ! (λ is. split ! $
     let w : Row.Denot = record { marker = record {}; id = z; key = key } in let r : Sr.Denot = record { marker = record {}; words = z; id = 0; me = (v, []) } in let k : Lk.Denot = record { ptr = p' } in
     sets ! (of_opd ! (get_in ! (fld ! refl (stop !)) (sub ! 0 refl (all_of_it !)))) refl (tt, tt) $
     sets ! (agg ! (no_more !)) refl (tt, tt) $ sets ! (agg ! (and_then ! (get ! refl) (no_more !))) refl (tt, (tt, tt)) $ sets ! (agg ! (no_more !)) refl (tt, tt) $ sets ! (agg ! (and_then ! (get ! refl) (no_more !))) refl (tt, (tt, tt)) $
