@@ -19,12 +19,12 @@ pub record AnsweredInRun (plan : TablePlan) (s : TableState) (turns : List Turn)
   pub earlier : List Turn
   pub during : List Turn
   pub later : List Turn
-  pub is : turns ≡ earlier ++ Makes seat (call.Begin op) ∷ (during ++ Makes seat (call.Answer said) ∷ later)
   pub from : TableState
   pub begun : TableState
   pub at : TableState
   pub led : TableRun plan s earlier from
   pub called : IsCalled plan from seat op begun during at said
+  pub is : turns ≡ earlier ++ Makes seat (call.Begin op) ∷ (during ++ Makes seat (call.Answer said called.took) ∷ later)
   pub since : TableRun plan called.ended later s'
   pub point : RepliesAsOneThread plan s seat op begun during at said
 

@@ -150,7 +150,7 @@ abbrev pub after : Call → ℕ → View → View
 after (call.Begin op) n v = after_begin (Some op) v
 after call.Again n v = after_again v
 after call.Leave n v = after_leave v
-after (call.Answer said) n v = after_answer said v
+after (call.Answer said took) n v = after_answer said took v
 after (call.Upd x) n v = after_upd x (unpacked n) v
 after (call.Down x right) n v = counted (record v {
   worker = record (v.worker) {
@@ -202,7 +202,7 @@ abbrev pub May : TablePlan → Call → View → Type 0
 May plan (call.Begin op) v = MayBegin v op
 May plan call.Again v = MayStop (worker_of v.worker)
 May plan call.Leave v = MayStop (worker_of v.worker)
-May plan (call.Answer said) v = MayAnswer v said
+May plan (call.Answer said took) v = MayAnswer v said took
 May plan (call.Upd x) v = MayRead v x
 May plan (call.Down x right) v = MayGoDown v x right
 May plan call.Next v = Unit {0}
@@ -229,7 +229,7 @@ abbrev pub act_of : Call → ℕ → Option Act
 act_of (call.Begin op) n = Some (act.Begin op)
 act_of call.Again n = Some act.Again
 act_of call.Leave n = Some act.Leave
-act_of (call.Answer said) n = Some act.Answer
+act_of (call.Answer said took) n = Some act.Answer
 act_of (call.Upd x) n = Some act.Upd
 act_of (call.Down x right) n = Some act.Down
 act_of (call.Claim c node) n = if n == c then Some act.Claim else None
@@ -250,7 +250,7 @@ said_by _ n = Moved
 
 -- what the machine answers to the act of a call
 abbrev pub said_of : Call → ℕ → Stepped
-said_of (call.Answer said) n = Answered said
+said_of (call.Answer said took) n = Answered said
 said_of (call.Claim c node) n = Moved
 said_of c n = said_by (atomic_of c) n
 
@@ -286,8 +286,8 @@ TellsNode last _ x = Unit {0}
 
 -- what a call tells of the word that it found
 abbrev pub Tells : TablePlan → Call → View → ℕ → Type 0
-Tells plan (call.Answer said) v n =
-    AnswersAsMap (worker_of v.worker) (ledger_of (after (call.Answer said) n v).worker.ledger) said
+Tells plan (call.Answer said took) v n =
+    AnswersAsMap (worker_of v.worker) (ledger_of (after (call.Answer said took) n v).worker.ledger) said
     × (v.next_at_least ≤ plan.last_card + 1)
 Tells plan call.Leave v n = v.next_at_least ≤ plan.last_card + 1
 Tells plan (call.Upd x) v n = ((unpacked n).card ≤ plan.last_card) × EndWasUnknown v (unpacked n).state (unpacked n).card

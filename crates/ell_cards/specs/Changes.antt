@@ -34,7 +34,6 @@ use Rattle.ell_core.specs.declared.view.Entry.TheVariants.{Present, Absent}
 use Rattle.ell_ops.specs.declared.reply.Reply.{Reply}
 use Rattle.ell_ops.specs.declared.reply.Reply.TheVariants.{Yes, Found}
 use Rattle.ell_cards.specs.declared.view.Answered.{Answered}
-use Rattle.ell_cards.specs.declared.view.Deed.{Deed}
 use Rattle.ell_word.specs.Link.{link_in}
 use Rattle.ell_cards.specs.declared.call.NewNode.{NewNode}
 
@@ -196,53 +195,10 @@ answered_ledger _ _ ledger = ledger
 abbrev pub answered_so : Option Op → Option ℕ → Reply → Option ℕ → Option Answered
 answered_so op card said took = option_map (λ o. record { op = o; said = said; card = card; took = took }) op
 
--- the leaf that an entry tells of a card, and the value that it tells of a leaf
-abbrev pub tells_leaf_of : ℕ → Told → Option ℕ
-tells_leaf_of c (Info d L leaf) = if d == c then Some leaf else None
-tells_leaf_of c _ = None
-
-abbrev pub tells_value_of : ℕ → Told → Option ℕ
-tells_value_of leaf (Value x value) = if x == leaf then Some value else None
-tells_value_of leaf _ = None
-
--- what entries tell so, the last time
-abbrev pub last_told : (Told → Option ℕ) → List Told → Option ℕ
-last_told tells [] = None
-last_told tells (e ∷ told) = option_or (tells e) (last_told tells told)
-
--- the value that an operation took by its card, as its pass was told: a delete that says yes took that of the card's
--- leaf, and no other took anything
-unfoldable pub taken_by : Option Op → Option ℕ → Reply → List Told → Option ℕ
-taken_by (Some (Delete key)) (Some c) Yes told =
-    option_and_then (λ leaf. last_told (tells_value_of leaf) told) (last_told (tells_leaf_of c) told)
-taken_by _ _ _ told = None
-
--- the same of a pass that answers now
-abbrev pub taken_now : Reply → View → Option ℕ
-taken_now said v = taken_by v.worker.operation v.worker.card said v.told
-
--- a call that is answered now, and took nothing: all that its pass knows of had ended before it began
-abbrev pub deed_of : Op → Reply → List Deed → Deed
-deed_of op said answers = record { op = op; said = said; took = None; before = length answers; own = true }
-
--- and one that took this
-abbrev pub deed_taking : Op → Reply → Option ℕ → List Deed → Deed
-deed_taking op said took answers = record (deed_of op said answers) { took = took }
-
--- what was answered, with the answer to the operation that was in hand
-abbrev pub with_answer : Option Op → Reply → Option ℕ → List Deed → List Deed
-with_answer None said took answers = answers
-with_answer (Some op) said took answers = deed_taking op said took answers ∷ answers
-
--- what was answered before a pass was parted, as the right part knows of it
-abbrev pub inherited : List Deed → List Deed
-inherited answers = map (λ (d : Deed). record d { own = false }) answers
-
 -- answer: nothing is in hand any more, the ledger goes by the answer, and the pass has it for its last
-abbrev pub after_answer : Reply → View → View
-after_answer said v = counted (record (at_rest (answered_ledger v.worker.operation said v.worker.ledger) v) {
-  answered = answered_so v.worker.operation v.worker.card said (taken_now said v);
-  answers = with_answer v.worker.operation said (taken_now said v) v.answers;
+abbrev pub after_answer : Reply → Option ℕ → View → View
+after_answer said took v = counted (record (at_rest (answered_ledger v.worker.operation said v.worker.ledger) v) {
+  answered = answered_so v.worker.operation v.worker.card said took;
 })
 
 -- upd: this update was read at the node where the pass stands
@@ -395,7 +351,6 @@ idle_view share worker = record {
   laid_down = None;
   hindrances = [];
   met = [];
-  answers = [];
   hindered = 0;
   looks = 0;
   made = 0;
@@ -427,7 +382,6 @@ right_view keys v = record (idle_view (given_share v.share)
     (at_rest (filter (λ e. not (set_of keys e.0)) v.worker.ledger) v).worker) {
       knew_before = v.knew_before;
       next_at_least = v.next_at_least;
-      answers = inherited v.answers;
     }
 
 -- an entry put into an ascending ledger at its place, or in place of that of its key
@@ -455,7 +409,6 @@ joined_view v w = record (idle_view ((v.share + w.share) % 2 ^ 64)
       hindrances = v.hindrances ++ w.hindrances;
       next = later_reading v.next w.next;
       next_at_least = max v.next_at_least w.next_at_least;
-      answers = v.answers ++ w.answers;
       hindered = v.hindered + w.hindered;
       looks = v.looks + w.looks;
       made = v.made + w.made + 1;

@@ -34,7 +34,8 @@ pub record IsCalled (plan : TablePlan) (s : TableState) (seat : ℕ) (op : Op) (
   pub begins : CallIsMade plan s seat (call.Begin op) begun
   pub run : TableRun plan begun turns s'
   pub on : KeepOn seat turns
-  pub answers : CallIsMade plan s' seat (call.Answer said) ended
+  pub took : Option ℕ
+  pub answers : CallIsMade plan s' seat (call.Answer said took) ended
 
 -- the answer is that on what the tree had of the key in one state of the call; no other is an insert's or a delete's no
 pub record SaysWhatWas (plan : TablePlan) (op : Op) (begun : TableState) (turns : List Turn) (s' : TableState)

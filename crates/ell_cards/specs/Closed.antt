@@ -12,8 +12,15 @@ use Rattle.ell_cards.specs.States.{TableState}
 use Rattle.ell_cards.specs.Starts.{IsReached, IsSharedIn, RunFromStart}
 use Rattle.ell_core.specs.declared.view.Entry.{Entry}
 use Rattle.ell_core.specs.declared.view.Entry.TheVariants.{Present}
-use Rattle.ell_cards.specs.Models.{TablePlan}
+use Rattle.ell_cards.specs.Models.{PassModel, TablePlan}
 use Rattle.ell_cards.specs.Shown.{shown}
+use Rattle.ell_cards.specs.declared.view.Event.{Event}
+use Rattle.ell_cards.specs.Changing.{HasMap}
+use Rattle.ell_cards.specs.Linearizing.{ops_of}
+use Rattle.ell_cards.specs.Seeing.{HasSeenAll}
+use Rattle.ell_cards.specs.Sights.{IsPart}
+use Rattle.ell_ops.specs.Contents.{Contents, contents_of}
+use Rattle.ell_ops.specs.Meaning.{final}
 
 -- the words of a table that has ended, and how many cards it has beside card 0
 pub record ClosedModel : Type 0 where
@@ -50,3 +57,17 @@ pub record TableRan (plan : TablePlan) (v : View) (t : ClosedModel) : Type 0 whe
 pub record TableEnds (plan : TablePlan) (v : View) (t : ClosedModel) : Type 0 where
   pub ran : TableRan plan v t
   pub shows : ShowsMap plan v.worker.ledger t
+
+-- what a pass knows that closes a table: all of its history, which goes on from what the pass had seen; and the map
+-- that the calls of the history leave in their order
+pub record EndsHistory (plan : TablePlan) (p : PassModel) (left : Contents) : Type 0 where
+  pub seen : List Event
+  pub more : IsPart p.sight.seen seen
+  pub all : HasSeenAll plan p.view (record p.sight { seen = seen })
+  pub leaves : left ≡ final (contents_of plan.start) (ops_of all.linear.order)
+
+-- that map is the tree of the table's words
+pub record HistoryEnds (plan : TablePlan) (p : PassModel) (t : ClosedModel) : Type 0 where
+  pub left : Contents
+  pub is : HasMap (words_of t.words) left
+  pub ends : EndsHistory plan p left

@@ -1,4 +1,4 @@
-use Rattle.std.specs.Prelude.{◌≡◌, ◌≢◌, ℕ, ◌≤◌, ◌⊎◌, ◌==◌, nat_le, nat_lt, Bool, true, false, Option, Some, None}
+use Rattle.std.specs.Prelude.{◌≡◌, ◌≢◌, ℕ, ◌≤◌, ◌⊎◌, ◌==◌, nat_le, nat_lt, Bool, true, false, Option, Some, None, IfSome}
 use Rattle.ell_ops.specs.declared.op.Op.{Op}
 use Rattle.ell_ops.specs.declared.op.Op.TheVariants.{Find, Insert, Delete, Swap}
 use Rattle.ell_ops.specs.Meaning.{key_of}
@@ -26,6 +26,7 @@ use Rattle.ell_cards.specs.declared.view.View.{View}
 use Rattle.ell_cards.specs.Sayings.{put_says, delete_says}
 use Rattle.ell_cards.specs.Models.{IsTold, Knows, KnowsDelete, Does, StandsAt, IsFree, HasCome, HasComeWhole, stored_at}
 use Rattle.ell_ops.specs.declared.reply.Reply.{Reply}
+use Rattle.ell_ops.specs.declared.reply.Reply.TheVariants.{Yes}
 use Rattle.ell_core.specs.soundness.Sound.{MayChange}
 use Rattle.ell_core.specs.statements.Effects.{reply_of_change}
 use Rattle.ell_word.specs.declared.link.Link.{Link}
@@ -66,11 +67,23 @@ pub record KnowsAnswerByCard (v : View) (op : Op) (said : Reply) : Type 0 where
   pub over : CardIsOver v op card
   pub says : said ≡ reply_of_change op
 
--- answer: an operation is in hand, and has this answer
-pub record MayAnswer (v : View) (said : Reply) : Type 0 where
+-- a delete that says yes took this value: its pass was told it of the leaf of the card that it has in hand
+pub record TakesBy (v : View) (op : Op) (said : Reply) (value : ℕ) : Type 0 where
+  pub key : ℕ
+  pub card : ℕ
+  pub leaf : ℕ
+  pub deletes : op ≡ Delete key
+  pub says : said ≡ Yes
+  pub holds : v.worker.card ≡ Some card
+  pub at_leaf : IsTold v (Info card field.L leaf)
+  pub at_value : IsTold v (Value leaf value)
+
+-- answer: an operation is in hand, has this answer, and took this value, if it took one
+pub record MayAnswer (v : View) (said : Reply) (took : Option ℕ) : Type 0 where
   pub op : Op
   pub busy : Does v op
   pub answers : KnowsAnswerAtLeaf v op said ⊎ KnowsAnswerByCard v op said
+  pub takes : IfSome took (TakesBy v op said)
 
 -- upd: the pass stands at this internal node, and has not read its update word
 pub record MayRead (v : View) (x : ℕ) : Type 0 where

@@ -100,10 +100,10 @@ pub mod Answering
 pub mod Taking
 -- calls that were laid down
 pub mod LayingDown
--- what passes were answered, as of one thread
-pub mod Accounts
 -- the places of looks in the sequence of calls
 pub mod Placing
+-- and in the history that passes have seen
+pub mod LookPlaces
 -- what its public clauses cite of the crates below
 pub use Rattle.ell_ops.specs.KeySet
 -- What step calls touch, and what was there before.

@@ -29,7 +29,8 @@ pub record IsAnswered (turns : List Turn) (begin end : ℕ) (op : Op) (said : Re
   pub begins : get_elem? turns begin ≡ some (Makes seat (call.Begin op))
   pub later : begin < end
   pub on : KeepsOnBetween seat turns begin end
-  pub answers : get_elem? turns end ≡ some (Makes seat (call.Answer said))
+  pub took : Option ℕ
+  pub answers : get_elem? turns end ≡ some (Makes seat (call.Answer said took))
 
 -- after so many turns of a run the table is in this state, and this is its next turn
 pub record IsTurn (plan : TablePlan) (s : TableState) (turns : List Turn) (k : ℕ) (state : TableState)
@@ -120,7 +121,8 @@ pub record EndsACall (turns : List Turn) (end : ℕ) (said : Reply) : Type 0 whe
 
 -- so is each answer
 abbrev pub AnswersEndCalls : List Turn → Type 0
-AnswersEndCalls turns = (seat end : ℕ) (said : Reply) → get_elem? turns end ≡ some (Makes seat (call.Answer said))
+AnswersEndCalls turns = (seat end : ℕ) (said : Reply) (took : Option ℕ)
+    → get_elem? turns end ≡ some (Makes seat (call.Answer said took))
     → EndsACall turns end said
 
 -- a change of the tree is that of a call which began in an earlier turn

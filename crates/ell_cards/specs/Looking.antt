@@ -186,8 +186,3 @@ LooksReadTheirOwn = (plan : TablePlan) (s : TableState) → IsReached plan s →
 -- a pass was told no two keys of one node: the key of a node never changes
 abbrev pub KeysAreFixed : View → Type 0
 KeysAreFixed v = (node key other : ℕ) → IsTold v (Key node key) → IsTold v (Key node other) → key ≡ other
-
--- and no two leaves of one card, and no two values of one leaf
-pub record ValuesAreFixed (v : View) : Type 0 where
-  pub leaf : (c leaf other : ℕ) → IsTold v (Info c field.L leaf) → IsTold v (Info c field.L other) → leaf ≡ other
-  pub value : (leaf value other : ℕ) → IsTold v (Value leaf value) → IsTold v (Value leaf other) → value ≡ other

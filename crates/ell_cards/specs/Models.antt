@@ -133,9 +133,9 @@ BeginsBy slots old new v = new ≡ record old {
   sight = new.sight;
 }
 
--- or by which it began a look, and did not count the step
+-- or by which it began a look, and did not count the step: it knows more of the history
 abbrev pub LooksBy : Option Slots → PassModel → PassModel → View → Type 0
-LooksBy slots old new v = new ≡ record old { view = v; inside = is_some slots }
+LooksBy slots old new v = new ≡ record old { view = v; inside = is_some slots; sight = new.sight }
 
 -- or by which it ended what it had begun: it is in no period
 abbrev pub EndsBy : PassModel → PassModel → View → Type 0

@@ -1,6 +1,7 @@
 use Rattle.std.specs.Prelude.{◌≡◌, ℕ, ◌<◌, ◌≤◌, Option, List, length, take}
 use Rattle.ell_ops.specs.Contents.{Contents, contents_of}
 use Rattle.ell_ops.specs.Meaning.{final}
+use Rattle.ell_layout.specs.Words.{Words}
 use Rattle.ell_cards.specs.Models.{TablePlan}
 use Rattle.ell_cards.specs.States.{TableState}
 use Rattle.ell_cards.specs.Turns.{Turn, TableRun}
@@ -8,13 +9,18 @@ use Rattle.ell_cards.specs.Starts.{Starts}
 use Rattle.ell_cards.specs.Looking.{FoundInRun, HasThere}
 use Rattle.ell_cards.specs.Linearizing.{IsAnswered, Item, ops_of, StandsIn, IsLinearized}
 
--- after so many turns of a run the pass in a seat has found this of a key, by a look or by a scan: it was so in one
--- state since the look or the scan began
-pub record IsLook (plan : TablePlan) (s : TableState) (turns : List Turn) (ended key : ℕ) (there : Option ℕ) : Type 0 where
+-- after so many turns of a run the pass in a seat has found this, by a look or by a scan: it was so in one state since
+-- the look or the scan began
+pub record IsLookFor (plan : TablePlan) (s : TableState) (turns : List Turn) (ended : ℕ) (what : Words → Type 0)
+    : Type 0 where
   pub inside : ended ≤ length turns
   pub seat : ℕ
   pub state : TableState
-  pub found : FoundInRun plan s (take ended turns) state seat (HasThere key there)
+  pub found : FoundInRun plan s (take ended turns) state seat what
+
+-- it has found this of a key
+abbrev pub IsLook : TablePlan → TableState → List Turn → ℕ → ℕ → Option ℕ → Type 0
+IsLook plan s turns ended key there = IsLookFor plan s turns ended (HasThere key there)
 
 -- the turn in which it began
 abbrev pub began : (plan : TablePlan) (s : TableState) (turns : List Turn) (ended key : ℕ) (there : Option ℕ)

@@ -9,7 +9,7 @@ use Rattle.ell_cards.specs.declared.call.Call.{Call}
 use Rattle.ell_cards.specs.declared.call.Call.TheVariants as call
 use Rattle.ell_cards.specs.declared.view.Act.{Act}
 use Rattle.ell_cards.specs.declared.view.Event.{Event}
-use Rattle.ell_cards.specs.declared.view.Event.TheVariants.{Begins, Ends}
+use Rattle.ell_cards.specs.declared.view.Event.TheVariants.{Begins, Ends, Looks}
 use Rattle.ell_cards.specs.declared.view.Known.{Known}
 use Rattle.ell_cards.specs.declared.view.Sight.{Sight}
 use Rattle.ell_cards.specs.declared.view.View.{View}
@@ -22,12 +22,17 @@ use Rattle.ell_cards.specs.Sights.{IsPart}
 abbrev pub BeganAt : List Event → ℕ → ℕ → Type 0
 BeganAt history seat b = (op : Op) × (get_elem? history b ≡ some (Begins seat op))
 
--- what the pass in a seat has seen is a beginning of the history, in which it began an operation where it says, and its
--- calls are calls of the history
+-- or a look
+abbrev pub LookedAt : List Event → ℕ → ℕ → Type 0
+LookedAt history seat n = get_elem? history n ≡ some (Looks seat)
+
+-- what the pass in a seat has seen is a beginning of the history, in which it began an operation and a look where it
+-- says, and its calls are calls of the history
 pub record HasSeen (history : List Event) (seat : ℕ) (g : Sight) : Type 0 where
   pub part : IsPart g.seen history
   pub began : (b : ℕ) → g.begun ≡ Some b → BeganAt history seat b
-  pub mine : (a : Act) → Has g.mine a → IsCall history a.begin a.end a.op a.said
+  pub looks : (n : ℕ) → g.looked ≡ Some n → LookedAt history seat n
+  pub mine : (a : Act) → Has g.mine a → IsCall history a.begin a.end a.op a.said a.took
 
 -- so it is of each pass of a table
 abbrev pub AllHaveSeen : List Event → List Known → Type 0
@@ -42,17 +47,12 @@ pub record IsMadeBy (views : List Known) (a : Act) : Type 0 where
 
 -- each call of the history is one that a pass answered
 abbrev pub AreMade : List Event → List Known → Type 0
-AreMade history views = (begin end : ℕ) (op : Op) (said : Reply) → IsCall history begin end op said
-    → IsMadeBy views (record { begin = begin; end = end; op = op; said = said })
-
--- no call of a list begins there
-abbrev pub BeginsElse : ℕ → List Act → Type 0
-BeginsElse begin mine = (a : Act) → Has mine a → a.begin ≢ begin
+AreMade history views = (a : Act) → IsCall history a.begin a.end a.op a.said a.took → IsMadeBy views a
 
 -- each call of a list stands in it once: no two of its calls begin together
 abbrev pub AreApart : List Act → Type 0
 AreApart [] = Unit {0}
-AreApart (a ∷ mine) = BeginsElse a.begin mine × AreApart mine
+AreApart (a ∷ mine) = ((b : Act) → Has mine b → b.begin ≢ a.begin) × AreApart mine
 
 -- and in the lists of all passes of a table
 pub record AreAllApart (views : List Known) : Type 0 where
@@ -60,10 +60,14 @@ pub record AreAllApart (views : List Known) : Type 0 where
   pub others : (i j : ℕ) (k l : Known) → get_elem? views i ≡ some k → get_elem? views j ≡ some l → i ≢ j
       → (a b : Act) → Has k.sight.mine a → Has l.sight.mine b → a.begin ≢ b.begin
 
--- a pass that was answered nothing has no calls
-abbrev pub AreSilent : List Known → Type 0
-AreSilent views =
-    (seat : ℕ) (k : Known) → get_elem? views seat ≡ some k → k.tree.answers ≡ [] → k.sight.mine ≡ []
+-- a pass has nothing left of a table that shares its keys: it takes none for a shared one
+abbrev pub IsSpentIn : TablePlan → View → Type 0
+IsSpentIn plan v = (plan.shared ≡ true) × (v.worker.shared ≡ None)
+
+-- such a pass has no calls
+abbrev pub AreSilent : TablePlan → List Known → Type 0
+AreSilent plan views =
+    (seat : ℕ) (k : Known) → get_elem? views seat ≡ some k → IsSpentIn plan k.tree → k.sight.mine ≡ []
 
 -- the operation that an event begins, if the pass in the seat begins one there
 abbrev pub begin_in : ℕ → Event → Option (ℕ × Op)
@@ -76,20 +80,23 @@ last_begin seat [] = None
 last_begin seat (e ∷ es) = option_or (option_map (λ x. (x.0 + 1, x.1)) (last_begin seat es)) (begin_in seat e)
 
 -- the calls with one more, which ends here
-abbrev pub with_act : Option (ℕ × Op) → ℕ → Reply → List Act → List Act
-with_act None end said mine = mine
-with_act (Some b) end said mine = record { begin = b.0; end = end; op = b.1; said = said } ∷ mine
+abbrev pub with_act : Option (ℕ × Op) → ℕ → Reply → Option ℕ → List Act → List Act
+with_act None end said took mine = mine
+with_act (Some b) end said took mine =
+    record { begin = b.0; end = end; op = b.1; said = said; took = took } ∷ mine
 
--- what a pass notes of the history, which is this up to its step: where it begins an operation or answers it, it has
--- seen all of it
+-- what a pass notes of the history, which is this up to its step: where it begins an operation or a look, or answers an
+-- operation, it has seen all of it
 abbrev pub marked : Call → ℕ → List Event → Sight → Sight
 marked (call.Begin op) seat history g =
     record g { seen = history ++ Begins seat op ∷ []; begun = Some (length history) }
-marked (call.Answer said) seat history g =
+marked (call.Answer said took) seat history g =
     record g {
-      seen = history ++ Ends seat said ∷ [];
-      mine = with_act (last_begin seat history) (length history) said g.mine;
+      seen = history ++ Ends seat said took ∷ [];
+      mine = with_act (last_begin seat history) (length history) said took g.mine;
     }
+marked call.Look seat history g =
+    record g { seen = history ++ Looks seat ∷ []; looked = Some (length history) }
 marked _ seat history g = g
 
 -- The pass begins an operation, and has seen the history up to that: it begins behind all that the pass had seen.
@@ -103,27 +110,40 @@ pub record SeesBegin (op : Op) (old new : Sight) : Type 0 where
 
 -- The pass answers an operation, and has seen the history up to that: its last call is the pass's own, which it began no
 -- earlier than the operation that it had begun last.
-pub record SeesEnd (op : Op) (said : Reply) (old new : Sight) : Type 0 where
+pub record SeesEnd (op : Op) (said : Reply) (took : Option ℕ) (old new : Sight) : Type 0 where
   pub seat : ℕ
   pub before : List Event
   pub more : IsPart old.seen before
-  pub seen : new.seen ≡ before ++ Ends seat said ∷ []
+  pub seen : new.seen ≡ before ++ Ends seat said took ∷ []
   pub begin : ℕ
-  pub call : IsCall new.seen begin (length before) op said
+  pub call : IsCall new.seen begin (length before) op said took
   pub last : (b : ℕ) → old.begun ≡ Some b → b ≤ begin
   pub begun : new.begun ≡ old.begun
-  pub mine : new.mine ≡ record { begin = begin; end = length before; op = op; said = said } ∷ old.mine
+  pub mine : new.mine
+      ≡ record { begin = begin; end = length before; op = op; said = said; took = took } ∷ old.mine
+
+-- The pass begins a look, and has seen the history up to that: it begins behind all that the pass had seen.
+pub record SeesLook (old new : Sight) : Type 0 where
+  pub seat : ℕ
+  pub before : List Event
+  pub more : IsPart old.seen before
+  pub seen : new.seen ≡ before ++ Looks seat ∷ []
+  pub looked : new.looked ≡ Some (length before)
+  pub begun : new.begun ≡ old.begun
+  pub mine : new.mine ≡ old.mine
 
 -- what a pass that knows this of the tree has seen after a step call, where it had seen that before
 abbrev pub Marks : Call → View → Sight → Sight → Type 0
 Marks (call.Begin op) v old new = SeesBegin op old new
-Marks (call.Answer said) v old new = (op : Op) → v.worker.operation ≡ Some op → SeesEnd op said old new
+Marks (call.Answer said took) v old new = (op : Op) → v.worker.operation ≡ Some op → SeesEnd op said took old new
+Marks call.Look v old new = SeesLook old new
 Marks _ v old new = new ≡ old
 
--- a step call that neither begins an operation nor answers one
+-- a step call that neither begins an operation or a look nor answers an operation
 abbrev pub IsCalm : Call → Type 0
 IsCalm (call.Begin op) = ⊥
-IsCalm (call.Answer said) = ⊥
+IsCalm (call.Answer said took) = ⊥
+IsCalm call.Look = ⊥
 IsCalm _ = Unit {0}
 
 -- a pass has seen more of the history, and has the calls that it had
@@ -133,20 +153,21 @@ pub record HasSeenMore (old new : Sight) : Type 0 where
 
 -- What a pass has seen of a call that it was answered: the call began behind all that the pass had seen, it is one of the
 -- history that the pass has seen now, and it is the last one of the pass's calls.
-pub record SeesCall (op : Op) (said : Reply) (old new : Sight) : Type 0 where
+pub record SeesCall (op : Op) (said : Reply) (took : Option ℕ) (old new : Sight) : Type 0 where
   pub begin : ℕ
   pub end : ℕ
   pub after : length old.seen ≤ begin
   pub more : IsPart old.seen new.seen
-  pub call : IsCall new.seen begin end op said
-  pub mine : new.mine ≡ record { begin = begin; end = end; op = op; said = said } ∷ old.mine
+  pub call : IsCall new.seen begin end op said took
+  pub mine : new.mine ≡ record { begin = begin; end = end; op = op; said = said; took = took } ∷ old.mine
 
 -- What a pass knows that has seen all of its table's history up to now: the history is linearizable; the calls that the
 -- pass was answered, it and those that were joined to it, are calls of it, and no two are one; and where only the plan's
 -- keys have owners, and the pass has the whole share and nothing in hand, the order has no others.
 pub record HasSeenAll (plan : TablePlan) (v : View) (g : Sight) : Type 0 where
   pub linear : IsLinearizable (contents_of plan.start) g.seen
-  pub calls : (a : Act) → Has g.mine a → IsCall g.seen a.begin a.end a.op a.said
+  pub calls : (a : Act) → Has g.mine a → IsCall g.seen a.begin a.end a.op a.said a.took
   pub apart : AreApart g.mine
   pub all : plan.shared ≡ true → v.share ≡ whole_share → IsFree v → (item : Item) → HasItem linear.order item
-      → (end : ℕ) × Has g.mine (record { begin = item.begin; end = end; op = item.op; said = item.reply })
+      → (end : ℕ) × (took : Option ℕ)
+      × Has g.mine (record { begin = item.begin; end = end; op = item.op; said = item.reply; took = took })

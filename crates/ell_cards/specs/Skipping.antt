@@ -64,7 +64,6 @@ pub record IsAfterRow (first last : ℕ) (node : NewNode) (old new : View) : Typ
   pub share : new.share ≡ old.share
   pub looks : new.looks ≡ old.looks
   pub glances : new.glances ≡ old.glances
-  pub answers : new.answers ≡ old.answers
   pub answered : new.answered ≡ old.answered
   pub laid_down : new.laid_down ≡ old.laid_down
   pub knew_before : new.knew_before ≡ old.knew_before

@@ -74,7 +74,8 @@ mark_is_lost =
 -- seat 1 finds that its insert was made, and answers
 abbrev pub insert_ends : List Turn
 insert_ends =
-    Makes 1 (call.IChild 3 4 (record { node = 5; tag = 0 }) false false) ∷ Makes 1 (call.IUnflag 3 4) ∷ Makes 1 (call.Answer Yes) ∷ []
+    Makes 1 (call.IChild 3 4 (record { node = 5; tag = 0 }) false false) ∷ Makes 1 (call.IUnflag 3 4) ∷
+    Makes 1 (call.Answer Yes None) ∷ []
 
 -- seat 0 tries again: it searches, and takes card 4
 abbrev pub delete_begins_anew : List Turn
@@ -93,7 +94,7 @@ delete_ends =
     Makes 0 (call.DFlag 4 4 (record { state = state.Clean; card = 3 })) ∷ Makes 0 (call.Mark 4 12 3) ∷ Makes 0
     (call.FrozenChild 4 12 true) ∷
     Makes 0 (call.KeyOf 14) ∷ Makes 0 (call.DChild 4 4 (record { node = 12; tag = 1 }) 14 false)
-    ∷ Makes 0 (call.DUnflag 4 4) ∷ Makes 0 (call.Answer Yes) ∷ []
+    ∷ Makes 0 (call.DUnflag 4 4) ∷ Makes 0 (call.Answer Yes None) ∷ []
 
 -- key 7 alone, and node 4 come to by it
 abbrev pub key_7 : Stretch

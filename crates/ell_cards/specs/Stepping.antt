@@ -25,7 +25,7 @@ use Rattle.ell_cards.specs.LettingGo.{MayLetGo}
 use Rattle.ell_cards.specs.Tied.{HasStoredAll, MayInMemory}
 use Rattle.ell_cards.specs.Turns.{found_by, view_after}
 use Rattle.ell_cards.specs.Starts.{IsReached}
-use Rattle.ell_cards.specs.Looking.{KeysAreFixed, ValuesAreFixed, ReadsItsOwn, MissesItsOwn}
+use Rattle.ell_cards.specs.Looking.{KeysAreFixed, ReadsItsOwn, MissesItsOwn}
 use Rattle.ell_cards.specs.declared.share.Share.{Share}
 use Rattle.ell_cards.specs.Whole.{IsWhole}
 use Rattle.ell_cards.specs.Inside.{HasShare}
@@ -179,17 +179,15 @@ abbrev pub StepsBySome : PassModel → PassModel → Call → Type 0
 StepsBySome old new c = (n : ℕ) × Steps old new (after c n old.view)
 
 -- what a step call that found this word leaves of a pass: what it knows is as the call says, and what the call
--- tells is so; what a look has found of its own keys is what its ledger has; it was told no two keys of one node,
--- nor, before the call, two values of one leaf; the pass owns the keys and has the share that it did, names what is
--- in its table and what may be claimed there, and was told no greater depth of a node than a node of the table may
--- have
+-- tells is so; what a look has found of its own keys is what its ledger has; it was told no two keys of one node; the
+-- pass owns the keys and has the share that it did, names what is in its table and what may be claimed there, and was
+-- told no greater depth of a node than a node of the table may have
 pub record IsTaken (plan : TablePlan) (c : Call) (v : View) (n : ℕ) (w : View) : Type 0 where
   pub view : w ≡ after c n v
   pub tells : Tells plan c v n
   pub own : ReadsItsOwn w
   pub missed : MissesItsOwn (flat_from plan) w
   pub fixed : KeysAreFixed w
-  pub values : ValuesAreFixed v
   pub keys : ledger_keys w.worker.ledger ≡ ledger_keys v.worker.ledger
   pub share : SameShare v w
   pub named : IsNamed plan.last_card w

@@ -81,7 +81,7 @@ MayInMemory s slot r v (call.DFlag c gp from) = (slot ≡ Some c) × HasStoredAl
 MayInMemory s slot r v (call.Claim c node) = (d : ℕ) → HoldsWaiting v d → slot ≢ Some d
 MayInMemory s slot r v call.Again = MayLetGo s slot r v
 MayInMemory s slot r v call.Leave = MayLetGo s slot r v
-MayInMemory s slot r v (call.Answer said) = MayLetGo s slot r v
+MayInMemory s slot r v (call.Answer said took) = MayLetGo s slot r v
 MayInMemory s slot r v _ = Unit {0}
 
 -- a call that sets no flag

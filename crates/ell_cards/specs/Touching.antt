@@ -29,7 +29,7 @@ abbrev pub forgets : Call → Bool
 forgets (call.Begin op) = true
 forgets call.Again = true
 forgets call.Leave = true
-forgets (call.Answer said) = true
+forgets (call.Answer said took) = true
 forgets call.Look = true
 forgets call.Rest = true
 forgets _ = false

@@ -36,7 +36,7 @@ PairsChangeBy _ _ old new = SamePairs old new
 
 -- what a call does to its pass's ledger: an answer is the map's, and makes it the map after; no other call changes it
 abbrev pub LedgerChangesBy : Call → View → View → Type 0
-LedgerChangesBy (call.Answer said) v w = AnswersAsMap (worker_of v.worker) (ledger_of w.worker.ledger) said
+LedgerChangesBy (call.Answer said took) v w = AnswersAsMap (worker_of v.worker) (ledger_of w.worker.ledger) said
 LedgerChangesBy _ v w = w.worker.ledger ≡ v.worker.ledger
 
 -- a pass has this operation in hand, and for it this card, flagged

@@ -77,7 +77,7 @@ pub record IsWhole (plan : TablePlan) (t : WholeState) : Type 0 where
   pub reached : IsReached plan tree
   pub seen : AllHaveSeen (history_of reached.turns) t.views
   pub made : AreMade (history_of reached.turns) t.views
-  pub silent : AreSilent t.views
+  pub silent : AreSilent plan t.views
   pub apart : AreAllApart t.views
   pub views : trees_of t.views ≡ tree.views
   pub homes : tree.homes ≡ t.homes

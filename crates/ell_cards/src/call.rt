@@ -22,8 +22,8 @@ pub enum Call {
     Again,
     /// Lays the operation down.
     Leave,
-    /// Answers the operation.
-    Answer(Reply),
+    /// Answers the operation, by a reply and, if it is a delete that took a value, by that.
+    Answer(Reply, Option<u64>),
     /// Reads the update word of a node.
     Upd(u64),
     /// Goes down from a node, to the right child or to the left one.

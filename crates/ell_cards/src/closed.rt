@@ -7,7 +7,7 @@ ghost use Rattle.ell_layout.specs.Layout.{table_size};
 ghost use Rattle.ell_layout.specs.Words.{word, words_of};
 ghost use Rattle.ell_core.specs.state.Machine.{ledger_of};
 ghost use Rattle.ell_cards.specs.Models.{IsFree, last_slot, whole_share};
-ghost use Rattle.ell_cards.specs.Closed.{ClosedModel, TableEnds};
+ghost use Rattle.ell_cards.specs.Closed.{ClosedModel, HistoryEnds, TableEnds};
 
 use crate::fixed::FixedMemory;
 use crate::memory::Seat;
@@ -49,6 +49,9 @@ impl<A: Allocator + Copy> CardTable<FixedMemory<A>> {
         // A run from the table's start led to the words. Of the keys that have owners, their tree has those that the
         // pass has present, with their values; its other keys are shared.
         ensures ends { self.plan.slots ≡ None → TableEnds self.plan pass.view result }
+        // The pass knows all of the table's history, which goes on from what it had seen, and what its calls leave is
+        // the tree of the words.
+        ensures history { self.plan.slots ≡ None → HistoryEnds self.plan pass result }
         // The number of the last card stays the same; in a table with places it is the last one that has words.
         ensures cards { result.last_card ≡ last_slot self.plan }
     {

@@ -16,7 +16,6 @@ ghost use Rattle.ell_cards.specs.Meanwhile.{SearchesBeginThere, SearchesReadMean
 ghost use Rattle.ell_cards.specs.Looking.{LooksAreOfOneState, LooksAreInOrder, LooksReadTheirOwn, StretchesAreOfOneState, StretchesAreInOrder};
 ghost use Rattle.ell_cards.specs.Changing.{CallsHaveTheirPoint, CallsAnswerAsAMap, CallsHaveTheirOwnCards, TreesAreMaps, TreesAreOfOneThread, CallsReplyAsOneThread};
 ghost use Rattle.ell_cards.specs.Linearizing.{RunsAreLinearizable, LastAnswersAreOfCalls};
-ghost use Rattle.ell_cards.specs.Accounts.{WholeAccountsAreOfOneThread};
 ghost use Rattle.ell_cards.specs.Histories.{HistoriesAreLinearizable};
 ghost use Rattle.ell_cards.specs.SeenLaws.{HistoriesAreTold, SeenIsInLine, SeenIsLinearizable};
 ghost use Rattle.ell_cards.specs.Placing.{LooksHavePlaces};
@@ -67,7 +66,6 @@ pub fn tables_are_sound()
 /// won ichild, which adds its card's key with its value, and at a won dchild, which takes its card's key with its value
 /// away; at every other step they stay the same. Whichever pass makes it, a won ichild is of an insert of that key and
 /// value that some pass has in hand, and a won dchild is of a delete.
-/// a delete.
 pub fn table_pairs_change_at_wins()
     // The tree's pairs change only at won child exchanges, each for an operation that some pass has in hand.
     ensures pairs { TablePairsChangeAtWins }
@@ -273,16 +271,6 @@ pub fn runs_are_linearizable()
     ensures runs { RunsAreLinearizable }
     // What a pass answered last is a call of the run.
     ensures last { LastAnswersAreOfCalls }
-{}
-
-/// What passes were answered that have come together is what one thread is answered. Wherever turns have led a table
-/// that shares its keys, take the pass that has the whole share, which all others were joined to, with nothing in hand:
-/// there is an order of all calls that it and the others made, each with its answer, in which one thread is answered
-/// so, and leaves the tree.
-pub fn whole_accounts_are_of_one_thread()
-    // Of a tree that shares its keys, the pass with the whole share has been answered, together with all passes that
-    // were joined to it, what one thread is answered that makes the same calls in some order, and leaves the tree.
-    ensures { WholeAccountsAreOfOneThread }
 {}
 
 /// The history of every run from a start, by any passes in any order, is linearizable.

@@ -10,6 +10,7 @@ mod glance;
 mod helping;
 mod laws;
 mod lifetime;
+mod looking;
 mod memory;
 mod outcomes;
 mod own_card;
@@ -38,10 +39,10 @@ pub use laws::{
     searches_read_meanwhile, seen_is_history, shares_add_up, splits_and_joins_are_handovers,
     steps_are_events, steps_tell_what_is_there, stretches_are_of_one_state,
     table_answers_are_the_maps, table_nodes_go_on, table_pairs_change_at_wins,
-    table_wins_are_in_order, tables_are_sound, tables_start, whole_accounts_are_of_one_thread,
+    table_wins_are_in_order, tables_are_sound, tables_start,
 };
 pub use lifetime::is_card_count;
 pub use memory::Memory;
 pub use pass::Pass;
 pub use table::CardTable;
-pub use view::{Answered, Deed, Hindrance, Known, Plan, TableKind, Told, View};
+pub use view::{Answered, Hindrance, Known, Plan, TableKind, Told, View};

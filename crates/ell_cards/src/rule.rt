@@ -155,6 +155,22 @@ impl<J: TellingAll> Play<(), Known> for All<J> {
         × (new.0.sight.begun ≡ old.0.sight.begun) };
 }
 
+/// A step of a look that tells what its caller picked, by which the pass sees all of the table's history, and where in
+/// it what the look has found stands, and that leaves what the pass knows of periods, and takes no slot.
+pub(crate) struct Looked<J> {
+    told: PhantomData<J>,
+}
+
+impl<J: TellingAll> Play<(), Known> for Looked<J> {
+    ghost use Rattle.std.specs.Prelude.{◌≡◌};
+    ghost use Rattle.ell_cards.specs.LookPlaces.{FindsHavePlaces, SeesMoreInLook};
+    ghost use Rattle.ell_cards.specs.Shown.{shown};
+
+    ghost then = { λ step old found new. J.then found (shown new.0.tree)
+        × (new.0.period ≡ old.0.period) × (new.1 ≡ old.1)
+        × SeesMoreInLook old.0.sight new.0.sight × FindsHavePlaces J.plan (shown new.0.tree) new.0.sight };
+}
+
 /// What a step tells of the word that it found and of what the pass knows of periods after it. The caller of the step picks
 /// it.
 pub(crate) trait PeriodTelling {

@@ -13,7 +13,7 @@ ghost use Rattle.ell_cards.specs.Naming.{IsNamed, IsPlaced};
 ghost use Rattle.ell_cards.specs.Guards.{MayFill};
 ghost use Rattle.ell_cards.specs.Depths.{IsShallow, deepest};
 ghost use Rattle.ell_cards.specs.Calls.{place_of, slot_address, atomic_of, next_link, Load, Store, Exchange, after, May, Tells};
-ghost use Rattle.ell_cards.specs.Looking.{KeysAreFixed, ValuesAreFixed, ReadsItsOwn, MissesItsOwn};
+ghost use Rattle.ell_cards.specs.Looking.{KeysAreFixed, ReadsItsOwn, MissesItsOwn};
 ghost use Rattle.ell_cards.specs.declared.view.Period.{Period};
 ghost use Rattle.ell_cards.specs.Periods.{after_flagging, whole_size};
 ghost use Rattle.ell_cards.specs.Tied.{FlagsNone, FlagsCard};
@@ -153,7 +153,6 @@ impl<M: Memory> CardTable<M> {
         ensures looked { ReadsItsOwn pass.new.view }
         ensures missed { MissesItsOwn (flat_from self.now.plan) pass.new.view }
         ensures fixed { KeysAreFixed pass.new.view }
-        ensures values { ValuesAreFixed pass.old.view }
         ensures named { IsNamed self.now.plan.last_card pass.new.view }
         ensures shallow { (x : ℕ) → IsShallow (deepest self.now.plan) pass.new.view x }
     {
@@ -172,7 +171,6 @@ impl<M: Memory> CardTable<M> {
         requires atomic { atomic_of call ≡ Load }
         ensures step { Steps pass.old pass.new (after call result pass.old.view) }
         ensures tells { Tells self.now.plan call pass.old.view result }
-        ensures values { ValuesAreFixed pass.old.view }
         ensures named { IsNamed self.now.plan.last_card pass.new.view }
         ensures shallow { (x : ℕ) → IsShallow (deepest self.now.plan) pass.new.view x }
     {
@@ -219,7 +217,6 @@ impl<M: Memory> CardTable<M> {
         ensures step { StepsOn pass.old pass.new (after call result pass.old.view) }
         ensures marks { Marks call pass.old.view pass.old.sight pass.new.sight }
         ensures tells { Tells self.now.plan call pass.old.view result }
-        ensures values { ValuesAreFixed pass.old.view }
     {
         let found = self.load_marked_as::<Brand>(pass, call, word);
         pass.count(1);

@@ -48,19 +48,6 @@ pub struct Answered {
     pub took: Option<u64>,
 }
 
-/// A call that was answered, as a pass knows of it.
-#[derive(Clone, Copy)]
-pub struct Deed {
-    pub op: Op,
-    pub said: Reply,
-    /// The value that it took, if it is a delete that took one, as the pass was told.
-    pub took: Option<u64>,
-    /// How many of the calls behind it in the list, next to it, had ended before it began.
-    pub before: u64,
-    /// Whether it is the pass's, or that of one that was joined to it. If not, it was made by a pass from which this one was split.
-    pub own: bool,
-}
-
 /// What a pass knows. No value of this type is made.
 #[derive(Drop)]
 pub struct View {
@@ -81,9 +68,6 @@ pub struct View {
     pub found: Option<u64>,
     /// The exchanges that it won, each by its kind and its card, the last first. When a pass is split, the left part keeps them.
     pub won: LinkedList<(Exchange, u64)>,
-    /// The calls that it answered, the last first. When a pass is split, the left part keeps them, and the right part knows of them; a join puts
-    /// those of the right one behind those of the left one.
-    pub answers: LinkedList<Deed>,
     /// The operation that it answered last, until another begins, or the pass is split or joined.
     pub answered: Option<Answered>,
     /// The operation that it laid down last without an answer, until another begins, or the pass is split or joined.
@@ -111,12 +95,14 @@ pub struct View {
     pub made: u64,
 }
 
-/// What one atomic step is in the history of a table: the pass in a seat begins an operation, or it answers one, or it
-/// does neither. No value of this type is made.
+/// What one atomic step is in the history of a table: the pass in a seat begins an operation; or it answers one by a
+/// reply and, if that is a delete that took a value, by the value; or it begins a look; or it does none of these. No
+/// value of this type is made.
 #[derive(Clone, Copy)]
 pub enum Event {
     Begins(u64, Op),
-    Ends(u64, Reply),
+    Ends(u64, Reply, Option<u64>),
+    Looks(u64),
     Quiet,
 }
 
@@ -128,6 +114,8 @@ pub struct Act {
     pub end: u64,
     pub op: Op,
     pub said: Reply,
+    /// The value that it took, if it is a delete that took one.
+    pub took: Option<u64>,
 }
 
 /// What a pass knows of its table's history. No value of this type is made.
@@ -137,6 +125,8 @@ pub struct Sight {
     pub seen: LinkedList<Event>,
     /// The number of events before the operation that it began last, if it has begun one since it came from a split.
     pub begun: Option<u64>,
+    /// The number of events before the look that it began last, if it has begun one since it came from a split.
+    pub looked: Option<u64>,
     /// The calls that it answered, the last first. When a pass is split, the left part keeps them, and the right part has
     /// none; a join puts those of the right one behind those of the left one.
     pub mine: LinkedList<Act>,

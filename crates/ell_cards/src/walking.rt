@@ -14,9 +14,9 @@ ghost use Rattle.ell_cards.specs.declared.call.Call.TheVariants as call;
 ghost use Rattle.ell_cards.specs.Guards.{MayBegin, MayAnswer, MayRead, MayGoDown, MayLookDown};
 ghost use Rattle.ell_cards.specs.Calls.{after, TellsKey, TellsLedgerValue};
 ghost use Rattle.ell_ops.specs.declared.op.Op.{Op};
-ghost use Rattle.ell_cards.specs.Seeing.{SeesBegin, SeesEnd};
+ghost use Rattle.ell_cards.specs.Seeing.{SeesBegin, SeesEnd, SeesLook};
 ghost use Rattle.ell_cards.specs.Stepping.{LetsGo};
-ghost use Rattle.ell_cards.specs.Looking.{IsKnownInRun, KeysAreFixed, ValuesAreFixed, ReadsItsOwn, MissesItsOwn};
+ghost use Rattle.ell_cards.specs.Looking.{IsKnownInRun, KeysAreFixed, ReadsItsOwn, MissesItsOwn};
 
 use crate::call::Call;
 use crate::glance::{Glance, Stretch};
@@ -74,27 +74,26 @@ impl<M: Memory> CardTable<M> {
         self.withdraw(pass);
     }
 
-    /// Answers the operation in hand. What is said is the map's answer on the pass's ledger, which becomes the map after it.
+    /// Answers the operation in hand, by a reply and, if it is a delete that took a value, by that. What is said is the
+    /// map's answer on the pass's ledger, which becomes the map after it.
     #[inline(always)]
-    pub fn answer(&self, pass: &mut Pass<M>, said: Reply)
+    pub fn answer(&self, pass: &mut Pass<M>, said: Reply, took: Option<u64>)
         requires own { pass.old.table ≡ self.now.id }
-        requires may { MayAnswer pass.old.view said }
+        requires may { MayAnswer pass.old.view said took }
         // Where there are places, the pass has noted all that its card in hand made dead.
         requires noted { LetsGo self.now.plan pass.old }
         // It makes one step and counts it. The pass then knows exactly what this call tells, and is in no period.
-        ensures step { AnswersBy pass.old pass.new (after_answer said pass.old.view) }
+        ensures step { AnswersBy pass.old pass.new (after_answer said took pass.old.view) }
         // It has seen its table's history up to this step, by which a call of the pass has ended that it began no earlier
         // than the operation that it had begun last.
-        ensures ends { (op : Op) → Does pass.old.view op → SeesEnd op said pass.old.sight pass.new.sight }
+        ensures ends { (op : Op) → Does pass.old.view op → SeesEnd op said took pass.old.sight pass.new.sight }
         // The claims that the pass has tried were of cards of the table.
         ensures least { pass.old.view.next_at_least ≤ self.now.plan.last_card + 1 }
         // The answer on a key that the pass owns is that of the ledger, which becomes what the operation makes of it.
         // An answer on a shared key leaves the ledger unchanged.
         ensures reply { AnswersAsMap (worker_of pass.old.view.worker) (ledger_of pass.new.view.worker.ledger) said }
-        // The pass had been told no two leaves of one card, and no two values of one leaf.
-        ensures values { ValuesAreFixed pass.old.view }
     {
-        self.load_marked(pass, Call::Answer(said), root_key());
+        self.load_marked(pass, Call::Answer(said, took), root_key());
         self.withdraw(pass);
     }
 
@@ -154,6 +153,8 @@ impl<M: Memory> CardTable<M> {
         // It makes one step, which the caller has to count. The pass then knows exactly what this call tells, and is in a
         // period if there are places.
         ensures step { LooksBy self.now.plan.slots pass.old pass.new (after call.Look (linked result) pass.old.view) }
+        // It has seen its table's history up to this step, and so behind all that it had seen before.
+        ensures looks { SeesLook pass.old.sight pass.new.sight }
         // The child is below the root, no deeper than a node of the table may be, and is one of the table; the node and
         // the tag have a word.
         ensures below { 0 < result.node }

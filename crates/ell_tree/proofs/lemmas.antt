@@ -36,6 +36,8 @@ pub mod Flagging
 pub mod PassParts
 -- what a pass sees of the history in a call
 pub mod Sights
+-- and in a look
+pub mod LookPlaces
 -- how a tree ends
 pub mod Closing
 -- the bounds of a flat tree

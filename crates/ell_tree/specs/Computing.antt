@@ -16,7 +16,7 @@ use Rattle.ell_tree.specs.declared.computing.Replaced.{Replaced}
 use Rattle.ell_tree.specs.declared.computing.Replaced.TheVariants.{Done, Lost}
 use Rattle.ell_tree.specs.declared.operations.NotDone.{NotDone}
 use Rattle.ell_tree.specs.declared.operations.NotDone.TheVariants.{Busy, Spent}
-use Rattle.ell_tree.specs.Called.{AnsweredLast, AnsweredNoChange, ByItsDeed, IsTakeCalled, SeesLast, SeesNoChange, delete_of, put_by, tries_in}
+use Rattle.ell_tree.specs.Called.{ByItsTake, SeesLast, SeesNoChange, SeesTake, put_by, tries_in}
 use Rattle.ell_tree.specs.Ends.{Answers, LaidDown, NoneIsLeft, TakesValue, find_steps, slot_steps, try_steps}
 use Rattle.ell_tree.specs.Ledgers.{TreeModel, present_in, Owns, answers, IsIdle}
 
@@ -28,7 +28,6 @@ pub record IsUntouched (old new : PassModel) : Type 0 where
   pub map : (key : ℕ) → present_in new key ≡ present_in old key
   pub owned : (key : ℕ) → Owns new key ↔ Owns old key
   pub answered : answers old ≤ answers new
-  pub called : AnsweredNoChange old.view.answers new.view.answers
   pub share : SameShare old.view new.view
   pub idle : IsIdle new
   pub outside : old.inside ≡ false → new.inside ≡ false
@@ -48,11 +47,10 @@ pub record Concludes (t : TreeModel) (op : Op) (said : Reply) (old new : PassMod
   pub point : IsAnsweredInRuns t.plan new.view op said
   pub owned : (key : ℕ) → Owns new key ↔ Owns old key
   pub answered : answers old < answers new
-  pub called : ByItsDeed op said (λ deed. AnsweredLast deed old.view.answers new.view.answers)
   pub share : SameShare old.view new.view
   pub idle : IsIdle new
   pub outside : new.inside ≡ false
-  pub sees : SeesLast op said old.sight new.sight
+  pub sees : ByItsTake op (λ took. SeesLast op said took old.sight new.sight)
 
 -- the key had this value, or none, at the point of a find, or of a swap of another value, which changes nothing
 abbrev pub ReadsValue : TreeModel → ℕ → Option ℕ → PassModel → PassModel → Type 0
@@ -77,7 +75,7 @@ UpdatesValue t key makes old new (Some was) = (value : ℕ) × makes was value �
 pub record RemovesValue (t : TreeModel) (key value : ℕ) (old new : PassModel) : Type 0 where
   pub removes : Concludes t (Delete key) Yes old new
   pub took : TakesValue t key old new (Some value)
-  pub called : AnsweredLast (delete_of key (Some value)) old.view.answers new.view.answers
+  pub sees : SeesLast (Delete key) Yes (Some value) old.sight new.sight
 
 -- a key was removed if it was found with this value, and was left as it was found otherwise
 pub record RemovesIf (t : TreeModel) (key was : ℕ) (old new : PassModel) (there : Option ℕ) : Type 0 where
@@ -117,21 +115,21 @@ Replaces t key was value old new (Ok Done) =
     Answers t (put_by key value was) (reply_of_change (put_by key value was)) old new
 Replaces t key was value old new (Ok (Lost there)) =
     IsUntouched old new × ReadsValue t key there old new × (Owns old key → present_in old key ≢ was)
-    × (tries_in old.view.answers < tries_in new.view.answers)
+    × (tries_in old.sight.mine < tries_in new.sight.mine)
 Replaces t key was value old new (Err why) =
     LaidDown t (put_by key value was) old new × RanOut t.plan (put_by key value was) new why
 
 -- what comes of one try to remove a key that has a value
 abbrev pub RemovesOnce : TreeModel → ℕ → ℕ → PassModel → PassModel → Result Bool NotDone → Type 0
 RemovesOnce t key was old new (Ok true) =
-    Answers t (Delete key) Yes old new × TakesValue t key old new (Some was) × IsTakeCalled key old new (Ok (Some was))
+    Answers t (Delete key) Yes old new × TakesValue t key old new (Some was) × SeesTake key old new (Ok (Some was))
 RemovesOnce t key was old new (Ok false) = IsUntouched old new × (Owns old key → present_in old key ≢ Some was)
 RemovesOnce t key was old new (Err why) = LaidDown t (Delete key) old new × RanOut t.plan (Delete key) new why
 
 -- and what the key was found to have, if that was another value
 abbrev pub RemovesOrReads : TreeModel → ℕ → ℕ → PassModel → PassModel → Result Replaced NotDone → Type 0
 RemovesOrReads t key was old new (Ok Done) =
-    Answers t (Delete key) Yes old new × TakesValue t key old new (Some was) × IsTakeCalled key old new (Ok (Some was))
+    Answers t (Delete key) Yes old new × TakesValue t key old new (Some was) × SeesTake key old new (Ok (Some was))
 RemovesOrReads t key was old new (Ok (Lost there)) =
     IsUntouched old new × Concludes t (Find key) (found there) old new × (Owns old key → present_in old key ≢ Some was)
 RemovesOrReads t key was old new (Err why) = LaidDown t (Delete key) old new × RanOut t.plan (Delete key) new why
@@ -139,7 +137,7 @@ RemovesOrReads t key was old new (Err why) = LaidDown t (Delete key) old new × 
 -- so many tries were made: each was hindered, or was answered by what another pass had changed
 abbrev pub AreTried : ℕ → PassModel → PassModel → Type 0
 AreTried tries old new =
-    old.view.hindered + tries_in old.view.answers + tries ≤ new.view.hindered + tries_in new.view.answers
+    old.view.hindered + tries_in old.sight.mine + tries ≤ new.view.hindered + tries_in new.sight.mine
 
 -- so many tries were made: each was hindered, or the key was read anew; and the key was read before
 abbrev pub AreTriedOrRead : ℕ → PassModel → PassModel → Type 0

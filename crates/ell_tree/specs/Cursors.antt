@@ -6,6 +6,7 @@ use Rattle.ell_cards.specs.declared.glance.Glance.{Glance}
 use Rattle.ell_cards.specs.declared.view.Told.{Told}
 use Rattle.ell_cards.specs.declared.view.Told.TheVariants.{Met, Key}
 use Rattle.ell_cards.specs.declared.view.View.{View}
+use Rattle.ell_cards.specs.LookPlaces.{SawLookBegin, SeesMoreInLook}
 use Rattle.ell_cards.specs.Looking.{TellsBetween, ReadsItsOwn}
 use Rattle.ell_cards.specs.Models.{HasCome, Has, InTable, IsTold, PassModel}
 use Rattle.ell_tree.specs.declared.cursor.About.{About}
@@ -58,17 +59,19 @@ pub record AreKept (last : ℕ) (v : View) (c : Cursor) : Type 0 where
 abbrev pub IsAmong : Cursor → Glance → Type 0
 IsAmong c g = (g ≡ c.first) ⊎ ((i : ℕ) × (i < 32) × (g ≡ kept_at c i))
 
--- a look goes on: it only looks, and what it was told and has come to stays so
+-- a look goes on: it only looks, and what it was told and has come to stays so, and has seen more of the history
 pub record KeepsLooking (old new : PassModel) (n : ℕ) : Type 0 where
   pub only : OnlyLooks old new n
   pub told : (e : Told) → IsTold old.view e → IsTold new.view e
   pub glances : (g : Glance) → Has old.view.glances g → Has new.view.glances g
   pub looks : new.view.looks ≡ old.view.looks
+  pub sees : SeesMoreInLook old.sight new.sight
 
--- a look begins
+-- a look begins, and the pass sees where in the history
 pub record BeginsALook (old new : PassModel) : Type 0 where
   pub only : OnlyLooks old new 1
   pub one : new.view.looks ≡ old.view.looks + 1
+  pub saw : SawLookBegin old.sight new.sight
 
 -- what was told of a leaf says this about the keys by which a look has come there
 pub record TellsOfLeaf (from : ℕ) (v : View) (leaf : ℕ) (about : About) : Type 0 where

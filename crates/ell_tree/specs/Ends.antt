@@ -17,7 +17,7 @@ use Rattle.ell_cards.specs.Seeking.{FindsNone}
 use Rattle.ell_cards.specs.Stepping.{SameShare}
 use Rattle.ell_tree.specs.declared.operations.NotDone.{NotDone}
 use Rattle.ell_tree.specs.declared.operations.NotDone.TheVariants.{Busy, Spent}
-use Rattle.ell_tree.specs.Called.{ByItsDeed, IsTakeCalled}
+use Rattle.ell_tree.specs.Called.{ByItsTake, SeesTake}
 use Rattle.ell_tree.specs.Hindrances.{Meets}
 use Rattle.ell_tree.specs.Ledgers.{TreeModel, present_in, ledger, Owns, answers, hindrances, IsIdle}
 
@@ -25,7 +25,7 @@ use Rattle.ell_tree.specs.Ledgers.{TreeModel, present_in, ledger, Owns, answers,
 -- their values, which becomes the map after it; on a shared key the ledger stays. Whoever may change the key, the call
 -- had its point: in every run of the tree in which the pass now knows this, its answer is that of one thread that made
 -- all operations by which the tree was changed till then
-pub record AnswersAs (Sees : Op → Reply → Sight → Sight → Type 0) (t : TreeModel) (op : Op) (said : Reply)
+pub record AnswersAs (Sees : Op → Reply → Option ℕ → Sight → Sight → Type 0) (t : TreeModel) (op : Op) (said : Reply)
     (old new : PassModel) : Type 0 where
   pub table : new.table ≡ old.table
   pub label : new.label ≡ old.label
@@ -35,11 +35,10 @@ pub record AnswersAs (Sees : Op → Reply → Sight → Sight → Type 0) (t : T
   pub point : IsAnsweredInRuns t.plan new.view op said
   pub owned : (key : ℕ) → Owns new key ↔ Owns old key
   pub answered : answers new ≡ answers old + 1
-  pub called : ByItsDeed op said (λ deed. new.view.answers ≡ deed old.view.answers ∷ old.view.answers)
   pub share : SameShare old.view new.view
   pub idle : IsIdle new
   pub outside : new.inside ≡ false
-  pub sees : Sees op said old.sight new.sight
+  pub sees : ByItsTake op (λ took. Sees op said took old.sight new.sight)
 
 -- an operation that the pass began, too: it is a call of the tree's history, as the pass has seen it
 abbrev pub Answers : TreeModel → Op → Reply → PassModel → PassModel → Type 0
@@ -53,7 +52,6 @@ pub record LaidDown (t : TreeModel) (op : Op) (old new : PassModel) : Type 0 whe
   pub label : new.label ≡ old.label
   pub ledger : new.view.worker.ledger ≡ old.view.worker.ledger
   pub answered : answers new ≡ answers old
-  pub called : new.view.answers ≡ old.view.answers
   pub share : SameShare old.view new.view
   pub would : Owns old (key_of op) → reply_of op (present_in old) ≡ reply_of_change op
   pub nothing : IsLaidDownInRuns t.plan new.view op
@@ -147,11 +145,11 @@ pub record TakesValue (t : TreeModel) (key : ℕ) (old new : PassModel) (taken :
   pub mine : Owns old key → taken ≡ present_in old key
   pub took : IfSome taken (IsTakenInRuns t.plan new.view key)
 
--- the value that a change added, took or found: what is promised of a delete's, with which the pass was answered
+-- the value that a change added, took or found: what is promised of a delete's, which is what the history has of it
 abbrev pub TakesIfDelete : TreeModel → Op → PassModel → PassModel → Option ℕ → Type 0
 TakesIfDelete t (Find key) old new had = Unit {0}
 TakesIfDelete t (Insert key value) old new had = Unit {0}
-TakesIfDelete t (Delete key) old new had = TakesValue t key old new had × IsTakeCalled key old new (Ok had)
+TakesIfDelete t (Delete key) old new had = TakesValue t key old new had × SeesTake key old new (Ok had)
 TakesIfDelete t (Swap key was value) old new there = Unit {0}
 
 -- how an insert, a delete or a swap ends; whatever was in its way is over

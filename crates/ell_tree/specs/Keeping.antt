@@ -15,12 +15,11 @@ use Rattle.ell_cards.specs.Stepping.{SameShare}
 use Rattle.ell_tree.specs.Counts.{Took, TookIn}
 use Rattle.ell_tree.specs.CardsTaken.{TakesNoCard}
 
--- ledger, operation, answers and share stay, and nothing is forgotten; no try is given up, so what was in the way
+-- ledger, operation and share stay, and nothing is forgotten; no try is given up, so what was in the way
 -- before the one in hand is the same
 pub record LosesNothing (v w : View) : Type 0 where
   pub ledger : w.worker.ledger ≡ v.worker.ledger
   pub operation : w.worker.operation ≡ v.worker.operation
-  pub answers : w.answers ≡ v.answers
   pub share : SameShare v w
   pub knows : (f : Fact) → Knows v f → Knows w f
   pub told : (e : Told) → IsTold v e → IsTold w e

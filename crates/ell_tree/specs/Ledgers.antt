@@ -4,7 +4,6 @@ pub use Rattle.ell_core.specs.declared.view.Entry.TheVariants.{Present, Absent}
 use Rattle.ell_core.specs.statements.Effects.{contents_in}
 pub use Rattle.ell_cards.specs.Models.{PassModel, ledger, Owns}
 use Rattle.ell_cards.specs.Models.{TableModel}
-use Rattle.ell_cards.specs.Accounts.{own_calls}
 use Rattle.ell_ops.specs.Contents.{Contents}
 
 -- how a contract sees a tree: which table it stands on, and its plan: the keys that have owners, those that it starts
@@ -18,7 +17,7 @@ present_in p = contents_in (ledger p)
 
 -- how many operations it has answered
 abbrev pub answers : PassModel → ℕ
-answers p = length (own_calls p.view.answers)
+answers p = length p.sight.mine
 
 -- how often something was in its way
 abbrev pub hindrances : PassModel → ℕ

@@ -55,6 +55,8 @@ pub use Rattle.ell_layout.specs.Words
 pub use Rattle.ell_core.specs.tree.Tree
 -- what a look for any key leaves of a pass
 pub mod Looks
+-- and what it has seen of the history, where it seeks the next key
+pub mod LookPlaces
 -- what scans find
 pub mod Scans
 -- where a look goes on
@@ -65,8 +67,7 @@ pub use Rattle.ell_cards.specs.Looking
 pub mod Called
 -- what a pass was answered that has seen all of the history, as of one thread
 pub mod OneThread
--- what passes were answered, as of one thread, and the history of a tree
-pub use Rattle.ell_cards.specs.Accounts
+-- the history of a tree
 pub use Rattle.ell_cards.specs.Seeing
 pub use Rattle.ell_cards.specs.Sights
 pub use Rattle.ell_cards.specs.declared.view.Act
@@ -76,6 +77,5 @@ pub use Rattle.ell_cards.specs.Linearizing
 pub use Rattle.ell_cards.specs.Histories
 pub use Rattle.ell_cards.specs.declared.view.View
 pub use Rattle.ell_cards.specs.Stepping
-pub use Rattle.ell_cards.specs.declared.view.Deed
 -- which keys are shared, as a pass knows
 pub use Rattle.ell_core.specs.state.Machine

@@ -4,6 +4,7 @@ use Rattle.ell_cards.specs.declared.view.View.{View}
 use Rattle.ell_cards.specs.Changes.{after_rest}
 use Rattle.ell_cards.specs.Looking.{HasThere, IsFoundInRuns}
 use Rattle.ell_cards.specs.Models.{EndsBy, PassModel}
+use Rattle.ell_cards.specs.Seeing.{HasSeenMore}
 use Rattle.ell_tree.specs.Ledgers.{TreeModel}
 
 -- a pass has at most so many steps more, by both its counts, and was told more, and all else that it has and knows of
@@ -13,9 +14,8 @@ use Rattle.ell_tree.specs.Ledgers.{TreeModel}
 pub record OnlyLooks (old new : PassModel) (n : ℕ) : Type 0 where
   pub table : new.table ≡ old.table
   pub label : new.label ≡ old.label
-  pub sight : new.sight ≡ old.sight
+  pub sight : HasSeenMore old.sight new.sight
   pub worker : new.view.worker ≡ old.view.worker
-  pub answers : new.view.answers ≡ old.view.answers
   pub answered : new.view.answered ≡ old.view.answered
   pub share : new.view.share ≡ old.view.share
   pub hindrances : new.view.hindrances ≡ old.view.hindrances

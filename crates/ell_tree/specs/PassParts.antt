@@ -3,7 +3,7 @@ use Rattle.ell_ops.specs.KeySet.{set_of}
 use Rattle.ell_ops.specs.Contents.{contents_of}
 use Rattle.ell_cards.specs.Models.{PassModel, given_share, one_more, whole_share}
 use Rattle.ell_cards.specs.Sights.{given_sight, joined_sight, no_sight}
-pub use Rattle.ell_cards.specs.Changes.{later_reading, ownable_if, inherited}
+pub use Rattle.ell_cards.specs.Changes.{later_reading, ownable_if}
 pub use Rattle.std.specs.Option.{option_or}
 use Rattle.ell_tree.specs.CardsTaken.{cards_taken}
 use Rattle.ell_tree.specs.Milestones.{milestones_known}
@@ -19,7 +19,6 @@ pub record IsFirst (t : TreeModel) (p : PassModel) : Type 0 where
   pub each : (k : ℕ) → set_of t.plan.keys k ≡ true → present_in p k ≡ contents_of t.plan.start k
   pub present : t.plan.shared ≡ false → present_in p ≡ contents_of t.plan.start
   pub answers : answers p ≡ 0
-  pub called : p.view.answers ≡ []
   pub hindrances : hindrances p ≡ 0
   pub hindered : p.view.hindered ≡ 0
   pub taken : cards_taken p ≡ 0
@@ -40,7 +39,6 @@ pub record IsLeftPart (keys : List ℕ) (p part : PassModel) : Type 0 where
   pub own : part.table ≡ p.table
   pub ledger : (k : ℕ) → ledger part k ≡ (if set_of keys k then ledger p k else None)
   pub answers : answers part ≡ answers p
-  pub called : part.view.answers ≡ p.view.answers
   pub hindrances : hindrances part ≡ hindrances p
   pub hindered : part.view.hindered ≡ p.view.hindered
   pub taken : cards_taken part ≡ cards_taken p
@@ -61,7 +59,6 @@ pub record IsRightPart (keys : List ℕ) (p part : PassModel) : Type 0 where
   pub own : part.table ≡ p.table
   pub ledger : (k : ℕ) → ledger part k ≡ (if set_of keys k then None else ledger p k)
   pub answers : answers part ≡ 0
-  pub called : part.view.answers ≡ inherited p.view.answers
   pub hindrances : hindrances part ≡ 0
   pub hindered : part.view.hindered ≡ 0
   pub taken : cards_taken part ≡ 0
@@ -87,7 +84,6 @@ pub record IsUnion (left right both : PassModel) : Type 0 where
   pub own : both.table ≡ left.table
   pub ledger : (k : ℕ) → ledger both k ≡ or_else (ledger left k) (ledger right k)
   pub answers : answers both ≡ answers left + answers right
-  pub called : both.view.answers ≡ left.view.answers ++ right.view.answers
   pub hindrances : hindrances both ≡ hindrances left + hindrances right
   pub hindered : both.view.hindered ≡ left.view.hindered + right.view.hindered
   pub taken : cards_taken both ≡ cards_taken left + cards_taken right

@@ -1,7 +1,7 @@
-use Rattle.std.specs.Prelude.{◌<◌, ◌≡◌, ◌≢◌, ℕ, ◌+◌, ◌≤◌, ◌++◌, true, false, Some, None, List, [], ◌∷◌, Result, Ok, Err, length, Option}
+use Rattle.std.specs.Prelude.{◌<◌, ◌≡◌, ◌≢◌, ℕ, ◌+◌, ◌≤◌, ◌++◌, true, false, Some, None, List, [], ◌∷◌, Result, Ok, Err, length, Option, is_some}
 use Rattle.ell_ops.specs.declared.op.Op.{Op}
 use Rattle.ell_ops.specs.declared.op.Op.TheVariants.{Find, Insert, Delete, Swap}
-use Rattle.ell_ops.specs.Meaning.{key_of, reply_of}
+use Rattle.ell_ops.specs.Meaning.{key_of, reply_of, yes_if}
 use Rattle.ell_ops.specs.declared.reply.Reply.{Reply}
 use Rattle.ell_ops.specs.declared.reply.Reply.TheVariants.{Yes}
 use Rattle.ell_ops.specs.declared.reply.Reply.TheVariants as replaced
@@ -35,7 +35,6 @@ use Rattle.ell_tree.specs.Ledgers.{TreeModel, Owns, present_in, IsIdle}
 use Rattle.ell_cards.specs.Stepping.{LetsGo, SameShare}
 use Rattle.ell_tree.specs.Counts.{Took}
 use Rattle.ell_tree.specs.CardsTaken.{TakesNoCard}
-use Rattle.ell_tree.specs.Called.{IsTakeCalled}
 use Rattle.ell_tree.specs.Ends.{AnswersAs, NoneIsLeft, TakesValue, reply_by}
 use Rattle.ell_tree.specs.Hindrances.{AreOver, Meets, StillKnows, way_of}
 use Rattle.ell_tree.specs.Keeping.{IsSeenAt}
@@ -55,7 +54,7 @@ pub record Begins (op : Op) (met : List Hindrance) (tries : ℕ) (old new : Pass
   pub table : new.table ≡ old.table
   pub label : new.label ≡ old.label
   pub ledger : new.view.worker.ledger ≡ old.view.worker.ledger
-  pub answers : new.view.answers ≡ old.view.answers
+  pub calls : new.sight.mine ≡ old.sight.mine
   pub share : SameShare old.view new.view
   pub hindrances : new.view.hindrances ≡ met ++ old.view.hindrances
   pub hindered : new.view.hindered ≡ tries
@@ -78,7 +77,6 @@ pub record Lays (op : Op) (old new : PassModel) : Type 0 where
   pub label : new.label ≡ old.label
   pub sight : new.sight ≡ old.sight
   pub ledger : new.view.worker.ledger ≡ old.view.worker.ledger
-  pub answers : new.view.answers ≡ old.view.answers
   pub share : SameShare old.view new.view
   pub hindrances : new.view.hindrances ≡ way_of op old.view ++ old.view.hindrances
   pub hindered : new.view.hindered ≡ tries_hindered old.view
@@ -101,7 +99,6 @@ pub record Halts (op : Op) (old new : PassModel) : Type 0 where
   pub label : new.label ≡ old.label
   pub sight : new.sight ≡ old.sight
   pub ledger : new.view.worker.ledger ≡ old.view.worker.ledger
-  pub answers : new.view.answers ≡ old.view.answers
   pub share : SameShare old.view new.view
   pub meets : Meets old.view new.view
   pub in_try : new.view.hindrances ≡ new.view.met ++ old.view.hindrances
@@ -121,7 +118,8 @@ TryEnds t op old new tried.Hindered =
 
 -- what a try of a delete took
 abbrev pub TryTook : TreeModel → ℕ → PassModel → PassModel → Tried → Type 0
-TryTook t key old new (tried.Answered taken) = TakesValue t key old new taken × IsTakeCalled key old new (Ok taken)
+TryTook t key old new (tried.Answered taken) = TakesValue t key old new taken
+    × SeesEnd (Delete key) (yes_if (is_some taken)) taken old.sight new.sight
 TryTook t key old new tried.Spent = Unit {0}
 TryTook t key old new tried.Hindered = Unit {0}
 

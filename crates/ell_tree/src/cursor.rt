@@ -5,6 +5,7 @@ ghost use Rattle.ell_ops.specs.Meaning.{greatest_key};
 ghost use Rattle.ell_layout.specs.Words.{IsLeaf};
 ghost use Rattle.ell_cards.specs.declared.view.Told.TheVariants.{Met};
 ghost use Rattle.ell_cards.specs.Models.{IsTold, flat_from};
+ghost use Rattle.ell_cards.specs.LookPlaces.{FindsHavePlaces};
 ghost use Rattle.ell_cards.specs.Looking.{KeysAreFixed, ReadsItsOwn, MissesItsOwn};
 ghost use Rattle.ell_tree.specs.Counts.{CountsAll, HasUncounted};
 ghost use Rattle.ell_tree.specs.Ledgers.{IsIdlePassOf};
@@ -82,6 +83,8 @@ impl Cursor {
         // It counts each step that it makes.
         ensures counted { CountsAll pass.old pass.new }
         ensures on { KeepsLooking pass.old pass.new (stretch_steps (deepest table.now.plan)) }
+        // All that the look has found so far has its place in one order of the calls that the pass has seen.
+        ensures places { FindsHavePlaces table.now.plan pass.new.view pass.new.sight }
     {
         table.facts_stay_inside(pass);
         let label = pass.label();
@@ -89,7 +92,7 @@ impl Cursor {
         let mut steps = 0;
         while is_internal(here.node) {
             gate.before(label, Kind::Look);
-            let node_key = table.key_of(pass, here.node);
+            let node_key = table.look_key(pass, here.node);
             let right = node_key <= key;
             if !right {
                 self.keep(here);
@@ -157,9 +160,10 @@ pub(crate) fn found_at<M: Memory, G: StepGate>(
     ensures uncounted { HasUncounted pass.old pass.new result.1 }
     ensures few { result.1 ≤ 2 }
     ensures on { KeepsLooking pass.old pass.new 2 }
+    ensures places { FindsHavePlaces table.now.plan pass.new.view pass.new.sight }
 {
     gate.before(pass.label(), Kind::Look);
-    let leaf_key = table.key_of(pass, leaf.node);
+    let leaf_key = table.look_key(pass, leaf.node);
     let Glance {
         node,
         low,
@@ -175,7 +179,7 @@ pub(crate) fn found_at<M: Memory, G: StepGate>(
         return (none, 1);
     }
     gate.before(pass.label(), Kind::Look);
-    let value = table.value_of(pass, node);
+    let value = table.look_value(pass, node);
     let one = About {
         low,
         high,

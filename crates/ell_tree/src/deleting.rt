@@ -53,7 +53,7 @@ pub(crate) fn try_delete<M: Memory, G: StepGate>(
 {
     let place = search(table, pass, Op::Delete(key), gate);
     if place.key != key {
-        answer(table, pass, Reply::No, gate);
+        answer(table, pass, Reply::No, None, gate);
         return Tried::Answered(None);
     }
     delete_at(table, pass, key, place, gate)
@@ -107,7 +107,7 @@ pub(crate) fn delete_at<M: Memory, G: StepGate>(
         return Tried::Hindered;
     }
     retire_deleted(table, pass, card, parent.node, place.node);
-    answer(table, pass, Reply::Yes, gate);
+    answer(table, pass, Reply::Yes, Some(place.value), gate);
     Tried::Answered(Some(place.value))
 }
 

@@ -2,7 +2,7 @@
 ghost use Rattle.std.specs.Prelude.{◌≡◌, ◌≤◌, [], true, IfOk, IfErr, vec_capacity};
 ghost use Rattle.std.specs.List.{All};
 ghost use Rattle.ell_ops.specs.Contents.{contents_of};
-ghost use Rattle.ell_cards.specs.Accounts.{AreOfOneThread};
+ghost use Rattle.ell_cards.specs.Closed.{EndsHistory};
 ghost use Rattle.ell_cards.specs.Models.{whole_share};
 ghost use Rattle.ell_cards.specs.Seeing.{HasSeenAll, HasSeenMore};
 ghost use Rattle.ell_tree.specs.CardsTaken.{TakesNoCard};
@@ -27,12 +27,10 @@ impl<M: Memory> Tree<M> {
         // one; and its order has no others if keys are shared, and the pass has the whole share and nothing in hand.
         ensures all { HasSeenAll self.now.plan pass.new.view pass.new.sight }
         ensures more { HasSeenMore pass.old.sight pass.new.sight }
-        // It makes one step. The pass keeps its tree, its label, its keys and what it has in hand, its share, and what
-        // it was answered.
+        // It makes one step. The pass keeps its tree, its label, its keys and what it has in hand, and its share.
         ensures table { pass.new.table ≡ pass.old.table }
         ensures label { pass.new.label ≡ pass.old.label }
         ensures worker { pass.new.view.worker ≡ pass.old.view.worker }
-        ensures called { pass.new.view.answers ≡ pass.old.view.answers }
         ensures share { pass.new.view.share ≡ pass.old.view.share }
         ensures steps { Took pass.old pass.new 1 }
         // It takes no card.
@@ -58,10 +56,9 @@ impl<A: Allocator + Copy> Tree<FixedMemory<A>> {
         // The pairs are those of the tree to which a run led, strictly ascending by their keys: of the keys that may
         // have an owner, those that the pass has present, and besides these only shared ones.
         ensures pairs { IfOk result (λ pairs. ClosesTo self pass pairs.items) }
-        // If the other keys are shared, one thread that makes the calls that the pass was answered, it and all that
-        // were joined to it, in some order, is answered so, and leaves the pairs.
-        ensures thread { IfOk result (λ pairs. self.plan.shared ≡ true
-            → AreOfOneThread (contents_of self.plan.start) pass.view.answers (contents_of pairs.items)) }
+        // The pass then knows all of the tree's history, which goes on from what it had seen: what `story` says is so
+        // of it, and what the calls leave in the order of the history are the pairs.
+        ensures history { IfOk result (λ pairs. EndsHistory self.plan pass (contents_of pairs.items)) }
         // If an allocation fails, tree and pass come back as they were.
         ensures refused { IfErr result (λ refused. (refused.0 ≡ self) × (refused.1 ≡ pass)) }
     {

@@ -49,7 +49,7 @@ pub(crate) fn try_put<M: Memory, G: StepGate>(
     let place = search(table, pass, op, gate);
     if !what.may_replace(place.key, place.value) {
         let found = told_of_put(what, place);
-        answer(table, pass, Reply::found(found), gate);
+        answer(table, pass, Reply::found(found), None, gate);
         return Tried::Answered(found);
     }
     let (parent, update) = (place.parent.node, place.parent.update);
@@ -69,7 +69,7 @@ pub(crate) fn try_put<M: Memory, G: StepGate>(
             let below = node_with(place, place.parent.tag);
             finish_insert(table, pass, card, parent, below, right_key, left_key, gate);
             retire_put(table, pass, card, what, place);
-            answer(table, pass, reply_once_done(what), gate);
+            answer(table, pass, reply_once_done(what), None, gate);
             Tried::Answered(Some(what.was.unwrap_or(what.value)))
         }
         Err(found) => {

@@ -35,8 +35,6 @@ impl<A: Allocator + Copy> Tree<FixedMemory<A>> {
             made.0.plan ≡ record { keys = keys.now; start = []; last_card = cards; shared = false; flat = false; slots = None }) }
         // The pass owns these keys, of which the start keys are present, has the whole share, and has made no step.
         ensures pass { IfOk result (λ made. IsFirst made.0 made.1) }
-        // It was answered nothing.
-        ensures called { IfOk result (λ made. made.1.view.answers ≡ []) }
         // `BadCards` is returned exactly if the number of cards is not 1 to 1,000,000, and otherwise only `NoMemory`.
         ensures refused { IfErr result (RefusesCards cards) }
     {
@@ -74,8 +72,6 @@ impl<A: Allocator + Copy> Tree<FixedMemory<A>> {
         }) }
         // The pass owns these keys, of which the start keys are present, has the whole share, and has made no step.
         ensures pass { IfOk result (λ made. IsFirst made.0 made.1) }
-        // It was answered nothing.
-        ensures called { IfOk result (λ made. made.1.view.answers ≡ []) }
         // `BadCards` is returned exactly if the number of cards is not 1 to 1,000,000, and otherwise only `NoMemory`.
         ensures refused { IfErr result (RefusesCards cards) }
     {
@@ -119,8 +115,6 @@ impl<A: Allocator + Copy> Tree<FixedMemory<A>> {
         }) }
         // The pass owns these keys, of which the start keys are present, has the whole share, and has made no step.
         ensures pass { IfOk result (λ made. IsFirst made.0 made.1) }
-        // It was answered nothing.
-        ensures called { IfOk result (λ made. made.1.view.answers ≡ []) }
         // `BadCards` is returned exactly if the number of cards is not 1 to 1,000,000, and otherwise only `NoMemory`.
         ensures refused { IfErr result (RefusesCards cards) }
     {
@@ -164,8 +158,6 @@ impl<A: Allocator + Copy> Tree<FixedMemory<A>> {
         }) }
         // The pass owns these keys, of which the start keys are present, has the whole share, and has made no step.
         ensures pass { IfOk result (λ made. IsFirst made.0 made.1) }
-        // It was answered nothing.
-        ensures called { IfOk result (λ made. made.1.view.answers ≡ []) }
         // `BadCards` is returned exactly if the number of cards is not 1 to 1,000,000, and otherwise only `NoMemory`.
         ensures refused { IfErr result (RefusesCards cards) }
     {
@@ -224,8 +216,6 @@ impl<A: Allocator + Copy> Tree<FixedMemory<A>> {
         }) }
         // The pass owns these keys, of which the start keys are present, has the whole share, and has made no step.
         ensures pass { IfOk result (λ made. IsFirst made.0 made.1) }
-        // It was answered nothing.
-        ensures called { IfOk result (λ made. made.1.view.answers ≡ []) }
         // `BadCards` is returned exactly if the number of cards is not 1 to 1,000,000, and otherwise only `NoMemory`.
         ensures refused { IfErr result (RefusesCards cards) }
     {

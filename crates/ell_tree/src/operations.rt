@@ -59,7 +59,7 @@ pub(crate) fn find<M: Memory, G: StepGate>(
     begin(table, pass, op, gate);
     let place = search(table, pass, op, gate);
     let there = (place.key == key).then_some(place.value);
-    answer(table, pass, Reply::found(there), gate);
+    answer(table, pass, Reply::found(there), None, gate);
     gate.after(label, true);
     there
 }

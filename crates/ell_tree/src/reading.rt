@@ -6,6 +6,7 @@ ghost use Rattle.ell_layout.specs.Words.{has_block};
 ghost use Rattle.ell_cards.specs.Guards.{GoOnBy};
 ghost use Rattle.ell_cards.specs.Models.{flat_from};
 ghost use Rattle.ell_ops.specs.Meaning.{greatest_key};
+ghost use Rattle.ell_cards.specs.LookPlaces.{FindsHavePlaces, SawLookBegin};
 ghost use Rattle.ell_cards.specs.Looking.{HasFound, HasFoundBetween, ReadsItsOwn, MissesItsOwn};
 ghost use Rattle.ell_tree.specs.CardsLeft.{ReadsCardsLeft};
 ghost use Rattle.ell_tree.specs.Counts.{CountsAll, HasUncounted};
@@ -36,6 +37,8 @@ pub(crate) fn look<M: Memory, G: StepGate>(
     ensures mine { Owns pass.old key → result ≡ present_in pass.old key }
     ensures counted { CountsAll pass.old pass.new }
     ensures only { OnlyLooks pass.old pass.new (look_steps (deepest table.now.plan)) }
+    ensures saw { SawLookBegin pass.old.sight pass.new.sight }
+    ensures places { FindsHavePlaces table.now.plan pass.new.view pass.new.sight }
 {
     let (found, steps) = walk(table, pass, key, gate);
     pass.count(steps);
@@ -57,6 +60,8 @@ fn walk<M: Memory, G: StepGate>(
     ensures mine { Owns pass.old key → result.0 ≡ present_in pass.old key }
     ensures uncounted { HasUncounted pass.old pass.new result.1 }
     ensures only { OnlyLooks pass.old pass.new (look_steps (deepest table.now.plan)) }
+    ensures saw { SawLookBegin pass.old.sight pass.new.sight }
+    ensures places { FindsHavePlaces table.now.plan pass.new.view pass.new.sight }
 {
     table.facts_stay_inside(pass);
     let label = pass.label();
@@ -66,7 +71,7 @@ fn walk<M: Memory, G: StepGate>(
     let mut steps = 1;
     while is_internal(node) {
         gate.before(label, Kind::Look);
-        let node_key = table.key_of(pass, node);
+        let node_key = table.look_key(pass, node);
         gate.before(label, Kind::Look);
         let alone = Stretch {
             low: key,
@@ -78,12 +83,12 @@ fn walk<M: Memory, G: StepGate>(
         steps += 2;
     }
     gate.before(label, Kind::Look);
-    let leaf_key = table.key_of(pass, node);
+    let leaf_key = table.look_key(pass, node);
     if leaf_key != key {
         return (None, steps + 1);
     }
     gate.before(label, Kind::Look);
-    (Some(table.value_of(pass, node)), steps + 2)
+    (Some(table.look_value(pass, node)), steps + 2)
 }
 
 /// Returns what is around a key, in one state. The look goes down once.
@@ -100,6 +105,8 @@ pub(crate) fn look_about<M: Memory, G: StepGate>(
     ensures one { pass.new.view.looks ≡ pass.old.view.looks + 1 }
     ensures mine { TellsItsOwn pass.old result.low result.high (value_there result.found) }
     ensures only { OnlyLooks pass.old pass.new (look_steps (deepest table.now.plan)) }
+    ensures saw { SawLookBegin pass.old.sight pass.new.sight }
+    ensures places { FindsHavePlaces table.now.plan pass.new.view pass.new.sight }
 {
     let (about, steps) = walk_about(table, pass, key, gate);
     pass.count(steps);
@@ -124,6 +131,8 @@ fn walk_about<M: Memory, G: StepGate>(
     ensures missed { MissesItsOwn (flat_from table.now.plan) pass.new.view }
     ensures uncounted { HasUncounted pass.old pass.new result.1 }
     ensures only { OnlyLooks pass.old pass.new (look_steps (deepest table.now.plan)) }
+    ensures saw { SawLookBegin pass.old.sight pass.new.sight }
+    ensures places { FindsHavePlaces table.now.plan pass.new.view pass.new.sight }
 {
     table.facts_stay_inside(pass);
     let label = pass.label();
@@ -138,7 +147,7 @@ fn walk_about<M: Memory, G: StepGate>(
     let mut steps = 1;
     while is_internal(here.node) {
         gate.before(label, Kind::Look);
-        let node_key = table.key_of(pass, here.node);
+        let node_key = table.look_key(pass, here.node);
         if table.has_block(here.node) && !is_in_block(node_key, key) {
             return (beside_block(here, node_key, key), steps + 1);
         }

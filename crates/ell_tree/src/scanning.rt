@@ -2,6 +2,7 @@
 ghost use Rattle.std.specs.Prelude.{◌≡◌, ◌<◌, ◌≤◌, ◌+◌, IfSome, drop, length};
 ghost use Rattle.ell_ops.specs.Contents.{contents_of};
 ghost use Rattle.ell_ops.specs.Meaning.{greatest_key};
+ghost use Rattle.ell_cards.specs.LookPlaces.{FindsHavePlaces, SawLookBegin};
 ghost use Rattle.ell_tree.specs.Ledgers.{IsIdlePassOf};
 ghost use Rattle.ell_tree.specs.Looks.{OnlyLooks};
 ghost use Rattle.ell_tree.specs.Scans.{AreInOrder, HaveFound, HasFoundLast, HasFoundNext, TellsItsOwn, end_of, scan_steps, written};
@@ -53,6 +54,8 @@ pub(crate) fn scan<M: Memory, G: StepGate>(
     ensures mine { TellsItsOwn pass.old from (end_of upto result) (contents_of (written room.new result)) }
     ensures one { pass.new.view.looks ≡ pass.old.view.looks + 1 }
     ensures only { OnlyLooks pass.old pass.new (scan_steps table.now.plan) }
+    ensures saw { SawLookBegin pass.old.sight pass.new.sight }
+    ensures places { from < end_of upto result → FindsHavePlaces table.now.plan pass.new.view pass.new.sight }
 {
     let mut cursor = Cursor::begin(table, pass, gate);
     let mut at = from;
@@ -85,6 +88,8 @@ pub(crate) fn next_from<M: Memory, G: StepGate>(
     ensures found { HasFoundNext pass.new.view from result }
     ensures one { pass.new.view.looks ≡ pass.old.view.looks + 1 }
     ensures only { OnlyLooks pass.old pass.new (scan_steps table.now.plan) }
+    ensures saw { SawLookBegin pass.old.sight pass.new.sight }
+    ensures places { from ≤ greatest_key → FindsHavePlaces table.now.plan pass.new.view pass.new.sight }
 {
     let mut room = [Pair { key: 0, value: 0 }];
     let scanned = scan(table, pass, from, KEY_MAX + 1, &mut room, gate);
@@ -107,6 +112,8 @@ pub(crate) fn last_below<M: Memory, G: StepGate>(
     ensures found { HasFoundLast pass.new.view upto result }
     ensures one { pass.new.view.looks ≡ pass.old.view.looks + 1 }
     ensures only { OnlyLooks pass.old pass.new (scan_steps table.now.plan) }
+    ensures saw { SawLookBegin pass.old.sight pass.new.sight }
+    ensures places { 0 < upto → FindsHavePlaces table.now.plan pass.new.view pass.new.sight }
 {
     let mut cursor = Cursor::begin(table, pass, gate);
     let mut below = upto;

@@ -10,11 +10,10 @@ ghost use Rattle.ell_core.specs.acts.Searching.{MayStop};
 ghost use Rattle.ell_layout.specs.Cards.{says_by};
 ghost use Rattle.ell_cards.specs.declared.view.Told.TheVariants as told;
 ghost use Rattle.ell_cards.specs.Models.{Does, IsFree, IsTold, Knows};
-ghost use Rattle.ell_cards.specs.Changes.{answered_so, depth_there, is_mark_of, taken_now, tries_hindered, with_answer};
+ghost use Rattle.ell_cards.specs.Changes.{answered_so, depth_there, is_mark_of, tries_hindered};
 ghost use Rattle.ell_cards.specs.Depths.{deepest, IsShallow, depth_of};
 ghost use Rattle.ell_cards.specs.Guards.{KnowsPlace, MayAnswer, MayAsk, NamesNode};
 ghost use Rattle.ell_cards.specs.Calls.{TellsNode};
-ghost use Rattle.ell_cards.specs.Looking.{ValuesAreFixed};
 ghost use Rattle.ell_cards.specs.Seeing.{SeesBegin, SeesEnd};
 ghost use Rattle.ell_cards.specs.Stepping.{LetsGo};
 ghost use Rattle.ell_tree.specs.CardsTaken.{TakesNoCard};
@@ -83,25 +82,24 @@ pub(crate) fn leave<M: Memory, G: StepGate>(table: &CardTable<M>, pass: &mut Pas
     table.leave(pass);
 }
 
-/// Answers the operation in hand.
+/// Answers the operation in hand, by a reply and, if it is a delete that took a value, by that.
 pub(crate) fn answer<M: Memory, G: StepGate>(
     table: &CardTable<M>,
     pass: &mut Pass<M>,
     said: Reply,
+    took: Option<u64>,
     gate: &G,
 )
     requires own { pass.old.table ≡ table.now.id }
-    requires may { MayAnswer pass.old.view said }
+    requires may { MayAnswer pass.old.view said took }
     // Where there are places, the pass has noted all that its card in hand made dead.
     requires noted { LetsGo table.now.plan pass.old }
     ensures answers { (op : Op) → Does pass.old.view op → AnswersAs SeesEnd table.now op said pass.old pass.new }
+    ensures ended { (op : Op) → Does pass.old.view op → SeesEnd op said took pass.old.sight pass.new.sight }
     ensures hindrances { pass.new.view.hindrances ≡ pass.old.view.hindrances }
     ensures hindered { pass.new.view.hindered ≡ pass.old.view.hindered }
-    ensures last { pass.new.view.answered ≡ answered_so pass.old.view.worker.operation pass.old.view.worker.card said
-        (taken_now said pass.old.view) }
-    ensures deeds { pass.new.view.answers ≡ with_answer pass.old.view.worker.operation said (taken_now said pass.old.view)
-        pass.old.view.answers }
-    ensures values { ValuesAreFixed pass.old.view }
+    ensures last { pass.new.view.answered
+        ≡ answered_so pass.old.view.worker.operation pass.old.view.worker.card said took }
     ensures facts { pass.new.view.worker.knows ≡ pass.old.view.worker.knows }
     ensures least { pass.new.view.next_at_least ≡ pass.old.view.next_at_least }
     ensures room { pass.new.view.next_at_least ≤ table.now.plan.last_card + 1 }
@@ -109,7 +107,7 @@ pub(crate) fn answer<M: Memory, G: StepGate>(
     ensures took { Took pass.old pass.new 1 }
 {
     gate.before(pass.label(), Kind::Note);
-    table.answer(pass, said);
+    table.answer(pass, said, took);
 }
 
 /// Reads the key of a node that the pass has met.

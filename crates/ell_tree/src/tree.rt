@@ -8,10 +8,9 @@ ghost use Rattle.ell_ops.specs.KeySet.{set_of};
 ghost use Rattle.ell_ops.specs.Meaning.{greatest_key, found};
 ghost use Rattle.ell_word.specs.Node.{most_start};
 ghost use Rattle.ell_core.specs.state.Opening.{last_card};
-ghost use Rattle.ell_cards.specs.Changes.{inherited};
 ghost use Rattle.ell_cards.specs.Models.{IsCardCount, MayPart, RefusesCards, SplitRefuses};
 ghost use Rattle.ell_cards.specs.Sights.{given_sight, joined_sight};
-ghost use Rattle.ell_tree.specs.Called.{IsCalled, IsDeleteCalled, IsPutCalled, IsRemoveCalled, IsTakeCalled, IsUpdateCalled, SeesAnswer, SeesPut, SeesRemove, SeesUpdate};
+ghost use Rattle.ell_tree.specs.Called.{SeesAnswer, SeesDelete, SeesPut, SeesRemove, SeesTake, SeesUpdate};
 ghost use Rattle.ell_tree.specs.CardsLeft.{AreLeftAtMost, ReadsCardsLeft};
 ghost use Rattle.ell_tree.specs.CardsTaken.{TakesNoCard};
 ghost use Rattle.ell_tree.specs.Computing.{update_steps_in, AreTried, AreTriedOrRead, IsNotDone, IsSum, PutsValue, RemovesIf, UpdatesValue, update_steps, whether_put};
@@ -21,6 +20,7 @@ ghost use Rattle.ell_tree.specs.Milestones.{milestones_known};
 ghost use Rattle.ell_tree.specs.declared.operations.NotDone.TheVariants.{Busy};
 ghost use Rattle.ell_tree.specs.Ledgers.{IsIdlePassOf, Owns, TreeModel, present_in};
 ghost use Rattle.ell_cards.specs.Looking.{IsKnownInRun};
+ghost use Rattle.ell_tree.specs.LookPlaces.{SeesAround, SeesLast, SeesNext, SeesScan, SeesThere};
 ghost use Rattle.ell_tree.specs.Looks.{EndsLooks, IsFoundIn, OnlyLooks, look_steps};
 ghost use Rattle.ell_tree.specs.Scans.{AreFoundIn, AreInOrder, IsAbout, IsFoundAboutIn, IsLastIn, IsNextIn, TellsItsOwn, end_of, scan_steps, value_there, written};
 ghost use Rattle.ell_ops.specs.Contents.{contents_of};
@@ -78,9 +78,6 @@ impl<M: Memory> Tree<M> {
         // Both parts have seen of the tree's history what the pass has. The left part keeps the calls that the pass has, and
         // the right part has none.
         ensures sees { IfOk result (λ parts. (parts.0.sight ≡ pass.sight) × (parts.1.sight ≡ given_sight pass.sight)) }
-        // The left part was answered what the pass was answered, and the right part knows of that.
-        ensures called { IfOk result (λ parts. (parts.0.view.answers ≡ pass.view.answers)
-            × (parts.1.view.answers ≡ inherited pass.view.answers)) }
         // Where no card comes back, `TooManyPasses` is returned exactly if the tree shares keys and the share is the
         // least one, and otherwise only `NoMemory`. Where cards come back, it is returned in that case too, and may be
         // in others. After either error the pass comes back as it was.
@@ -105,8 +102,6 @@ impl<M: Memory> Tree<M> {
         ensures joined { IfOk result (IsUnion left right) }
         // It has seen the longer one of the beginnings of the tree's history that they have seen, and has the calls of both.
         ensures sees { IfOk result (λ both. both.sight ≡ joined_sight left.sight right.sight) }
-        // It was answered what both were answered.
-        ensures called { IfOk result (λ both. both.view.answers ≡ left.view.answers ++ right.view.answers) }
         // If an allocation fails, both come back as they were.
         ensures refused { IfErr result (λ refused. (refused.0 ≡ left) × (refused.1 ≡ right)) }
     {
@@ -133,6 +128,9 @@ impl<M: Memory> Tree<M> {
         requires real { key ≤ greatest_key }
         // The answer is what the tree had for the key in one state since the look began, in every run.
         ensures so { IsFoundIn self.now pass.new.view key result }
+        // The look began behind all of the tree's history that the pass had seen, and the answer has a place in an
+        // order of the calls of what it has seen now, behind each call that had ended when the look began.
+        ensures sees { SeesThere self.now key result pass.old pass.new }
         ensures one { pass.new.view.looks ≡ pass.old.view.looks + 1 }
         // For a key of the pass, it is what the pass has.
         ensures mine { Owns pass.old key → result ≡ present_in pass.old key }
@@ -175,6 +173,8 @@ impl<M: Memory> Tree<M> {
         // The answer is what the tree had for all keys of the stretch in one state since the look began, in every run:
         // one of them, with its value, or none. The stretch contains the key.
         ensures so { IsFoundAboutIn self.now pass.new.view result }
+        // What the pass has seen of the history is as after `look`, and the answer has one place for the whole stretch.
+        ensures sees { SeesAround self.now result pass.old pass.new }
         ensures about { IsAbout key result }
         ensures one { pass.new.view.looks ≡ pass.old.view.looks + 1 }
         // For the keys of the pass, it is what the pass has.
@@ -209,6 +209,9 @@ impl<M: Memory> Tree<M> {
         // Each key of the range, as far as the scan got, is answered as by a look at it, in some state since the scan
         // began: two keys may be of two states.
         ensures so { AreFoundIn self.now pass.new.view from (end_of upto result) (contents_of (written room.new result)) }
+        // If the scan came by a key, what the pass has seen of the history is as after `look`, and each key has its
+        // place.
+        ensures sees { SeesScan self.now from (end_of upto result) (contents_of (written room.new result)) pass.old pass.new }
         // The pairs are of keys of the range, in strictly ascending order.
         ensures ordered { AreInOrder from (end_of upto result) (written room.new result) }
         // The scan reached the end of the range, or the room is full and `next` is the key at which to continue. The
@@ -240,6 +243,8 @@ impl<M: Memory> Tree<M> {
         // The answer is the least present key that is at least this one, with its value: it was present in one state
         // since the call began, and each key before it was absent in one.
         ensures so { IsNextIn self.now pass.new.view key result }
+        // What the pass has seen of the history is as after `scan`.
+        ensures sees { SeesNext self.now key result pass.old pass.new }
         ensures one { pass.new.view.looks ≡ pass.old.view.looks + 1 }
         // It only loads, and makes at most `(cards + 1) * (2 * depth + 2) + 1` steps. Otherwise the pass is unchanged.
         ensures only { OnlyLooks pass.old pass.new (scan_steps self.now.plan) }
@@ -260,6 +265,8 @@ impl<M: Memory> Tree<M> {
         requires real { key ≤ greatest_key }
         // The answer is as that of `next_at_least`, for the keys above this one.
         ensures so { IsNextIn self.now pass.new.view (key + 1) result }
+        // What the pass has seen of the history is as after `scan`, if there is such a key.
+        ensures sees { key < greatest_key → SeesNext self.now (key + 1) result pass.old pass.new }
         ensures one { pass.new.view.looks ≡ pass.old.view.looks + 1 }
         // It only loads, and makes at most `(cards + 1) * (2 * depth + 2) + 1` steps. Otherwise the pass is unchanged.
         ensures only { OnlyLooks pass.old pass.new (scan_steps self.now.plan) }
@@ -274,6 +281,8 @@ impl<M: Memory> Tree<M> {
         requires may { IsIdlePassOf self.now pass.old }
         // The answer is as that of `next_at_least`, for all keys.
         ensures so { IsNextIn self.now pass.new.view 0 result }
+        // What the pass has seen of the history is as after `scan`.
+        ensures sees { SeesNext self.now 0 result pass.old pass.new }
         ensures one { pass.new.view.looks ≡ pass.old.view.looks + 1 }
         // It only loads, and makes at most `(cards + 1) * (2 * depth + 2) + 1` steps. Otherwise the pass is unchanged.
         ensures only { OnlyLooks pass.old pass.new (scan_steps self.now.plan) }
@@ -296,6 +305,8 @@ impl<M: Memory> Tree<M> {
         // The answer is the greatest present key that is at most this one, with its value: it was present in one state
         // since the call began, and each key after it was absent in one.
         ensures so { IsLastIn self.now pass.new.view (key + 1) result }
+        // What the pass has seen of the history is as after `scan`.
+        ensures sees { SeesLast self.now (key + 1) result pass.old pass.new }
         ensures one { pass.new.view.looks ≡ pass.old.view.looks + 1 }
         // It only loads, and makes at most `(cards + 1) * (2 * depth + 2) + 1` steps. Otherwise the pass is unchanged.
         ensures only { OnlyLooks pass.old pass.new (scan_steps self.now.plan) }
@@ -316,6 +327,8 @@ impl<M: Memory> Tree<M> {
         requires real { key ≤ greatest_key }
         // The answer is as that of `last_at_most`, for the keys below this one.
         ensures so { IsLastIn self.now pass.new.view key result }
+        // What the pass has seen of the history is as after `scan`, if there is such a key.
+        ensures sees { 0 < key → SeesLast self.now key result pass.old pass.new }
         ensures one { pass.new.view.looks ≡ pass.old.view.looks + 1 }
         // It only loads, and makes at most `(cards + 1) * (2 * depth + 2) + 1` steps. Otherwise the pass is unchanged.
         ensures only { OnlyLooks pass.old pass.new (scan_steps self.now.plan) }
@@ -330,6 +343,8 @@ impl<M: Memory> Tree<M> {
         requires may { IsIdlePassOf self.now pass.old }
         // The answer is as that of `last_at_most`, for all keys.
         ensures so { IsLastIn self.now pass.new.view (greatest_key + 1) result }
+        // What the pass has seen of the history is as after `scan`.
+        ensures sees { SeesLast self.now (greatest_key + 1) result pass.old pass.new }
         ensures one { pass.new.view.looks ≡ pass.old.view.looks + 1 }
         // It only loads, and makes at most `(cards + 1) * (2 * depth + 2) + 1` steps. Otherwise the pass is unchanged.
         ensures only { OnlyLooks pass.old pass.new (scan_steps self.now.plan) }
@@ -364,8 +379,6 @@ impl<M: Memory> Tree<M> {
         // On a key of the pass, the answer is the value that the pass has. On any key, it is that of one thread at one
         // point of the call, in every run. The pass is idle, and keeps its keys and its share.
         ensures answers { Answers self.now (Find key) (found result) pass.old pass.new }
-        // The pass was answered this call, and no other.
-        ensures called { IsCalled (Find key) pass.old pass.new (Ok (found result)) }
         // The call began behind all that the pass had seen of the tree's history, it is a call of what the pass has seen
         // now, and it is the last one of the pass's calls.
         ensures sees { SeesAnswer (Find key) pass.old pass.new (Ok (found result)) }
@@ -419,8 +432,6 @@ impl<M: Memory> Tree<M> {
         // one) are at most as many as the start keys, two for each key of the tree, three, three for each place, and
         // those set free too lately. What was in its way is over.
         ensures ends { Ends self.now tries (Insert key value) pass.old pass.new (replied result) }
-        // The pass was answered this call and no other, or nothing if the call has no answer.
-        ensures called { IsCalled (Insert key value) pass.old pass.new (replied result) }
         // The call began behind all that the pass had seen of the tree's history, it is a call of what the pass has seen
         // now, and it is the last one of the pass's calls. A call that has no answer adds none.
         ensures sees { SeesAnswer (Insert key value) pass.old pass.new (replied result) }
@@ -457,8 +468,6 @@ impl<M: Memory> Tree<M> {
         // pass in the pass's map, and on any key as of one thread at one point of the call, in every run. A call
         // without an answer ends as an insert does, and what was in its way is over.
         ensures ends { Ends self.now tries (Swap key was value) pass.old pass.new (found_or_not_done result) }
-        // The pass was answered this call and no other, or nothing if the call has no answer.
-        ensures called { IsCalled (Swap key was value) pass.old pass.new (found_or_not_done result) }
         // The call began behind all that the pass had seen of the tree's history, it is a call of what the pass has seen
         // now, and it is the last one of the pass's calls. A call that has no answer adds none.
         ensures sees { SeesAnswer (Swap key was value) pass.old pass.new (found_or_not_done result) }
@@ -503,10 +512,8 @@ impl<M: Memory> Tree<M> {
         // this holds in the pass's map, and on any key as of one thread at the point of the last operation, in every
         // run.
         ensures puts { IfOk result (PutsValue self.now key value pass.old pass.new) }
-        // Of all that the pass was answered by the call, only the last has changed anything: what put the value.
-        ensures called { IsPutCalled key value pass.old pass.new result }
         // Each of its operations is a call of the tree's history, as the pass has seen it, and began behind all that the
-        // pass had seen before.
+        // pass had seen before. Only the last has changed anything: what put the value.
         ensures sees { SeesPut key value pass.old pass.new result }
         // A call without an answer changes nothing of what the pass has, and has nothing in hand. Its last operation
         // changes nothing in any run. `Spent` is returned only if no card is left, as by an insert or a delete.
@@ -546,10 +553,8 @@ impl<M: Memory> Tree<M> {
         // The key had the value that is returned, and has what the closure made of it instead, by one step; an absent
         // key stays absent. As for `put`, this holds in the pass's map, and as of one thread.
         ensures updates { IfOk result (UpdatesValue self.now key (F.post f) pass.old pass.new) }
-        // Of all that the pass was answered by the call, only the last has changed anything: the swap of the value.
-        ensures called { IsUpdateCalled key (F.post f) pass.old pass.new result }
         // Each of its operations is a call of the tree's history, as the pass has seen it, and began behind all that the
-        // pass had seen before.
+        // pass had seen before. Only the last has changed anything: the swap of the value.
         ensures sees { SeesUpdate key (F.post f) pass.old pass.new result }
         // A call without an answer changes nothing of what the pass has, and has nothing in hand. Its last operation
         // changes nothing in any run. `Spent` is returned only if no card is left, as by an insert or a delete.
@@ -590,10 +595,8 @@ impl<M: Memory> Tree<M> {
         // The key had the value that is returned, and has the sum modulo 2^64 instead, by one step; an absent key stays
         // absent. As for `put`, this holds in the pass's map, and as of one thread.
         ensures adds { IfOk result (UpdatesValue self.now key (IsSum addend) pass.old pass.new) }
-        // Of all that the pass was answered by the call, only the last has changed anything: the swap of the value.
-        ensures called { IsUpdateCalled key (IsSum addend) pass.old pass.new result }
         // Each of its operations is a call of the tree's history, as the pass has seen it, and began behind all that the
-        // pass had seen before.
+        // pass had seen before. Only the last has changed anything: the swap of the value.
         ensures sees { SeesUpdate key (IsSum addend) pass.old pass.new result }
         // A call without an answer changes nothing of what the pass has, and has nothing in hand. Its last operation
         // changes nothing in any run. `Spent` is returned only if no card is left, as by an insert or a delete.
@@ -639,12 +642,10 @@ impl<M: Memory> Tree<M> {
         // one) are at most as many as the start keys, two for each key of the tree, three, three for each place, and
         // those set free too lately. What was in its way is over.
         ensures ends { Ends self.now tries (Delete key) pass.old pass.new (replied result) }
-        // The pass was answered this call and no other, or nothing if the call has no answer. The call took a value
-        // exactly if it says so.
-        ensures called { IsDeleteCalled key pass.old pass.new result }
         // The call began behind all that the pass had seen of the tree's history, it is a call of what the pass has seen
-        // now, and it is the last one of the pass's calls. A call that has no answer adds none.
-        ensures sees { SeesAnswer (Delete key) pass.old pass.new (replied result) }
+        // now, and it is the last one of the pass's calls. It took a value exactly if it says so. A call that has no
+        // answer adds none.
+        ensures sees { SeesDelete key pass.old pass.new result }
         // A `Busy` call counts each of its tries as hindered. Each shows the pass a milestone that it did not know, and
         // in every run they are no more than others' acts allow.
         ensures others { result ≡ Err Busy → IsOthersDoing self.now tries pass.old pass.new }
@@ -681,12 +682,10 @@ impl<M: Memory> Tree<M> {
         // one) are at most as many as the start keys, two for each key of the tree, three, three for each place, and
         // those set free too lately. What was in its way is over.
         ensures ends { Ends self.now tries (Delete key) pass.old pass.new (replied (whether result)) }
-        // The pass was answered this call and no other, which took the value that it returns; or nothing, if the call
-        // has no answer.
-        ensures called { IsTakeCalled key pass.old pass.new result }
         // The call began behind all that the pass had seen of the tree's history, it is a call of what the pass has seen
-        // now, and it is the last one of the pass's calls. A call that has no answer adds none.
-        ensures sees { SeesAnswer (Delete key) pass.old pass.new (replied (whether result)) }
+        // now, and it is the last one of the pass's calls. It took the value that it returns. A call that has no answer
+        // adds none.
+        ensures sees { SeesTake key pass.old pass.new result }
         // The value is the one that it took: for a key of the pass, the value that the pass had; for any key, the one
         // that it had at the call's point, in every run.
         ensures took { IfOk result (TakesValue self.now key pass.old pass.new) }
@@ -723,11 +722,8 @@ impl<M: Memory> Tree<M> {
         // answer is what the key had at the point of a find, and the call has changed nothing. As for `put`, this holds
         // in the pass's map, and as of one thread.
         ensures removes { IfOk result (RemovesIf self.now key was pass.old pass.new) }
-        // Of all that the pass was answered by the call, only the last has changed anything: the delete, which took
-        // `was`.
-        ensures called { IsRemoveCalled key was pass.old pass.new result }
         // Each of its operations is a call of the tree's history, as the pass has seen it, and began behind all that the
-        // pass had seen before.
+        // pass had seen before. Only the last has changed anything: the delete, which took `was`.
         ensures sees { SeesRemove key was pass.old pass.new result }
         // A call without an answer changes nothing of what the pass has, and has nothing in hand. Its last operation
         // changes nothing in any run. `Spent` is returned only if no card is left, as by an insert or a delete.

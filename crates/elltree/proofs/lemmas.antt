@@ -8,3 +8,5 @@ pub mod Calling
 pub mod Parting
 -- a handle that is put together again
 pub mod Rebuilt
+-- what is seen of a look that has ended
+pub mod Looking

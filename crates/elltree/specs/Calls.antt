@@ -12,6 +12,7 @@ use Rattle.ell_tree.specs.CardsTaken.{TakesNoCard}
 use Rattle.ell_tree.specs.Computing.{AreTried, AreTriedOrRead, IsNotDone, IsSum, PutsValue, RemovesIf, UpdatesValue, update_steps_in, whether_put}
 use Rattle.ell_tree.specs.Counts.{Took, TookIn}
 use Rattle.ell_tree.specs.Ends.{Answers, CountsTries, Ends, TakesValue, find_steps, found_or_not_done, replied, whether, whether_swapped}
+use Rattle.ell_tree.specs.LookPlaces.{SeesLast, SeesNext, SeesScan, SeesThere}
 use Rattle.ell_tree.specs.Looks.{EndsLooks, IsFoundIn, OnlyLooks, look_steps}
 use Rattle.ell_tree.specs.Promises.{IsOthersDoing, IsQuiet, IsWithin, SpendsCards}
 use Rattle.ell_tree.specs.Scans.{AreFoundIn, AreInOrder, IsLastIn, IsNextIn, end_of, scan_steps, written}
@@ -35,8 +36,9 @@ pub record Finds (key : ℕ) (old new : Handle) (there : Option ℕ) : Type 0 wh
 
 -- a call that only looks, once, in at most so many steps: the pass came to `looked`, and knew this by then; where cards
 -- come back, a run of the tree led there, and the pass has then ended the look, by one step more; and elsewhere the
--- handle has that pass
-pub record HasLooked (old new : Handle) (steps : ℕ) (IsKnown : View → Type 0) : Type 0 where
+-- handle has that pass. And this is so of what the handle has seen of the tree's history
+pub record HasLooked (old new : Handle) (steps : ℕ) (IsKnown : View → Type 0)
+    (IsSeen : PassModel → PassModel → Type 0) : Type 0 where
   pub looked : PassModel
   pub so : IsKnown looked.view
   pub one : looked.view.looks ≡ old.pass.view.looks + 1
@@ -44,20 +46,23 @@ pub record HasLooked (old new : Handle) (steps : ℕ) (IsKnown : View → Type 0
   pub cards : TakesNoCard old.pass looked
   pub known : (tree_of old).plan.slots ≢ None → IsKnownInRun (tree_of old).plan looked.view
   pub ends : EndsLooks (tree_of old).plan.slots looked new.pass
+  pub sees : IsSeen old.pass new.pass
   pub tree : new.tree ≡ old.tree
 
 -- so a scan, which may make more steps
-abbrev pub HasScanned : Handle → Handle → (View → Type 0) → Type 0
+abbrev pub HasScanned : Handle → Handle → (View → Type 0) → (PassModel → PassModel → Type 0) → Type 0
 HasScanned old new = HasLooked old new (scan_steps (tree_of old).plan)
 
 -- nothing is found, and the handle is as it was
 abbrev pub FindsNothing : {A : Type 0} → Handle → Handle → Option A → Type 0
 FindsNothing old new there = (there ≡ None) × (new ≡ old)
 
--- a look: the answer is what the tree had for the key in one state since this look began
+-- a look: the answer is what the tree had for the key in one state since this look began, and has its place in an order
+-- of the calls of the history that the handle has seen
 pub record LooksUp (key : ℕ) (old new : Handle) (there : Option ℕ) : Type 0 where
   pub so : key ≤ greatest_key
       → HasLooked old new (look_steps (deepest_of old)) (λ v. IsFoundIn (tree_of old) v key there)
+      (SeesThere (tree_of old) key there)
   pub beyond : greatest_key < key → FindsNothing old new there
 
 -- the end of the keys of a range, of which none is above the greatest
@@ -68,6 +73,7 @@ real_end upto = min upto (greatest_key + 1)
 pub record Scans (from upto : ℕ) (before after : List Pair) (old new : Handle) (result : Scanned) : Type 0 where
   pub so : HasScanned old new
       (λ v. AreFoundIn (tree_of old) v from (end_of (real_end upto) result) (contents_of (written after result)))
+      (SeesScan (tree_of old) from (end_of (real_end upto) result) (contents_of (written after result)))
   pub ordered : AreInOrder from (end_of (real_end upto) result) (written after result)
   pub count : result.count ≤ length before
   pub next : IfSome result.next (λ next. (from ≤ next) × (next < real_end upto) × (result.count ≡ length before))
@@ -75,12 +81,14 @@ pub record Scans (from upto : ℕ) (before after : List Pair) (old new : Handle)
 
 -- a search for the next key from one on; none is present above the greatest
 pub record SeeksNext (key : ℕ) (old new : Handle) (there : Option (ℕ × ℕ)) : Type 0 where
-  pub so : key ≤ greatest_key → HasScanned old new (λ v. IsNextIn (tree_of old) v key there)
+  pub so : key ≤ greatest_key
+      → HasScanned old new (λ v. IsNextIn (tree_of old) v key there) (SeesNext (tree_of old) key there)
   pub beyond : greatest_key < key → FindsNothing old new there
 
 -- a search for the last key up to one
 abbrev pub SeeksLast : ℕ → Handle → Handle → Option (ℕ × ℕ) → Type 0
 SeeksLast key old new there = HasScanned old new (λ v. IsLastIn (tree_of old) v (real_end (key + 1)) there)
+    (SeesLast (tree_of old) (real_end (key + 1)) there)
 
 -- a handle has read the claim word of its tree, by which so many cards were not given out then; in every run no more
 -- are left ever after

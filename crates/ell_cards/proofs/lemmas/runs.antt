@@ -106,10 +106,6 @@ pub mod LayingDown
 pub mod Spent
 -- calls that are in hand still
 pub mod Pending
--- the calls of a run of which passes know
-pub mod Deeds
--- what passes were answered, and the calls of a run
-pub mod Accounts
 -- the history of a run
 pub mod Histories
 -- the places of looks

@@ -12,8 +12,6 @@ pub mod Depths
 pub mod Steps
 -- a search that goes a node down, and the claim at its end
 pub mod Searches
--- What a delete takes, by what its pass was told.
-pub mod TakenValues
 -- the view after a row of claims
 pub mod Rows
 -- nodes of a card that a pass knows to be dead

@@ -69,3 +69,7 @@ pub mod OwnCalls
 pub mod Sighting
 -- and after a load by which it sees all of it
 pub mod Telling
+-- where looks stand in it
+pub mod LookPlaces
+-- and a load by which a look sees that
+pub mod LookTelling

@@ -4,6 +4,7 @@ use Rattle.ell_cards.specs.declared.view.Slots.{Slots}
 use Rattle.ell_cards.specs.declared.view.View.{View}
 use Rattle.ell_cards.specs.Models.{BeginsBy, EndsBy, PassModel, Steps, Does, latest}
 use Rattle.ell_cards.specs.Changes.{after_begin, after_again, after_leave, in_the_way, tries_hindered}
+use Rattle.ell_cards.specs.Seeing.{SeesBegin}
 use Rattle.ell_tree.specs.Hindrances.{way_of}
 use Rattle.ell_tree.specs.Searches.{AtRoot}
 use Rattle.ell_tree.specs.Tries.{Begins, Lays}
@@ -12,12 +13,13 @@ use Rattle.ell_tree.proofs.lemmas.Meeting.{root_way}
 use Rattle.ell_tree.proofs.lemmas.Hindrances.{root_hindered}
 
 -- an operation that was taken in hand stands at the root
-pub begins : (slots : Option Slots) (old new : PassModel) (op : Op) → BeginsBy slots old new (after_begin (Some op) old.view) → Begins op [] old.view.hindered old new
-begins slots old new op s = subst (λ (m : PassModel). Begins op [] old.view.hindered old m) (sym s) (record {
+pub begins : (slots : Option Slots) (old new : PassModel) (op : Op) → BeginsBy slots old new (after_begin (Some op) old.view) → SeesBegin op old.sight new.sight
+    → Begins op [] old.view.hindered old new
+begins slots old new op s sees = subst (λ (m : PassModel). Begins op [] old.view.hindered old m) (sym s) (record {
   table = refl;
   label = refl;
   ledger = refl;
-  answers = refl;
+  calls = sees.mine;
   share = record { share = refl; ownable = refl };
   hindrances = refl;
   hindered = refl;
@@ -43,7 +45,7 @@ begins_anew old new op s busy =
       table = refl;
       label = refl;
       ledger = refl;
-      answers = refl;
+      calls = refl;
       share = record { share = refl; ownable = refl };
       hindrances = refl;
       hindered = refl;
@@ -61,7 +63,7 @@ begins_first p op at = record {
   table = refl;
   label = refl;
   ledger = refl;
-  answers = refl;
+  calls = refl;
   share = record { share = refl; ownable = refl };
   hindrances = ap (λ hs. hs ++ p.view.hindrances) (sym (root_way op p.view at.root));
   hindered = sym (root_hindered op p.view at);
@@ -81,7 +83,6 @@ lays old new op s busy = subst (λ (m : PassModel). Lays op old m) (sym s) (reco
   label = refl;
   sight = refl;
   ledger = refl;
-  answers = refl;
   share = record { share = refl; ownable = refl };
   hindrances = ap
       (λ (o : Option Op). in_the_way o old.view.worker.search.node old.view.worker.search.parent old.view.worker.search.grandparent ++ old.view.hindrances)

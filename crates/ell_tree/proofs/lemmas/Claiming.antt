@@ -49,7 +49,6 @@ row_keeps : (first last : ℕ) (node : NewNode) (v w : View) → IsAfterRow firs
 row_keeps first last node v w r low up = record {
   ledger = r.ledger;
   operation = r.operation;
-  answers = r.answers;
   share = record { share = r.share; ownable = r.shared };
   knows = λ f h. subst (λ (fs : List Fact). known_of fs f ≡ true) (sym r.knows) h;
   told = r.told;

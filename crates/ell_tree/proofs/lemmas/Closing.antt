@@ -14,8 +14,6 @@ use Rattle.ell_core.proofs.lemmas.tree.Pairs.{Contains-from_list_any}
 use Rattle.ell_cards.specs.declared.view.View.{View}
 use Rattle.ell_cards.specs.Models.{PassModel, IsFree, whole_share}
 use Rattle.ell_cards.specs.Changing.{HasMap}
-use Rattle.ell_cards.specs.Accounts.{AreOfOneThread}
-use Rattle.ell_cards.proofs.lemmas.runs.Accounts.{whole_accounts_are_of_one_thread}
 use Rattle.ell_cards.proofs.lemmas.runs.LinearizingStates.{one_map}
 use Rattle.ell_cards.specs.Changes.{ledger_keys}
 use Rattle.std.specs.Map.{keys_of as pair_keys, values_of}
@@ -24,7 +22,7 @@ use Rattle.ell_ops.specs.KeySet.{set_of}
 use Rattle.ell_ops.proofs.lemmas.Pairs.{contents_at}
 use Rattle.ell_core.specs.declared.view.Entry.TheVariants.{Present}
 use Rattle.ell_core.proofs.lemmas.tree.Pairs.{Contains-first, Contains-later}
-use Rattle.ell_cards.specs.Closed.{ClosedModel, TableEnds}
+use Rattle.ell_cards.specs.Closed.{ClosedModel, EndsHistory, HistoryEnds, TableEnds}
 use Rattle.ell_cards.proofs.lemmas.words.Keys.{owned_among}
 use Rattle.ell_tree.specs.Ledgers.{TreeModel, ledger, present_in}
 use Rattle.ell_tree.specs.Closing.{ClosesTo}
@@ -164,17 +162,9 @@ module _ (t : TreeModel) (p : PassModel) (closed : ClosedModel) (ends : TableEnd
     is_list : HasMap (words_of closed.words) (contents_of pairs)
     is_list k v = (λ there. listed pairs k v lists.ascending ((lists.each k v).1 there), λ is. (lists.each k v).0 (contained pairs k v is))
 
-    -- what the pass was answered is of one thread, which leaves the list
-    pub of_thread : IsFree p.view → (t.plan.shared ≡ true → p.view.share ≡ whole_share) → t.plan.shared ≡ true
-        → AreOfOneThread (contents_of t.plan.start) p.view.answers (contents_of pairs)
-    of_thread free whole mode =
-        let ran = ends.ran in
-        let share = ap (λ (v : View). v.share) ran.shows ∙ whole mode in
-        let idle = ap (λ (v : View). v.worker.operation) ran.shows ∙ free in
-        let account = whole_accounts_are_of_one_thread t.plan ran.state mode ran.reached ran.seat ran.knows ran.seen share idle in
-        let is : HasMap (words_of closed.words) account.left = subst (λ ws. HasMap (words_of ws) account.left) ran.same account.is in
-        subst (λ deeds. AreOfOneThread (contents_of t.plan.start) deeds (contents_of pairs)) (ap (λ (v : View). v.answers) ran.shows)
-        (subst (AreOfOneThread (contents_of t.plan.start) ran.knows.answers) (one_map (words_of closed.words) account.left (contents_of pairs) is is_list) account.thread)
+    -- the map that the history leaves is the list
+    pub of_history : HistoryEnds t.plan p closed → EndsHistory t.plan p (contents_of pairs)
+    of_history h = subst (EndsHistory t.plan p) (one_map (words_of closed.words) h.left (contents_of pairs) h.is is_list) h.ends
 
     pub closes : closed.last_card ≡ t.plan.last_card → ClosesTo t p pairs
     closes cards = record {

@@ -13,18 +13,16 @@ use Rattle.ell_core.specs.state.Machine.{ledger_of, shared_of}
 use Rattle.ell_core.specs.statements.Effects.{contents_in, reply_of_change}
 use Rattle.ell_core.proofs.lemmas.outcomes.Decide.{cases_option, some_not_none}
 use Rattle.ell_core.proofs.lemmas.following.AnswerMeaning.{key_kept, swap_lacked, swap_other}
-use Rattle.ell_cards.specs.declared.view.Deed.{Deed}
-use Rattle.ell_cards.specs.Accounts.{own_calls}
-use Rattle.ell_cards.specs.Changes.{deed_taking}
+use Rattle.ell_cards.specs.declared.view.Act.{Act}
 use Rattle.ell_cards.specs.Models.{PassModel, ledger}
-use Rattle.ell_cards.specs.Seeing.{HasSeenMore}
+use Rattle.ell_cards.specs.Seeing.{HasSeenMore, SeesCall}
 use Rattle.ell_cards.specs.Stepping.{SameShare}
 use Rattle.ell_tree.specs.Ledgers.{TreeModel, present_in, Owns, IsIdle}
 use Rattle.ell_tree.specs.Ends.{Answers, LaidDown}
-use Rattle.ell_tree.specs.Called.{AnsweredLast, AnsweredNoChange, AreNoChanges, IsPutCalled, IsReadCalled, IsUpdateCalled, SeesRead, SeesUpdate, put_by}
+use Rattle.ell_tree.specs.Called.{SeesLast, SeesPut, SeesRead, SeesUpdate, put_by}
 use Rattle.ell_tree.specs.Computing.{IsUntouched, Concludes, LastChangesNothing, PutsValue, ReadsValue, UpdatesValue}
 use Rattle.ell_tree.specs.Promises.{MayDo}
-use Rattle.ell_tree.proofs.lemmas.Called.{its_deed, by_deed}
+use Rattle.ell_tree.proofs.lemmas.Called.{its_take, by_take}
 use Rattle.ell_tree.proofs.lemmas.Keeping.{share_trans}
 use Rattle.ell_tree.proofs.lemmas.Sights.{no_change_call, no_change_last, no_change_more, no_change_self, no_change_trans, sees_last, sees_last_after}
 
@@ -44,22 +42,9 @@ pub found_not_yes : (o : Option ℕ) → found o ≢ Yes
 found_not_yes None e = absurd cc
 found_not_yes (Some v) e = absurd cc
 
--- calls that change nothing, and others such
-both_none : (xs ys : List Deed) → AreNoChanges xs → AreNoChanges ys → AreNoChanges (xs ++ ys)
-both_none [] ys h g = g
-both_none (x ∷ xs) ys h g = (h.0, both_none xs ys h.1 g)
-
-called_trans : (a b c : List Deed) → AnsweredNoChange a b → AnsweredNoChange b c → AnsweredNoChange a c
-called_trans a b c g h = record {
-  calls = h.calls ++ g.calls;
-  is = h.is ∙ (ap (λ (l : List Deed). h.calls ++ l) g.is ∙ sym (append_assoc h.calls g.calls a));
-  none = both_none h.calls g.calls h.none g.none;
-}
-
 -- a pass that answers such an operation is left as it was
 pub untouched_by : (t : TreeModel) (op : Op) (said : Reply) (p q : PassModel) → LeavesOwn op p → said ≢ reply_of_change op → Answers t op said p q → IsUntouched p q
-untouched_by t op said p q leaves other h = let last = its_deed op said (λ deed. q.view.answers ≡ deed p.view.answers ∷ p.view.answers) h.called in record {
-  called = record { calls = deed_taking op said last.0 p.view.answers ∷ []; is = last.1; none = (other, tt) };
+untouched_by t op said p q leaves other h = let last = its_take op (λ took. SeesCall op said took p.sight q.sight) h.sees in record {
   table = h.table;
   label = h.label;
   map = λ key. elim (cases_option (ledger p (key_of op))) [
@@ -71,19 +56,18 @@ untouched_by t op said p q leaves other h = let last = its_deed op said (λ deed
   share = h.share;
   idle = h.idle;
   outside = λ was. h.outside;
-  sees = no_change_call op said p.sight q.sight other h.sees;
+  sees = no_change_call op said last.0 p.sight q.sight other last.1;
 }
 
 -- so is one whose ledger is as it was
-pub untouched_still : (p q : PassModel) → q.table ≡ p.table → q.label ≡ p.label → q.view.worker.ledger ≡ p.view.worker.ledger → q.view.answers ≡ p.view.answers → SameShare p.view q.view
+pub untouched_still : (p q : PassModel) → q.table ≡ p.table → q.label ≡ p.label → q.view.worker.ledger ≡ p.view.worker.ledger → SameShare p.view q.view
     → IsIdle q → q.inside ≡ false → HasSeenMore p.sight q.sight → IsUntouched p q
-untouched_still p q table label ledgers said share idle outside sees = let same : ledger q ≡ ledger p = ap ledger_of ledgers in record {
+untouched_still p q table label ledgers share idle outside sees = let same : ledger q ≡ ledger p = ap ledger_of ledgers in record {
   table = table;
   label = label;
   map = λ key. ap (λ f. contents_in f key) same;
   owned = λ key. (λ owns none. owns (ap (λ f. f key) same ∙ none), λ owns none. owns (sym (ap (λ f. f key) same) ∙ none));
-  answered = let count = ap (λ l. length (own_calls l)) said in omega (arith, count);
-  called = record { calls = []; is = said; none = tt };
+  answered = let count = ap (λ (l : List Act). length l) sees.mine in omega (arith, count);
   share = share;
   idle = idle;
   outside = λ was. outside;
@@ -92,11 +76,10 @@ untouched_still p q table label ledgers said share idle outside sees = let same 
 
 -- and one that lays an operation down
 pub untouched_laid : (t : TreeModel) (op : Op) (p q : PassModel) → LaidDown t op p q → IsUntouched p q
-untouched_laid t op p q h = untouched_still p q h.table h.label h.ledger h.called h.share h.idle h.outside h.sees
+untouched_laid t op p q h = untouched_still p q h.table h.label h.ledger h.share h.idle h.outside h.sees
 
 pub untouched_trans : (p q r : PassModel) → IsUntouched p q → IsUntouched q r → IsUntouched p r
 untouched_trans p q r g h = record {
-  called = called_trans p.view.answers q.view.answers r.view.answers g.called h.called;
   table = h.table ∙ g.table;
   label = h.label ∙ g.label;
   map = λ key. h.map key ∙ g.map key;
@@ -112,8 +95,6 @@ untouched_trans p q r g h = record {
 pub concludes : (t : TreeModel) (op : Op) (said : Reply) (p q r : PassModel) → IsUntouched p q → Answers t op said q r → Concludes t op said p r
 concludes t op said p q r g h =
     let there : present_in q ≡ present_in p = λ i key. g.map key i in record {
-      called = by_deed op said (λ deed. r.view.answers ≡ deed q.view.answers ∷ q.view.answers) (λ deed. AnsweredLast deed p.view.answers r.view.answers)
-          (λ taken is. record { earlier = q.view.answers; before = g.called; is = is }) h.called;
       table = h.table ∙ g.table;
       label = h.label ∙ g.label;
       says = λ owns. h.says ((g.owned (key_of op)).1 owns) ∙ ap (reply_of op) there;
@@ -125,15 +106,14 @@ concludes t op said p q r g h =
       share = share_trans p.view q.view r.view g.share h.share;
       idle = h.idle;
       outside = h.outside;
-      sees = sees_last op said p.sight q.sight r.sight g.sees h.sees;
+      sees = by_take op (λ took. SeesCall op said took q.sight r.sight) (λ took. SeesLast op said took p.sight r.sight)
+          (λ took. sees_last op said took p.sight q.sight r.sight g.sees) h.sees;
     }
 
 -- so does one before which others have changed nothing
 pub concludes_after : (t : TreeModel) (op : Op) (said : Reply) (p q r : PassModel) → IsUntouched p q → Concludes t op said q r → Concludes t op said p r
 concludes_after t op said p q r g h =
     let there : present_in q ≡ present_in p = λ i key. g.map key i in record {
-      called = by_deed op said (λ deed. AnsweredLast deed q.view.answers r.view.answers) (λ deed. AnsweredLast deed p.view.answers r.view.answers)
-          (λ taken last. record { earlier = last.earlier; before = called_trans p.view.answers q.view.answers last.earlier g.called last.before; is = last.is }) h.called;
       table = h.table ∙ g.table;
       label = h.label ∙ g.label;
       says = λ owns. h.says ((g.owned (key_of op)).1 owns) ∙ ap (reply_of op) there;
@@ -145,7 +125,8 @@ concludes_after t op said p q r g h =
       share = share_trans p.view q.view r.view g.share h.share;
       idle = h.idle;
       outside = h.outside;
-      sees = sees_last_after op said p.sight q.sight r.sight g.sees h.sees;
+      sees = by_take op (λ took. SeesLast op said took q.sight r.sight) (λ took. SeesLast op said took p.sight r.sight)
+          (λ took. sees_last_after op said took p.sight q.sight r.sight g.sees) h.sees;
     }
 
 pub reads_after : (t : TreeModel) (key : ℕ) (was : Option ℕ) (p q r : PassModel) → IsUntouched p q → ReadsValue t key was q r → ReadsValue t key was p r
@@ -154,12 +135,7 @@ reads_after t key was p q r g (inr h) = inr (h.0, h.1, h.2, concludes_after t (S
 
 -- a call that only reads leaves what a pass has
 reads_keep : (t : TreeModel) (op : Op) (said : Reply) (p q : PassModel) → LeavesOwn op p → said ≢ reply_of_change op → Concludes t op said p q → IsUntouched p q
-reads_keep t op said p q leaves other h = let d = its_deed op said (λ deed. AnsweredLast deed p.view.answers q.view.answers) h.called in record {
-  called = record {
-    calls = deed_taking op said d.0 d.1.earlier ∷ d.1.before.calls;
-    is = d.1.is ∙ ap (λ (l : List Deed). deed_taking op said d.0 d.1.earlier ∷ l) d.1.before.is;
-    none = (other, d.1.before.none);
-  };
+reads_keep t op said p q leaves other h = let last = its_take op (λ took. SeesLast op said took p.sight q.sight) h.sees in record {
   table = h.table;
   label = h.label;
   map = λ key. elim (cases_option (ledger p (key_of op))) [
@@ -171,7 +147,7 @@ reads_keep t op said p q leaves other h = let d = its_deed op said (λ deed. Ans
   share = h.share;
   idle = h.idle;
   outside = λ was. h.outside;
-  sees = no_change_last op said p.sight q.sight other h.sees;
+  sees = no_change_last op said last.0 p.sight q.sight other last.1;
 }
 
 -- a find leaves everything
@@ -215,7 +191,6 @@ reads_leave t key was p q (inr h) =
 -- a pass is as it is
 pub untouched_self : (p : PassModel) → IsIdle p → IsUntouched p p
 untouched_self p idle = record {
-  called = record { calls = []; is = refl; none = tt };
   table = refl;
   label = refl;
   map = λ key. refl;
@@ -278,21 +253,7 @@ put_on key value (Some was) = refl
 pub laid_last : (t : TreeModel) (key value : ℕ) (was : Option ℕ) (p q : PassModel) → LaidDown t (put_by key value was) p q → LastChangesNothing t key q.view
 laid_last t key value was p q h = record { op = put_by key value was; on = put_on key value was; nothing = inl h.nothing }
 
--- what a pass was answered by a call that only reads, that updates a value, or that puts one
-pub reads_called : (t : TreeModel) (key : ℕ) (was : Option ℕ) (p q : PassModel) → ReadsValue t key was p q → IsReadCalled key was p q
-reads_called t key was p q (inl h) = inl h.called
-reads_called t key was p q (inr h) = inr (h.0, h.1, h.2, h.3.called)
-
-pub updates_called : (t : TreeModel) (key : ℕ) (makes : ℕ → ℕ → Type 0) (p q : PassModel) (was : Option ℕ) → UpdatesValue t key makes p q was
-    → IsUpdateCalled key makes p q (Ok was)
-updates_called t key makes p q None h = reads_called t key None p q h
-updates_called t key makes p q (Some was) h = (h.0, h.1, h.2.called)
-
-pub puts_called : (t : TreeModel) (key value : ℕ) (p q : PassModel) (was : Option ℕ) → PutsValue t key value p q was → IsPutCalled key value p q (Ok was)
-puts_called t key value p q None h = h.called
-puts_called t key value p q (Some was) h = h.called
-
--- and what it has seen of the call
+-- what a pass has seen of a call that only reads, that updates a value, or that puts one
 pub reads_seen : (t : TreeModel) (key : ℕ) (was : Option ℕ) (p q : PassModel) → ReadsValue t key was p q → SeesRead key was p q
 reads_seen t key was p q (inl h) = inl h.sees
 reads_seen t key was p q (inr h) = inr (h.0, h.1, h.2, h.3.sees)
@@ -301,3 +262,7 @@ pub updates_seen : (t : TreeModel) (key : ℕ) (makes : ℕ → ℕ → Type 0) 
     → SeesUpdate key makes p q (Ok was)
 updates_seen t key makes p q None h = reads_seen t key None p q h
 updates_seen t key makes p q (Some was) h = (h.0, h.1, h.2.sees)
+
+pub puts_seen : (t : TreeModel) (key value : ℕ) (p q : PassModel) (was : Option ℕ) → PutsValue t key value p q was → SeesPut key value p q (Ok was)
+puts_seen t key value p q None h = h.sees
+puts_seen t key value p q (Some was) h = h.sees

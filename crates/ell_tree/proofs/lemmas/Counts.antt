@@ -2,6 +2,7 @@ use Rattle.std.proofs.Math.Nat.{mul-le-mul_right}
 use Rattle.std.proofs.Common.{◌≡◌, Option, None, ℕ, ◌+◌, ◌*◌, ◌≤◌, ◌<◌, zero, suc, refl, sym, ap, ap₂, ◌∙◌, ◌-◌, arith}
 use Rattle.ell_cards.specs.declared.view.Slots.{Slots}
 use Rattle.ell_cards.specs.declared.view.View.{View}
+use Rattle.ell_cards.specs.LookPlaces.{SeesInLook}
 use Rattle.ell_cards.specs.Models.{TablePlan, PassModel, Counts, LooksBy, Sees, one_more, some_more}
 use Rattle.ell_tree.specs.Counts.{CountsAll, HasUncounted, Took, TookIn}
 
@@ -21,7 +22,11 @@ took_unseen a v made = record { steps = omega arith; made = omega (arith, made) 
 pub uncounted_one : (a b : PassModel) (v : View) → Sees a b v → v.made ≡ a.view.made + 1 → HasUncounted a b 1
 uncounted_one a b v s made = record { steps = ap (λ (m : PassModel). m.steps) s; made = ap (λ (m : PassModel). m.view.made) s ∙ made }
 
--- so is one that begins a look
+-- so is one of a look
+pub uncounted_looked : (a b : PassModel) (v : View) → SeesInLook a b v → v.made ≡ a.view.made + 1 → HasUncounted a b 1
+uncounted_looked a b v s made = record { steps = ap (λ (m : PassModel). m.steps) s.step; made = ap (λ (m : PassModel). m.view.made) s.step ∙ made }
+
+-- and one that begins a look
 pub look_uncounted : (slots : Option Slots) (a b : PassModel) (v : View) → LooksBy slots a b v → v.made ≡ a.view.made + 1 → HasUncounted a b 1
 look_uncounted slots a b v s more = record {
   steps = ap (λ (m : PassModel). m.steps) s;

@@ -19,6 +19,9 @@ use Rattle.ell_cards.specs.Looking.{HasFound, HasFoundBetween, TellsBetween, Rea
 use Rattle.ell_cards.specs.declared.view.Slots.{Slots}
 use Rattle.ell_cards.specs.Models.{PassModel, Counts, Sees, Has, HasCome, HasComeWhole, latest, earlier, IsTold, InTable, LooksBy}
 use Rattle.ell_cards.proofs.lemmas.views.Steps.{view_seen}
+use Rattle.ell_cards.specs.LookPlaces.{SawLookBegin, SeesInLook, SeesMoreInLook}
+use Rattle.ell_cards.specs.Seeing.{SeesLook}
+use Rattle.ell_tree.proofs.lemmas.LookPlaces.{in_look_none, in_look_trans, saw_begin}
 use Rattle.ell_tree.specs.Counts.{HasUncounted}
 use Rattle.ell_tree.proofs.lemmas.Counts.{look_uncounted}
 use Rattle.ell_tree.specs.declared.cursor.About.{About}
@@ -27,7 +30,7 @@ use Rattle.ell_tree.specs.Cursors.{AreKept, BeginsALook, FindsAbout, IsAmong, Ma
 use Rattle.ell_tree.specs.Ledgers.{present_in}
 use Rattle.ell_tree.specs.Looks.{stretch_steps}
 use Rattle.ell_tree.specs.Scans.{TellsItsOwn, value_there}
-use Rattle.ell_tree.proofs.lemmas.Looks.{come_part, whole_part, reads_mine, misses_mine, only_trans, only_none_yet, look_only, down_only, key_only, value_only, key_tells, value_tells, only_counted}
+use Rattle.ell_tree.proofs.lemmas.Looks.{come_part, whole_part, reads_mine, misses_mine, only_trans, only_none_yet, look_only, down_only, key_only, value_only, key_tells, value_tells, only_counted, view_looked}
 use Rattle.ell_cards.specs.Changes.{forgotten}
 use Rattle.ell_cards.specs.Depths.{depth_of, IsShallow}
 use Rattle.ell_cards.proofs.lemmas.views.Depths.{depth_more, met_more, went_deeper}
@@ -39,30 +42,33 @@ on_trans a b c m n k h h' le = record {
   told = λ e t. h'.told e (h.told e t);
   glances = λ g has. h'.glances g (h.glances g has);
   looks = h'.looks ∙ h.looks;
+  sees = in_look_trans a.sight b.sight c.sight h.sees h'.sees;
 }
 
 pub on_none : (a : PassModel) → KeepsLooking a a 0
-on_none a = record { only = only_none_yet a; told = λ e t. t; glances = λ g has. has; looks = refl }
+on_none a = record { only = only_none_yet a; told = λ e t. t; glances = λ g has. has; looks = refl; sees = in_look_none a.sight }
 
 pub on_more : (a b : PassModel) (m n : ℕ) → m ≤ n → KeepsLooking a b m → KeepsLooking a b n
 on_more a b m n le h = on_trans a b b m 0 n h (on_none b) (omega arith)
 
-pub key_on : (old new : PassModel) (x k : ℕ) → Sees old new (after_key_of x k old.view) → KeepsLooking old new 1
+pub key_on : (old new : PassModel) (x k : ℕ) → SeesInLook old new (after_key_of x k old.view) → KeepsLooking old new 1
 key_on old new x k s =
-    let view = view_seen old new (after_key_of x k old.view) s in
+    let view = view_looked old new (after_key_of x k old.view) s in
     record {
       only = key_only old new x k s;
       told = key_tells old new x k s;
+      sees = s.sees;
       glances = λ g has. subst (λ (v : View). Has v.glances g) (sym view) has;
       looks = ap (λ (v : View). v.looks) view;
     }
 
-pub value_on : (old new : PassModel) (x value : ℕ) → Sees old new (after_value_of x value old.view) → KeepsLooking old new 1
+pub value_on : (old new : PassModel) (x value : ℕ) → SeesInLook old new (after_value_of x value old.view) → KeepsLooking old new 1
 value_on old new x value s =
-    let view = view_seen old new (after_value_of x value old.view) s in
+    let view = view_looked old new (after_value_of x value old.view) s in
     record {
       only = value_only old new x value s;
       told = value_tells old new x value s;
+      sees = s.sees;
       glances = λ g has. subst (λ (v : View). Has v.glances g) (sym view) has;
       looks = ap (λ (v : View). v.looks) view;
     }
@@ -72,6 +78,7 @@ down_on old new from to right n s =
     let view = view_seen old new (after_look_down from to right n old.view) s in
     record {
       only = down_only old new from to right n s;
+      sees = subst (SeesMoreInLook old.sight) (sym (ap (λ (m : PassModel). m.sight) s)) (in_look_none old.sight);
       told = λ e h. subst (λ (v : View). IsTold v e) (sym view) (met_more _ _ _ e h);
       glances = λ g has. subst (λ (v : View). Has v.glances g) (sym view) (earlier g _ old.view.glances has);
       looks = ap (λ (v : View). v.looks) view;
@@ -83,6 +90,7 @@ on_counted a b c n k h u s =
     let view = ap (λ (m : PassModel). m.view) s in
     record {
       only = only_counted a b c n k h.only u s;
+      sees = subst (SeesMoreInLook a.sight) (sym (ap (λ (m : PassModel). m.sight) s)) h.sees;
       told = λ e t. subst (λ (v : View). IsTold v e) (sym view) (h.told e t);
       glances = λ g has. subst (λ (v : View). Has v.glances g) (sym view) (h.glances g has);
       looks = ap (λ (v : View). v.looks) view ∙ h.looks;
@@ -127,10 +135,11 @@ all_on cards p q n c h k = record {
 }
 
 -- a look begins at a node to which all real keys come
-pub begins_look : (slots : Option Slots) (old seen new : PassModel) (n : ℕ) → LooksBy slots old seen (after_look n old.view) → Counts seen new 1 → BeginsALook old new
-begins_look slots old seen new n s counts = let view : seen.view ≡ after_look n old.view = ap (λ (m : PassModel). m.view) s in record {
-  only = only_counted old seen new 1 1 (look_only slots old seen n s) (look_uncounted slots old seen (after_look n old.view) s refl) counts;
+pub begins_look : (slots : Option Slots) (old seen new : PassModel) (n : ℕ) → LooksBy slots old seen (after_look n old.view) → SeesLook old.sight seen.sight → Counts seen new 1 → BeginsALook old new
+begins_look slots old seen new n s looks counts = let view : seen.view ≡ after_look n old.view = ap (λ (m : PassModel). m.view) s in record {
+  only = only_counted old seen new 1 1 (look_only slots old seen n s looks) (look_uncounted slots old seen (after_look n old.view) s refl) counts;
   one = ap (λ (m : PassModel). m.view.looks) counts ∙ ap (λ (v : View). v.looks) view;
+  saw = subst (SawLookBegin old.sight) (sym (ap (λ (m : PassModel). m.sight) counts)) (saw_begin old.sight seen.sight looks);
 }
 
 pub first_kept : (slots : Option Slots) (cards : ℕ) (old new : PassModel) (n child : ℕ) → (link_in n).node ≡ child → LooksBy slots old new (after_look n old.view) → 0 < child → InTable cards child
@@ -244,9 +253,9 @@ upper_down true cards v high k u n = u
 upper_down false cards v high k u n = upper_min cards v high k u n
 
 module _ (cards : ℕ) (old a b : PassModel) (key : ℕ) (here : Glance) (cursor : Cursor) (k : ℕ) (at : GoesDown cards old a key here cursor)
-    (asked : Sees a b (after_key_of here.node k a.view)) where
+    (asked : SeesInLook a b (after_key_of here.node k a.view)) where
   asked_view : b.view ≡ after_key_of here.node k a.view
-  asked_view = view_seen a b (after_key_of here.node k a.view) asked
+  asked_view = view_looked a b (after_key_of here.node k a.view) asked
 
   told_key : IsTold b.view (Key here.node k)
   told_key = subst (λ (v : View). IsTold v (Key here.node k)) (sym asked_view) (latest (Key here.node k) a.view.told)
@@ -312,20 +321,20 @@ module _ (cards : ℕ) (old a b : PassModel) (key : ℕ) (here : Glance) (cursor
       }
 
 -- who asks the key of a node was told no depth of it
-pub asked_shallow : (most : ℕ) (a b : PassModel) (x k : ℕ) → Sees a b (after_key_of x k a.view) → IsShallow most b.view x → IsShallow most a.view x
+pub asked_shallow : (most : ℕ) (a b : PassModel) (x k : ℕ) → SeesInLook a b (after_key_of x k a.view) → IsShallow most b.view x → IsShallow most a.view x
 asked_shallow most a b x k asked h =
-    let same = ap (λ (v : View). depth_of v x) (view_seen a b (after_key_of x k a.view) asked) in
+    let same = ap (λ (v : View). depth_of v x) (view_looked a b (after_key_of x k a.view) asked) in
     record { inner = λ inner. (let low = h.inner inner in omega arith); any = let low = h.any in omega arith }
 
 -- what is found at a leaf
-module _ (from : ℕ) (a b : PassModel) (leaf : Glance) (k : ℕ) (outer : IsLeaf leaf.node) (asked : Sees a b (after_key_of leaf.node k a.view)) where
+module _ (from : ℕ) (a b : PassModel) (leaf : Glance) (k : ℕ) (outer : IsLeaf leaf.node) (asked : SeesInLook a b (after_key_of leaf.node k a.view)) where
   key_told : IsTold b.view (Key leaf.node k)
-  key_told = subst (λ (v : View). IsTold v (Key leaf.node k)) (sym (view_seen a b (after_key_of leaf.node k a.view) asked)) (latest (Key leaf.node k) a.view.told)
+  key_told = subst (λ (v : View). IsTold v (Key leaf.node k)) (sym (view_looked a b (after_key_of leaf.node k a.view) asked)) (latest (Key leaf.node k) a.view.told)
 
   pub tells_none : (k < leaf.low) ⊎ (leaf.high ≤ k) → TellsOfLeaf from b.view leaf.node (record { low = leaf.low; high = leaf.high; found = None })
   tells_none out = record { key = k; outer = outer; told = key_told; tells = inl (outer, out) }
 
-  pub tells_one : (d : PassModel) (value : ℕ) → Sees b d (after_value_of leaf.node value b.view) → leaf.low ≤ k → k < leaf.high
+  pub tells_one : (d : PassModel) (value : ℕ) → SeesInLook b d (after_value_of leaf.node value b.view) → leaf.low ≤ k → k < leaf.high
       → TellsOfLeaf from d.view leaf.node (record { low = leaf.low; high = leaf.high; found = Some (k, value) })
   tells_one d value s low high = record {
     key = k;
@@ -336,7 +345,7 @@ module _ (from : ℕ) (a b : PassModel) (leaf : Glance) (k : ℕ) (outer : IsLea
       refl,
       low,
       high,
-      subst (λ (v : View). IsTold v (Value leaf.node value)) (sym (view_seen b d (after_value_of leaf.node value b.view) s))
+      subst (λ (v : View). IsTold v (Value leaf.node value)) (sym (view_looked b d (after_value_of leaf.node value b.view) s))
           (latest (Value leaf.node value) b.view.told),
     );
   }

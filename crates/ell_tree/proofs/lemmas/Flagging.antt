@@ -87,7 +87,6 @@ module _ (k : Exchange) (flag : ℕ → Fact) (c x : ℕ) (from : Update) where
   flagging_keeps stores (Ok won) v = record {
     ledger = refl;
     operation = refl;
-    answers = refl;
     share = record { share = refl; ownable = refl };
     knows = λ g h. knows_more (flag c) g v.worker.knows h;
     told = λ e h. h;
@@ -99,7 +98,6 @@ module _ (k : Exchange) (flag : ℕ → Fact) (c x : ℕ) (from : Update) where
   flagging_keeps stores (Err u) v = record {
     ledger = refl;
     operation = refl;
-    answers = refl;
     share = record { share = refl; ownable = refl };
     knows = facts_by_more u.state u.card v.worker.knows;
     told = places_more x u.state u.card v.told;

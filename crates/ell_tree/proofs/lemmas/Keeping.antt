@@ -33,7 +33,6 @@ pub loses_trans : (u v w : View) → LosesNothing u v → LosesNothing v w → L
 loses_trans u v w a b = record {
   ledger = b.ledger ∙ a.ledger;
   operation = b.operation ∙ a.operation;
-  answers = b.answers ∙ a.answers;
   share = share_trans u v w a.share b.share;
   knows = λ f h. b.knows f (a.knows f h);
   told = λ e h. b.told e (a.told e h);
@@ -121,7 +120,7 @@ keeps_all_none a n = record {
     label = refl;
     sight = refl;
     slot = refl;
-    view = record { ledger = refl; operation = refl; answers = refl; share = record { share = refl; ownable = refl }; knows = λ f h. h; told = λ e h. h; before = refl; least = omega arith; hindered = refl; earlier = λ hs e. e };
+    view = record { ledger = refl; operation = refl; share = record { share = refl; ownable = refl }; knows = λ f h. h; told = λ e h. h; before = refl; least = omega arith; hindered = refl; earlier = λ hs e. e };
     took = took_none a n;
   };
   taken = refl;
@@ -226,7 +225,6 @@ pub upd_keeps : (x : ℕ) (u : Update) (v : View) → LosesNothing v (after_upd 
 upd_keeps x u v = record {
   ledger = refl;
   operation = refl;
-  answers = refl;
   share = record { share = refl; ownable = refl };
   knows = facts_by_more u.state u.card v.worker.knows;
   told = places_more x u.state u.card v.told;
@@ -237,25 +235,24 @@ upd_keeps x u v = record {
 }
 
 pub key_of_keeps : (x key : ℕ) (v : View) → LosesNothing v (after_key_of x key v)
-key_of_keeps x key v = record { ledger = refl; operation = refl; answers = refl; share = record { share = refl; ownable = refl }; knows = λ f h. h; told = λ e h. earlier e _ _ h; before = refl; least = omega arith; hindered = refl; earlier = λ hs e. e }
+key_of_keeps x key v = record { ledger = refl; operation = refl; share = record { share = refl; ownable = refl }; knows = λ f h. h; told = λ e h. earlier e _ _ h; before = refl; least = omega arith; hindered = refl; earlier = λ hs e. e }
 
 pub value_of_keeps : (x value : ℕ) (v : View) → LosesNothing v (after_value_of x value v)
-value_of_keeps x value v = record { ledger = refl; operation = refl; answers = refl; share = record { share = refl; ownable = refl }; knows = λ f h. h; told = λ e h. earlier e _ _ h; before = refl; least = omega arith; hindered = refl; earlier = λ hs e. e }
+value_of_keeps x value v = record { ledger = refl; operation = refl; share = record { share = refl; ownable = refl }; knows = λ f h. h; told = λ e h. earlier e _ _ h; before = refl; least = omega arith; hindered = refl; earlier = λ hs e. e }
 
 pub down_keeps : (x child : ℕ) (v : View) → LosesNothing v (after_down x child v)
-down_keeps x child v = record { ledger = refl; operation = refl; answers = refl; share = record { share = refl; ownable = refl }; knows = λ f h. h; told = met_more (depth_of v x + 1) (link_in child).node v.told; before = refl; least = omega arith; hindered = refl; earlier = λ hs e. e }
+down_keeps x child v = record { ledger = refl; operation = refl; share = record { share = refl; ownable = refl }; knows = λ f h. h; told = met_more (depth_of v x + 1) (link_in child).node v.told; before = refl; least = omega arith; hindered = refl; earlier = λ hs e. e }
 
 pub info_keeps : (c : ℕ) (f : Field) (x : ℕ) (v : View) → LosesNothing v (after_info c f x v)
-info_keeps c f x v = record { ledger = refl; operation = refl; answers = refl; share = record { share = refl; ownable = refl }; knows = λ g h. h; told = info_more (depth_there v c f) c f x v.told; before = refl; least = omega arith; hindered = refl; earlier = λ hs e. e }
+info_keeps c f x v = record { ledger = refl; operation = refl; share = record { share = refl; ownable = refl }; knows = λ g h. h; told = info_more (depth_there v c f) c f x v.told; before = refl; least = omega arith; hindered = refl; earlier = λ hs e. e }
 
 pub frozen_keeps : (c p : ℕ) (right : Bool) (x : ℕ) (v : View) → LosesNothing v (after_frozen_child c p right x v)
-frozen_keeps c p right x v = record { ledger = refl; operation = refl; answers = refl; share = record { share = refl; ownable = refl }; knows = λ f h. h; told = λ e h. earlier e _ _ (met_more (depth_of v p + 1) (link_in x).node v.told e h); before = refl; least = omega arith; hindered = refl; earlier = λ hs e. e }
+frozen_keeps c p right x v = record { ledger = refl; operation = refl; share = record { share = refl; ownable = refl }; knows = λ f h. h; told = λ e h. earlier e _ _ (met_more (depth_of v p + 1) (link_in x).node v.told e h); before = refl; least = omega arith; hindered = refl; earlier = λ hs e. e }
 
 pub learning_keeps : (wins : List (Exchange × ℕ)) (n : ℕ) (f : Fact) (v : View) → LosesNothing v (exchanged wins n (with_fact f v))
 learning_keeps wins n f v = record {
   ledger = refl;
   operation = refl;
-  answers = refl;
   share = record { share = refl; ownable = refl };
   knows = λ g h. knows_more f g v.worker.knows h;
   told = λ e h. h;
@@ -266,4 +263,4 @@ learning_keeps wins n f v = record {
 }
 
 pub next_keeps : (n : ℕ) (v : View) → LosesNothing v (after_next n v)
-next_keeps n v = record { ledger = refl; operation = refl; answers = refl; share = record { share = refl; ownable = refl }; knows = λ f h. h; told = λ e h. h; before = refl; least = omega arith; hindered = refl; earlier = λ hs e. e }
+next_keeps n v = record { ledger = refl; operation = refl; share = record { share = refl; ownable = refl }; knows = λ f h. h; told = λ e h. h; before = refl; least = omega arith; hindered = refl; earlier = λ hs e. e }

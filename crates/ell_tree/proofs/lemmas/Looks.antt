@@ -22,6 +22,10 @@ use Rattle.ell_tree.specs.Counts.{HasUncounted}
 use Rattle.ell_tree.proofs.lemmas.Counts.{took_counted}
 use Rattle.ell_tree.specs.Ledgers.{Owns, present_in}
 use Rattle.ell_cards.proofs.lemmas.views.Steps.{view_seen}
+use Rattle.ell_cards.specs.declared.view.Sight.{Sight}
+use Rattle.ell_cards.specs.LookPlaces.{SawLookBegin, SeesInLook}
+use Rattle.ell_cards.specs.Seeing.{HasSeenMore, SeesLook}
+use Rattle.ell_tree.proofs.lemmas.LookPlaces.{look_more, saw_begin, saw_on, seen_more_trans, seen_no_more}
 use Rattle.ell_tree.specs.Looks.{OnlyLooks, look_steps}
 use Rattle.ell_cards.specs.Changes.{forgotten}
 use Rattle.ell_cards.specs.Depths.{deepest, depth_of, IsShallow}
@@ -31,9 +35,8 @@ pub only_trans : (a b c : PassModel) (m n k : ℕ) → OnlyLooks a b m → OnlyL
 only_trans a b c m n k h h' le = record {
   table = h'.table ∙ h.table;
   label = h'.label ∙ h.label;
-  sight = h'.sight ∙ h.sight;
+  sight = seen_more_trans a.sight b.sight c.sight h.sight h'.sight;
   worker = h'.worker ∙ h.worker;
-  answers = h'.answers ∙ h.answers;
   answered = h'.answered ∙ h.answered;
   share = h'.share ∙ h.share;
   hindrances = h'.hindrances ∙ h.hindrances;
@@ -54,9 +57,8 @@ pub only_none_yet : (a : PassModel) → OnlyLooks a a 0
 only_none_yet a = record {
   table = refl;
   label = refl;
-  sight = refl;
+  sight = seen_no_more a.sight;
   worker = refl;
-  answers = refl;
   answered = refl;
   share = refl;
   hindrances = refl;
@@ -75,14 +77,13 @@ only_none_yet a = record {
 
 -- a step that moves no more than the look
 only_step : (old new : PassModel) (told : List Told) (here : Option ℕ) (glances : List Glance) (looks : ℕ)
-    → {inside : Bool} → new ≡ record old { view = record (old.view) { told = told; here = here; glances = glances; looks = looks; made = old.view.made + 1 }; inside = inside }
-    → OnlyLooks old new 1
-only_step old new told here glances looks s = subst (λ (m : PassModel). OnlyLooks old m 1) (sym s) (record {
+    → {inside : Bool} → new ≡ record old { view = record (old.view) { told = told; here = here; glances = glances; looks = looks; made = old.view.made + 1 }; inside = inside; sight = new.sight }
+    → HasSeenMore old.sight new.sight → OnlyLooks old new 1
+only_step old new told here glances looks s more = subst (λ (m : PassModel). OnlyLooks old m 1) (sym s) (record {
   table = refl;
   label = refl;
-  sight = refl;
+  sight = more;
   worker = refl;
-  answers = refl;
   answered = refl;
   share = refl;
   hindrances = refl;
@@ -108,7 +109,6 @@ only_counted a b c n k h u s =
       label = h.label;
       sight = h.sight;
       worker = h.worker;
-      answers = h.answers;
       answered = h.answered;
       share = h.share;
       hindrances = h.hindrances;
@@ -126,25 +126,32 @@ only_counted a b c n k h u s =
     })
 
 -- the steps of a look
-pub look_only : (slots : Option Slots) (old new : PassModel) (n : ℕ) → LooksBy slots old new (after_look n old.view) → OnlyLooks old new 1
-look_only slots old new n s = only_step old new _ _ _ _ s
+pub look_only : (slots : Option Slots) (old new : PassModel) (n : ℕ) → LooksBy slots old new (after_look n old.view) → SeesLook old.sight new.sight → OnlyLooks old new 1
+look_only slots old new n s looks = only_step old new _ _ _ _ s (look_more old.sight new.sight looks)
 
 pub down_only : (old new : PassModel) (from : Glance) (to : Stretch) (right : Bool) (n : ℕ) → Sees old new (after_look_down from to right n old.view)
     → OnlyLooks old new 1
-down_only old new from to right n s = only_step old new _ _ _ _ s
+down_only old new from to right n s =
+    let same = ap (λ (m : PassModel). m.sight) s in
+    only_step old new _ _ _ _ (s ∙ ap (λ (g : Sight). record old { view = after_look_down from to right n old.view; sight = g }) (sym same))
+    (subst (HasSeenMore old.sight) (sym same) (seen_no_more old.sight))
 
-pub key_only : (old new : PassModel) (x key : ℕ) → Sees old new (after_key_of x key old.view) → OnlyLooks old new 1
-key_only old new x key s = only_step old new _ _ _ _ s
+pub key_only : (old new : PassModel) (x key : ℕ) → SeesInLook old new (after_key_of x key old.view) → OnlyLooks old new 1
+key_only old new x key s = only_step old new _ _ _ _ s.step s.sees.more
 
-pub value_only : (old new : PassModel) (x value : ℕ) → Sees old new (after_value_of x value old.view) → OnlyLooks old new 1
-value_only old new x value s = only_step old new _ _ _ _ s
+pub value_only : (old new : PassModel) (x value : ℕ) → SeesInLook old new (after_value_of x value old.view) → OnlyLooks old new 1
+value_only old new x value s = only_step old new _ _ _ _ s.step s.sees.more
+
+-- the view after a step of a look
+pub view_looked : (old new : PassModel) (v : View) → SeesInLook old new v → new.view ≡ v
+view_looked old new v s = ap (λ (m : PassModel). m.view) s.step
 
 -- what was told stays told where a key or a value is asked
-pub key_tells : (old new : PassModel) (x key : ℕ) → Sees old new (after_key_of x key old.view) → (e : Told) → IsTold old.view e → IsTold new.view e
-key_tells old new x key s e h = subst (λ (v : View). IsTold v e) (sym (view_seen old new (after_key_of x key old.view) s)) (earlier e _ _ h)
+pub key_tells : (old new : PassModel) (x key : ℕ) → SeesInLook old new (after_key_of x key old.view) → (e : Told) → IsTold old.view e → IsTold new.view e
+key_tells old new x key s e h = subst (λ (v : View). IsTold v e) (sym (view_looked old new (after_key_of x key old.view) s)) (earlier e _ _ h)
 
-pub value_tells : (old new : PassModel) (x value : ℕ) → Sees old new (after_value_of x value old.view) → (e : Told) → IsTold old.view e → IsTold new.view e
-value_tells old new x value s e h = subst (λ (v : View). IsTold v e) (sym (view_seen old new (after_value_of x value old.view) s)) (earlier e _ _ h)
+pub value_tells : (old new : PassModel) (x value : ℕ) → SeesInLook old new (after_value_of x value old.view) → (e : Told) → IsTold old.view e → IsTold new.view e
+value_tells old new x value s e h = subst (λ (v : View). IsTold v e) (sym (view_looked old new (after_value_of x value old.view) s)) (earlier e _ _ h)
 
 -- a look for a key has come to a node by it, and maybe others, in at most two steps for each internal node that there is down to it
 pub record Comes (plan : TablePlan) (old new : PassModel) (key : ℕ) (here : Glance) : Type 0 where
@@ -160,16 +167,17 @@ pub record Comes (plan : TablePlan) (old new : PassModel) (key : ℕ) (here : Gl
   pub met : IsTold new.view (Met here.node)
   pub there : InTable plan.last_card here.node
   pub one : new.view.looks ≡ old.view.looks + 1
+  pub saw : SawLookBegin old.sight new.sight
 
 pub comes_first : (plan : TablePlan) (old new : PassModel) (key n child : ℕ) → (link_in n).node ≡ child → key ≤ greatest_key → LooksBy plan.slots old new (after_look n old.view)
-    → IsShallow (deepest plan) new.view child → InTable plan.last_card child
+    → SeesLook old.sight new.sight → IsShallow (deepest plan) new.view child → InTable plan.last_card child
     → Comes plan old new key (record { node = child; low = 0; high = greatest_key + 1; whole = true })
-comes_first plan old new key n child says real s shallow there =
+comes_first plan old new key n child says real s looks shallow there =
     let view : new.view ≡ after_look n old.view = ap (λ (m : PassModel). m.view) s in
     let glance : Glance = record { node = (link_in n).node; low = 0; high = greatest_key + 1; whole = true } in
     record {
       count = 1;
-      only = look_only plan.slots old new n s;
+      only = look_only plan.slots old new n s looks;
       few = (let deep = went_deeper (record (old.view) { told = forgotten }) new.view (after_look n old.view) 0 (link_in n).node child view says refl in omega arith);
       shallow = shallow;
       come = subst (λ (v : View). HasCome v child 0 (greatest_key + 1)) (sym view)
@@ -182,6 +190,7 @@ comes_first plan old new key n child says real s shallow there =
       met = subst (λ x. IsTold new.view (Met x)) says (subst (λ (v : View). IsTold v (Met (link_in n).node)) (sym view) (latest _ _));
       there = there;
       one = ap (λ (v : View). v.looks) view;
+      saw = saw_begin old.sight new.sight looks;
     }
 
 -- where a look has come by some keys it has come by a part of them
@@ -218,11 +227,12 @@ comes_alone plan old new key node low high whole c =
       met = c.met;
       there = c.there;
       one = c.one;
+      saw = c.saw;
     }
 
-module _ (plan : TablePlan) (old a b : PassModel) (key : ℕ) (here : Glance) (k : ℕ) (at : Comes plan old a key here) (asked : Sees a b (after_key_of here.node k a.view)) where
+module _ (plan : TablePlan) (old a b : PassModel) (key : ℕ) (here : Glance) (k : ℕ) (at : Comes plan old a key here) (asked : SeesInLook a b (after_key_of here.node k a.view)) where
   asked_view : b.view ≡ after_key_of here.node k a.view
-  asked_view = view_seen a b (after_key_of here.node k a.view) asked
+  asked_view = view_looked a b (after_key_of here.node k a.view) asked
 
   come_still : HasCome b.view here.node here.low here.high
   come_still = subst (λ (v : View). HasCome v here.node here.low here.high) (sym asked_view) (record {
@@ -258,6 +268,9 @@ module _ (plan : TablePlan) (old a b : PassModel) (key : ℕ) (here : Glance) (k
 
   pub deep_still : depth_of a.view here.node ≤ depth_of b.view here.node
   deep_still = depth_more a.view.told b.view.told (key_tells a b here.node k asked) here.node
+
+  pub saw_none : SawLookBegin old.sight b.sight
+  saw_none = saw_on old.sight a.sight b.sight at.saw asked.sees
 
   pub one_none : b.view.looks ≡ old.view.looks + 1
   one_none = ap (λ (v : View). v.looks) asked_view ∙ at.one
@@ -297,6 +310,7 @@ module _ (plan : TablePlan) (old a b : PassModel) (key : ℕ) (here : Glance) (k
         met = subst (λ x. IsTold d.view (Met x)) says (subst (λ (v : View). IsTold v (Met (link_in n).node)) (sym view) (latest _ _));
         there = there;
         one = ap (λ (v : View). v.looks) view ∙ one_none;
+        saw = subst (SawLookBegin old.sight) (sym (ap (λ (m : PassModel). m.sight) s)) saw_none;
       }
 
   -- a stretch that the node's block lacks, around the key
@@ -317,9 +331,9 @@ module _ (plan : TablePlan) (old a b : PassModel) (key : ℕ) (here : Glance) (k
   only_none = only_trans old a b at.count 1 (look_steps (deepest plan)) at.only (key_only a b here.node k asked)
       (let few = at.few in let room = at.shallow.any in omega arith)
 
-  pub found_some : (d : PassModel) (value : ℕ) → Sees b d (after_value_of here.node value b.view) → IsLeaf here.node → k ≡ key → HasFound d.view key (Some value)
+  pub found_some : (d : PassModel) (value : ℕ) → SeesInLook b d (after_value_of here.node value b.view) → IsLeaf here.node → k ≡ key → HasFound d.view key (Some value)
   found_some d value s outer same =
-      let view = view_seen b d (after_value_of here.node value b.view) s in
+      let view = view_looked b d (after_value_of here.node value b.view) s in
       record {
         leaf = here.node;
         leaf_key = k;
@@ -335,13 +349,16 @@ module _ (plan : TablePlan) (old a b : PassModel) (key : ℕ) (here : Glance) (k
         tells = (same, subst (λ (v : View). IsTold v (Value here.node value)) (sym view) (latest (Value here.node value) b.view.told));
       }
 
-  pub only_some : (d : PassModel) (value : ℕ) → Sees b d (after_value_of here.node value b.view) → OnlyLooks old d (look_steps (deepest plan))
+  pub only_some : (d : PassModel) (value : ℕ) → SeesInLook b d (after_value_of here.node value b.view) → OnlyLooks old d (look_steps (deepest plan))
   only_some d value s = only_trans old a d at.count 2 (look_steps (deepest plan)) at.only
       (only_trans a b d 1 1 2 (key_only a b here.node k asked) (value_only b d here.node value s) (omega arith))
       (let few = at.few in let room = at.shallow.any in omega arith)
 
-  pub one_some : (d : PassModel) (value : ℕ) → Sees b d (after_value_of here.node value b.view) → d.view.looks ≡ old.view.looks + 1
-  one_some d value s = ap (λ (v : View). v.looks) (view_seen b d (after_value_of here.node value b.view) s) ∙ one_none
+  pub one_some : (d : PassModel) (value : ℕ) → SeesInLook b d (after_value_of here.node value b.view) → d.view.looks ≡ old.view.looks + 1
+  one_some d value s = ap (λ (v : View). v.looks) (view_looked b d (after_value_of here.node value b.view) s) ∙ one_none
+
+  pub saw_some : (d : PassModel) (value : ℕ) → SeesInLook b d (after_value_of here.node value b.view) → SawLookBegin old.sight d.sight
+  saw_some d value s = saw_on old.sight b.sight d.sight saw_none s.sees
 
 -- what a look has found of a key of the pass's own is what its ledger had
 pub reads_mine : (old new : PassModel) (key : ℕ) (there : Option ℕ) → ReadsItsOwn new.view → HasFound new.view key there → new.view.worker ≡ old.view.worker

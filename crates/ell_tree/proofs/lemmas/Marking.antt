@@ -29,7 +29,6 @@ unmarking_keeps : (n c p : ℕ) (u : Update) (v : View) → LosesNothing v (exch
 unmarking_keeps n c p u v = record {
   ledger = refl;
   operation = refl;
-  answers = refl;
   share = record { share = refl; ownable = refl };
   knows = λ g h. facts_by_more u.state u.card (fact.Unmarkable c ∷ v.worker.knows) g (knows_more (fact.Unmarkable c) g v.worker.knows h);
   told = places_more p u.state u.card v.told;

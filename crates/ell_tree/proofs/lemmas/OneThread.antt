@@ -1,17 +1,17 @@
 -- What a pass was answered that has seen all of a tree's history is as of one thread.
-use Rattle.std.proofs.Common.{◌≡◌, ◌≢◌, ℕ, zero, suc, ◌+◌, ◌≤◌, ◌⊎◌, inl, inr, if◌then◌else◌, Bool, List, [], ◌∷◌, refl, sym, ap, ◌∙◌, subst, arith}
+use Rattle.std.proofs.Common.{◌≡◌, ◌≢◌, ℕ, zero, suc, ◌+◌, ◌≤◌, ◌⊎◌, inl, inr, if◌then◌else◌, Bool, Some, List, [], ◌∷◌, take, refl, sym, ap, ◌∙◌, subst, arith}
 use mathlib.Core.Option.{some, some-injective, some-ne-none}
 use lib.ListN.{get_elem?}
 use Rattle.ell_ops.specs.declared.op.Op.{Op}
 use Rattle.ell_ops.specs.declared.reply.Reply.{Reply}
 use Rattle.ell_ops.specs.Contents.{contents_of}
-use Rattle.ell_ops.specs.Meaning.{replies}
+use Rattle.ell_ops.specs.Meaning.{final, key_of, replies}
+use Rattle.ell_cards.specs.Histories.{IsCall}
 use Rattle.ell_cards.specs.declared.view.Act.{Act}
-use Rattle.ell_cards.specs.Accounts.{count_such, ops_in, replies_in}
 use Rattle.ell_cards.specs.Linearizing.{Item, HasItem, StandsIn, calls_of, ops_of, replies_of}
 use Rattle.ell_cards.specs.Models.{Has, latest, earlier}
 use Rattle.ell_cards.specs.Seeing.{AreApart}
-use Rattle.ell_tree.specs.OneThread.{StoriesAreOfOneThread, answers_of}
+use Rattle.ell_tree.specs.OneThread.{StoriesAreOfOneThread, answers_of, count_such, ops_in, replies_in}
 
 -- a list has what stands in it
 at_has : (xs : List Item) (j : ℕ) (x : Item) → StandsIn xs j x → Has xs x
@@ -116,14 +116,19 @@ replies_same : (order : List Item) → replies_in (calls_of order) ≡ replies_o
 replies_same [] = refl
 replies_same (x ∷ xs) = ap (λ (l : List Reply). x.reply ∷ l) (replies_same xs)
 
+ops_before : (order : List Item) (k : ℕ) → ops_in (take k (calls_of order)) ≡ ops_of (take k order)
+ops_before order zero = refl
+ops_before [] (suc k) = refl
+ops_before (x ∷ xs) (suc k) = ap (λ (l : List Op). x.op ∷ l) (ops_before xs k)
+
 pub stories_are_of_one_thread : StoriesAreOfOneThread
 stories_are_of_one_thread plan v g story shared whole free =
     let lin = story.linear in
     let inside : (x : Item) → Has lin.order x → Has (items g.mine) x =
-    λ x h. (let made = story.all shared whole free x (has_at lin.order x h) in has_items g.mine _ made.1) in
+    λ x h. (let made = story.all shared whole free x (has_at lin.order x h) in has_items g.mine _ made.2) in
     let back : (x : Item) → Has (items g.mine) x → Has lin.order x =
     λ x h. (let one = of_items g.mine x h in let a = one.0 in
-    let there = lin.ended a.begin a.end a.op a.said (story.calls a one.1) in subst (Has lin.order) one.2 (at_has lin.order there.0 (item_of a) there.1)) in
+    let there = lin.ended a.begin a.end a.op a.said a.took (story.calls a one.1) in subst (Has lin.order) one.2 (at_has lin.order there.0 (item_of a) there.1)) in
     record {
       order = calls_of lin.order;
       same = λ such.
@@ -133,13 +138,22 @@ stories_are_of_one_thread plan v g story shared whole free =
           omega arith;
       says = replies_same lin.order ∙ (lin.replies ∙ ap (replies (contents_of plan.start)) (sym (ops_same lin.order)));
       keeps = λ a b has its less.
-          let one = lin.ended a.begin a.end a.op a.said (story.calls a has) in
-          let other = lin.ended b.begin b.end b.op b.said (story.calls b its) in
+          let one = lin.ended a.begin a.end a.op a.said a.took (story.calls a has) in
+          let other = lin.ended b.begin b.end b.op b.said b.took (story.calls b its) in
           record {
             place = one.0;
             later = other.0;
-            less = lin.keeps one.0 other.0 (item_of a) (item_of b) one.1 other.1 a.end (story.calls a has) less;
+            less = lin.keeps one.0 other.0 (item_of a) (item_of b) one.1 other.1 a.end a.took (story.calls a has) less;
             first = at_calls lin.order one.0 (item_of a) one.1;
             second = at_calls lin.order other.0 (item_of b) other.1;
+          };
+      takes = λ a value has took.
+          let call = story.calls a has in
+          let one = lin.ended a.begin a.end a.op a.said a.took call in
+          record {
+            place = one.0;
+            at = at_calls lin.order one.0 (item_of a) one.1;
+            there = ap (λ ops. final (contents_of plan.start) ops (key_of a.op)) (ops_before lin.order one.0)
+                ∙ lin.takes one.0 (item_of a) one.1 a.end value (subst (λ o. IsCall g.seen a.begin a.end a.op a.said o) took call);
           };
     }

@@ -15,18 +15,17 @@ use Rattle.ell_core.proofs.lemmas.keeping.Puts.{added, replacing}
 use Rattle.ell_cards.specs.Models.{TablePlan, PassModel, ledger}
 use Rattle.ell_cards.specs.Seeing.{SeesBegin, SeesCall, SeesEnd}
 use Rattle.ell_cards.specs.Stepping.{SameShare}
-use Rattle.ell_cards.specs.declared.view.Deed.{Deed}
+use Rattle.ell_cards.specs.declared.view.Act.{Act}
 use Rattle.ell_cards.specs.declared.view.Sight.{Sight}
-use Rattle.ell_cards.specs.Accounts.{own_calls}
 use Rattle.ell_tree.specs.declared.searching.Place.{Place}
 use Rattle.ell_tree.specs.declared.trying.Tried.TheVariants.{Answered}
-use Rattle.ell_tree.specs.Called.{ByItsDeed}
+use Rattle.ell_tree.specs.Called.{ByItsTake}
 use Rattle.ell_tree.specs.Ends.{Answers, AnswersAs, TakesIfDelete, TakesValue}
 use Rattle.ell_tree.specs.Tries.{TryTakesValue}
 use Rattle.ell_tree.specs.Keeping.{Keeps, KeepsIn}
 use Rattle.ell_tree.specs.Ledgers.{Owns, TreeModel, present_in}
 use Rattle.ell_tree.specs.Searches.{EndsAt, there_at}
-use Rattle.ell_tree.proofs.lemmas.Called.{take_before}
+use Rattle.ell_tree.proofs.lemmas.Called.{by_take}
 use Rattle.ell_tree.proofs.lemmas.Keeping.{share_trans}
 use Rattle.ell_tree.proofs.lemmas.Sights.{ends_from, sees_call}
 
@@ -41,8 +40,8 @@ would_before op p q same would owns =
     sym (ap (λ (l : List (ℕ × Entry)). reply_of op (contents_in (ledger_of l))) same) ∙ would (still_owned (key_of op) p q same owns)
 
 -- an answer after steps that changed neither ledger nor count is one from before them
-pub answers_before : (Sees Sees' : Op → Reply → Sight → Sight → Type 0) (t : TreeModel) (op : Op) (said : Reply) (p q r : PassModel) → q.table ≡ p.table → q.label ≡ p.label
-    → q.view.worker.ledger ≡ p.view.worker.ledger → q.view.answers ≡ p.view.answers → SameShare p.view q.view → Sees' op said p.sight r.sight
+pub answers_before : (Sees Sees' : Op → Reply → Option ℕ → Sight → Sight → Type 0) (t : TreeModel) (op : Op) (said : Reply) (p q r : PassModel) → q.table ≡ p.table → q.label ≡ p.label
+    → q.view.worker.ledger ≡ p.view.worker.ledger → q.sight.mine ≡ p.sight.mine → SameShare p.view q.view → ByItsTake op (λ took. Sees' op said took p.sight r.sight)
     → AnswersAs Sees t op said q r → AnswersAs Sees' t op said p r
 answers_before Sees Sees' t op said p q r table label same count share sees h =
     let back : ledger q ≡ ledger p = ap ledger_of same in
@@ -55,8 +54,7 @@ answers_before Sees Sees' t op said p q r table label same count share sees h =
       stays = λ other. h.stays (λ owns. other (still_owned (key_of op) q p (sym same) owns)) ∙ back;
       point = h.point;
       owned = λ key. (λ owns. still_owned key q p (sym same) ((h.owned key).0 owns), λ owns. (h.owned key).1 (still_owned key p q same owns));
-      answered = h.answered ∙ ap (λ l. length (own_calls l) + 1) count;
-      called = subst (λ (l : List Deed). ByItsDeed op said (λ deed. r.view.answers ≡ deed l ∷ l)) count h.called;
+      answered = h.answered ∙ ap (λ (l : List Act). length l + 1) count;
       share = share_trans p.view q.view r.view share h.share;
       idle = h.idle;
       outside = h.outside;
@@ -71,27 +69,33 @@ takes_before t key taken p q r same h = record {
   took = h.took;
 }
 
-pub takes_before_it : (t : TreeModel) (op : Op) (had : Option ℕ) (p q r : PassModel) → q.view.worker.ledger ≡ p.view.worker.ledger → q.view.answers ≡ p.view.answers
+pub takes_before_it : (t : TreeModel) (op : Op) (had : Option ℕ) (p b q r : PassModel) → q.view.worker.ledger ≡ p.view.worker.ledger → SeesBegin op p.sight b.sight → q.sight ≡ b.sight
     → TryTakesValue t op q r (Answered had) → TakesIfDelete t op p r had
-takes_before_it t (Find key) had p q r same count h = tt
-takes_before_it t (Insert key value) had p q r same count h = tt
-takes_before_it t (Delete key) had p q r same count h = (takes_before t key had p q r same h.0, take_before key had p q r count h.1)
-takes_before_it t (Swap key was value) had p q r same count h = tt
+takes_before_it t (Find key) had p b q r same begins sight h = tt
+takes_before_it t (Insert key value) had p b q r same begins sight h = tt
+takes_before_it t (Delete key) had p b q r same begins sight h =
+    (takes_before t key had p q r same h.0, sees_call (Delete key) (yes_if (is_some had)) had p.sight b.sight q.sight r.sight begins sight h.1)
+takes_before_it t (Swap key was value) had p b q r same begins sight h = tt
+
+ends_before : (op : Op) (said : Reply) (p q r : PassModel) → q.sight ≡ p.sight → ByItsTake op (λ took. SeesEnd op said took q.sight r.sight) → ByItsTake op (λ took. SeesEnd op said took p.sight r.sight)
+ends_before op said p q r same h =
+    by_take op (λ took. SeesEnd op said took q.sight r.sight) (λ took. SeesEnd op said took p.sight r.sight) (λ took. ends_from op said took p.sight q.sight r.sight same) h
 
 pub keeps_answers : (t : TreeModel) (op : Op) (said : Reply) (p q r : PassModel) (n : ℕ) → Keeps p q n → AnswersAs SeesEnd t op said q r → AnswersAs SeesEnd t op said p r
 keeps_answers t op said p q r n keeps h =
-    answers_before SeesEnd SeesEnd t op said p q r keeps.table keeps.label keeps.view.ledger keeps.view.answers keeps.view.share (ends_from op said p.sight q.sight r.sight keeps.sight h.sees) h
+    answers_before SeesEnd SeesEnd t op said p q r keeps.table keeps.label keeps.view.ledger (ap (λ (g : Sight). g.mine) keeps.sight) keeps.view.share (ends_before op said p q r keeps.sight h.sees) h
 
 pub keeps_in_answers : (t : TreeModel) (op : Op) (said : Reply) (p q r : PassModel) (n : ℕ) → KeepsIn t.plan p q n → AnswersAs SeesEnd t op said q r → AnswersAs SeesEnd t op said p r
 keeps_in_answers t op said p q r n keeps h =
-    answers_before SeesEnd SeesEnd t op said p q r keeps.table keeps.label keeps.view.ledger keeps.view.answers keeps.view.share (ends_from op said p.sight q.sight r.sight keeps.sight h.sees) h
+    answers_before SeesEnd SeesEnd t op said p q r keeps.table keeps.label keeps.view.ledger (ap (λ (g : Sight). g.mine) keeps.sight) keeps.view.share (ends_before op said p q r keeps.sight h.sees) h
 
 -- a try that was answered, of an operation that the pass began before
 pub answers_begun : (t : TreeModel) (op : Op) (said : Reply) (p b q r : PassModel) → q.table ≡ p.table → q.label ≡ p.label
-    → q.view.worker.ledger ≡ p.view.worker.ledger → q.view.answers ≡ p.view.answers → SameShare p.view q.view → SeesBegin op p.sight b.sight → q.sight ≡ b.sight
+    → q.view.worker.ledger ≡ p.view.worker.ledger → SameShare p.view q.view → SeesBegin op p.sight b.sight → q.sight ≡ b.sight
     → AnswersAs SeesEnd t op said q r → Answers t op said p r
-answers_begun t op said p b q r table label same count share begins sight h =
-    answers_before SeesEnd SeesCall t op said p q r table label same count share (sees_call op said p.sight b.sight q.sight r.sight begins sight h.sees) h
+answers_begun t op said p b q r table label same share begins sight h =
+    answers_before SeesEnd SeesCall t op said p q r table label same (ap (λ (g : Sight). g.mine) sight ∙ begins.mine) share
+    (by_take op (λ took. SeesEnd op said took q.sight r.sight) (λ took. SeesCall op said took p.sight r.sight) (λ took. sees_call op said took p.sight b.sight q.sight r.sight begins sight) h.sees) h
 
 -- an insert whose search ended at another key would add its own; a swap whose search ended at its key and its first value would swap it; a delete
 -- whose search ended at its key would take it away

@@ -11,8 +11,6 @@ use Rattle.ell_core.specs.state.Machine.{entry_of}
 use Rattle.ell_cards.specs.Seeking.{no_seek, no_survey}
 use Rattle.ell_cards.specs.Sights.{joined_sight, no_sight}
 use Rattle.ell_cards.specs.Starts.{OpensBy}
-use Rattle.ell_cards.specs.Accounts.{own_calls}
-use Rattle.ell_cards.proofs.lemmas.runs.Deeds.{none_own, own_both}
 use Rattle.ell_cards.proofs.lemmas.words.Keys.{ledger_at_start, present_at_start}
 use Rattle.ell_cards.proofs.lemmas.lifetimes.Parts.{parts_on, parts_off}
 use Rattle.ell_cards.proofs.lemmas.lifetimes.Unions.{ledger_united}
@@ -56,7 +54,6 @@ first_pass plan made given opens = subst (IsFirst made.0) (sym opens.pass) (subs
   share = refl;
   ownable = refl;
   answers = refl;
-  called = refl;
   hindrances = refl;
   hindered = refl;
   taken = refl;
@@ -90,7 +87,6 @@ left_part keys p part s = subst (IsLeftPart keys p) (sym s) (record {
   own = refl;
   ledger = left_ledger keys p.view.worker.ledger;
   answers = refl;
-  called = refl;
   hindrances = refl;
   hindered = refl;
   taken = refl;
@@ -110,8 +106,7 @@ pub right_part : (keys : List ℕ) (p part : PassModel) → StepsOut p part (rig
 right_part keys p part s = subst (IsRightPart keys p) (sym s) (record {
   own = refl;
   ledger = right_ledger keys p.view.worker.ledger;
-  answers = ap length (none_own p.view.answers);
-  called = refl;
+  answers = refl;
   hindrances = refl;
   hindered = refl;
   taken = refl;
@@ -144,8 +139,7 @@ pub union : (left right both : PassModel)
 union left right both e = subst (IsUnion left right) (sym e) (record {
   own = refl;
   ledger = both_ledger left.view.worker.ledger right.view.worker.ledger;
-  answers = ap length (own_both left.view.answers right.view.answers) ∙ length-append (own_calls left.view.answers) (own_calls right.view.answers);
-  called = refl;
+  answers = length-append left.sight.mine right.sight.mine;
   hindrances = length-append left.view.hindrances right.view.hindrances;
   hindered = refl;
   taken = claims_append left.view.won right.view.won;

@@ -1,4 +1,4 @@
-use Rattle.std.proofs.Common.{◌≡◌, ◌≢◌, ℕ, ◌==◌, if◌then◌else◌, Bool, true, false, Option, Some, None, Ok, [], length, ◌⊎◌, inl, inr, refl, sym, ap, ◌∙◌, eq-eqb, eqb-true}
+use Rattle.std.proofs.Common.{◌≡◌, ◌≢◌, ℕ, ◌==◌, if◌then◌else◌, Bool, true, false, Option, Some, None, Ok, List, [], length, ◌⊎◌, inl, inr, refl, sym, ap, ◌∙◌, eq-eqb, eqb-true}
 use Rattle.std.proofs.lemmas.Bool.{false≢true}
 use Rattle.ell_ops.specs.declared.op.Op.{Op}
 use Rattle.ell_ops.specs.declared.op.Op.TheVariants.{Delete}
@@ -8,11 +8,11 @@ use Rattle.ell_core.specs.state.Machine.{worker_of}
 use Rattle.ell_core.proofs.lemmas.outcomes.Decide.{some_not_none}
 use Rattle.ell_cards.proofs.lemmas.runs.LayingDown.{laid_down_last_changes_nothing}
 use Rattle.ell_cards.specs.declared.view.View.{View}
-use Rattle.ell_cards.specs.Accounts.{own_calls}
+use Rattle.ell_cards.specs.declared.view.Act.{Act}
 use Rattle.ell_cards.specs.Models.{TablePlan, PassModel}
 use Rattle.ell_cards.specs.Seeing.{SeesBegin}
 use Rattle.ell_tree.specs.declared.searching.Place.{Place}
-use Rattle.ell_tree.specs.Called.{IsTakeCalled}
+use Rattle.ell_tree.specs.Called.{SeesTake}
 use Rattle.ell_tree.specs.Computing.{IsUntouched, RemovesIf}
 use Rattle.ell_tree.specs.Ends.{Answers, LaidDown, TakesValue, is_value}
 use Rattle.ell_tree.specs.Ledgers.{Owns, TreeModel, present_in}
@@ -21,7 +21,7 @@ use Rattle.ell_tree.specs.Tries.{Begins, Halts, Lays}
 use Rattle.ell_tree.proofs.lemmas.Computing.{concludes}
 use Rattle.ell_tree.proofs.lemmas.Keeping.{share_trans}
 use Rattle.ell_tree.proofs.lemmas.Owning.{has_there, would_before}
-use Rattle.ell_tree.proofs.lemmas.Sights.{sees_none}
+use Rattle.ell_tree.proofs.lemmas.Sights.{sees_last, sees_none}
 
 -- a key was found with this value, or not
 pub is_that : (was : ℕ) (o : Option ℕ) → is_value was o ≡ true → o ≡ Some was
@@ -63,8 +63,7 @@ halts_laid t op p q r s n begins sees halts lays = record {
   table = lays.table ∙ (halts.table ∙ begins.table);
   label = lays.label ∙ (halts.label ∙ begins.label);
   ledger = lays.ledger ∙ (halts.ledger ∙ begins.ledger);
-  answered = ap (λ l. length (own_calls l)) (lays.answers ∙ (halts.answers ∙ begins.answers));
-  called = lays.answers ∙ (halts.answers ∙ begins.answers);
+  answered = ap (λ (l : List Act). length l) (sees_none op p.sight q.sight s.sight sees (lays.sight ∙ halts.sight)).mine;
   share = share_trans p.view r.view s.view (share_trans p.view q.view r.view begins.share halts.share) lays.share;
   would = would_before op p q begins.ledger halts.would;
   nothing = laid_down_last_changes_nothing t.plan s.view op lays.laid;
@@ -80,12 +79,12 @@ takes_later t key taken p q r g h = record { mine = λ owns. h.mine ((g.owned ke
 
 -- a delete after others that have changed nothing removes what a call was to remove
 pub removes : (t : TreeModel) (key was : ℕ) (there : Option ℕ) (p q r : PassModel) → there ≡ Some was → IsUntouched p q → Answers t (Delete key) Yes q r → TakesValue t key q r (Some was)
-    → IsTakeCalled key q r (Ok (Some was)) → RemovesIf t key was p r there
-removes t key was there p q r that g h took called = record {
+    → SeesTake key q r (Ok (Some was)) → RemovesIf t key was p r there
+removes t key was there p q r that g h took sees = record {
   removed = λ same. record {
     removes = concludes t (Delete key) Yes p q r g h;
     took = takes_later t key (Some was) p q r g took;
-    called = record { earlier = q.view.answers; before = g.called; is = called };
+    sees = sees_last (Delete key) Yes (Some was) p.sight q.sight r.sight g.sees sees;
   };
   left = λ other. absurd (other that);
 }

@@ -324,6 +324,17 @@ next_pair v from end count (p ∷ []) d found order long one = (
     at = let ordered : AreInOrder from end ((p.key, p.value) ∷ []) = subst (λ (n : ℕ). AreInOrder from end (gathered n (p ∷ []))) one order in
         ordered.within 0 0 (omega arith)
 
+-- then it has come by a key
+pub next_beyond : (from end count : ℕ) (room : List Pair) → AreInOrder from end (gathered count room) → length room ≡ 1 → count ≡ 1 → from < end
+next_beyond from end count [] order long one = absurd (omega arith)
+next_beyond from end count (p ∷ q ∷ ps) order long one = absurd (omega arith)
+next_beyond from end count (p ∷ []) order long one =
+    let ordered : AreInOrder from end ((p.key, p.value) ∷ []) = subst (λ (n : ℕ). AreInOrder from end (gathered n (p ∷ []))) one order in
+    let at = ordered.within 0 0 (omega arith) in
+    let low = at.0 in
+    let less = at.1 in
+    omega arith
+
 -- what a look has found of each of these keys was so in one state each
 pub each_in : (t : TreeModel) (v : View) (from upto : ℕ) (there : Contents) → HaveFound v from upto there → AreFoundIn t v from upto there
 each_in t v from upto there found key low less = looks_are_of_one_state t.plan v key (there key) (found key low less)

@@ -310,7 +310,7 @@ tells_of v place k outer at = by (place.key == k) refl
 
 -- where a search ended at a leaf, an operation may be answered by what is there of its key
 pub may_answer : (v : View) (op : Op) (place : Place) (said : Reply) → Does v op → IsLeaf place.node → IsAt v place
-    → leaf_answer op (there_at place (key_of op)) ≡ Some said → MayAnswer v said
+    → leaf_answer op (there_at place (key_of op)) ≡ Some said → MayAnswer v said None
 may_answer v op place said busy outer at says = record {
   op = op;
   busy = busy;
@@ -324,4 +324,5 @@ may_answer v op place said busy outer at says = record {
     tells = tells_of v place (key_of op) outer at;
     says = says;
   });
+  takes = tt;
 }

@@ -1,5 +1,5 @@
 -- What a pass sees of the history in a call.
-use Rattle.std.proofs.Common.{◌≡◌, ◌≢◌, ℕ, ◌<◌, ◌≤◌, nat_le, if◌then◌else◌, Bool, true, false, ◌⊎◌, inl, inr, List, [], ◌∷◌, ◌++◌, length, refl, sym, ap, ◌∙◌, subst, arith, append-nil}
+use Rattle.std.proofs.Common.{◌≡◌, ◌≢◌, ℕ, ◌<◌, ◌≤◌, nat_le, if◌then◌else◌, Bool, true, false, ◌⊎◌, inl, inr, Option, List, [], ◌∷◌, ◌++◌, length, refl, sym, ap, ◌∙◌, subst, arith, append-nil}
 use Rattle.std.proofs.lemmas.List.{append_assoc}
 use Rattle.std.proofs.lemmas.Bool.Decides.{nat_tests}
 use Rattle.ell_ops.specs.declared.op.Op.{Op}
@@ -31,26 +31,26 @@ part_short a b one = let more = longer a one.0 in let same = ap length one.1 in 
 begun_part : (op : Op) (p q : Sight) → SeesBegin op p q → IsPart p.seen q.seen
 begun_part op p q b = part_trans p.seen b.before q.seen b.more (Begins b.seat op ∷ [], b.seen)
 
-ended_part : (op : Op) (said : Reply) (q r : Sight) → SeesEnd op said q r → IsPart q.seen r.seen
-ended_part op said q r e = part_trans q.seen e.before r.seen e.more (Ends e.seat said ∷ [], e.seen)
+ended_part : (op : Op) (said : Reply) (took : Option ℕ) (q r : Sight) → SeesEnd op said took q r → IsPart q.seen r.seen
+ended_part op said took q r e = part_trans q.seen e.before r.seen e.more (Ends e.seat said took ∷ [], e.seen)
 
 -- what a pass sees by an answer goes by what it had seen when it was answered
-pub ends_from : (op : Op) (said : Reply) (p q r : Sight) → q ≡ p → SeesEnd op said q r → SeesEnd op said p r
-ends_from op said p q r same end = subst (λ (g : Sight). SeesEnd op said g r) same end
+pub ends_from : (op : Op) (said : Reply) (took : Option ℕ) (p q r : Sight) → q ≡ p → SeesEnd op said took q r → SeesEnd op said took p r
+ends_from op said took p q r same end = subst (λ (g : Sight). SeesEnd op said took g r) same end
 
 -- an operation that was begun and then answered is a call
-pub sees_call : (op : Op) (said : Reply) (p q m r : Sight) → SeesBegin op p q → m ≡ q → SeesEnd op said m r → SeesCall op said p r
-sees_call op said p q m r b same end =
-    let e = ends_from op said q m r same end in
+pub sees_call : (op : Op) (said : Reply) (took : Option ℕ) (p q m r : Sight) → SeesBegin op p q → m ≡ q → SeesEnd op said took m r → SeesCall op said took p r
+sees_call op said took p q m r b same end =
+    let e = ends_from op said took q m r same end in
     let start = part_short p.seen b.before b.more in
     let late = e.last (length b.before) b.begun in
     record {
       begin = e.begin;
       end = length e.before;
       after = omega arith;
-      more = part_trans p.seen q.seen r.seen (begun_part op p q b) (ended_part op said q r e);
+      more = part_trans p.seen q.seen r.seen (begun_part op p q b) (ended_part op said took q r e);
       call = e.call;
-      mine = e.mine ∙ ap (λ (l : List Act). record { begin = e.begin; end = length e.before; op = op; said = said } ∷ l) b.mine;
+      mine = e.mine ∙ ap (λ (l : List Act). record { begin = e.begin; end = length e.before; op = op; said = said; took = took } ∷ l) b.mine;
     }
 
 -- and one that was laid down is none
@@ -74,8 +74,8 @@ has_either (x ∷ xs) ys a (earlier _ _ _ h) = elim (has_either xs ys a h) [
 ]
 
 -- a call of a beginning of a history is one of the history
-call_on : (h l : List Event) (a : Act) → IsPart h l → IsCall h a.begin a.end a.op a.said → IsCall l a.begin a.end a.op a.said
-call_on h l a part c = subst (λ (k : List Event). IsCall k a.begin a.end a.op a.said) (sym part.1) (call_more h part.0 a.begin a.end a.op a.said c)
+call_on : (h l : List Event) (a : Act) → IsPart h l → IsCall h a.begin a.end a.op a.said a.took → IsCall l a.begin a.end a.op a.said a.took
+call_on h l a part c = subst (λ (k : List Event). IsCall k a.begin a.end a.op a.said a.took) (sym part.1) (call_more h part.0 a.begin a.end a.op a.said a.took c)
 
 -- a pass that has seen more, and was answered nothing
 pub no_change_more : (p q : Sight) → HasSeenMore p q → SeesNoChange p q
@@ -85,14 +85,14 @@ pub no_change_self : (p : Sight) → SeesNoChange p p
 no_change_self p = no_change_more p p (record { more = ([], sym (append-nil p.seen)); mine = refl })
 
 -- or a call that has changed nothing
-pub no_change_call : (op : Op) (said : Reply) (p q : Sight) → said ≢ reply_of_change op → SeesCall op said p q → SeesNoChange p q
-no_change_call op said p q other h =
-    let one : Act = record { begin = h.begin; end = h.end; op = op; said = said } in
+pub no_change_call : (op : Op) (said : Reply) (took : Option ℕ) (p q : Sight) → said ≢ reply_of_change op → SeesCall op said took p q → SeesNoChange p q
+no_change_call op said took p q other h =
+    let one : Act = record { begin = h.begin; end = h.end; op = op; said = said; took = took } in
     record {
       more = h.more;
       calls = one ∷ [];
       mine = h.mine;
-      each = λ a has. subst (λ (x : Act). (length p.seen ≤ x.begin) × IsCall q.seen x.begin x.end x.op x.said × (x.said ≢ reply_of_change x.op))
+      each = λ a has. subst (λ (x : Act). (length p.seen ≤ x.begin) × IsCall q.seen x.begin x.end x.op x.said x.took × (x.said ≢ reply_of_change x.op))
           (has_one one a has) (h.after, h.call, other);
     }
 
@@ -108,18 +108,18 @@ no_change_trans p q r g h = record {
 }
 
 -- and then this call
-pub sees_last : (op : Op) (said : Reply) (p q r : Sight) → SeesNoChange p q → SeesCall op said q r → SeesLast op said p r
-sees_last op said p q r g h = record { between = q; before = g; last = h }
+pub sees_last : (op : Op) (said : Reply) (took : Option ℕ) (p q r : Sight) → SeesNoChange p q → SeesCall op said took q r → SeesLast op said took p r
+sees_last op said took p q r g h = record { between = q; before = g; last = h }
 
-pub sees_last_after : (op : Op) (said : Reply) (p q r : Sight) → SeesNoChange p q → SeesLast op said q r → SeesLast op said p r
-sees_last_after op said p q r g h = record { between = h.between; before = no_change_trans p q h.between g h.before; last = h.last }
+pub sees_last_after : (op : Op) (said : Reply) (took : Option ℕ) (p q r : Sight) → SeesNoChange p q → SeesLast op said took q r → SeesLast op said took p r
+sees_last_after op said took p q r g h = record { between = h.between; before = no_change_trans p q h.between g h.before; last = h.last }
 
-pub no_change_last : (op : Op) (said : Reply) (p q : Sight) → said ≢ reply_of_change op → SeesLast op said p q → SeesNoChange p q
-no_change_last op said p q other h = no_change_trans p h.between q h.before (no_change_call op said h.between q other h.last)
+pub no_change_last : (op : Op) (said : Reply) (took : Option ℕ) (p q : Sight) → said ≢ reply_of_change op → SeesLast op said took p q → SeesNoChange p q
+no_change_last op said took p q other h = no_change_trans p h.between q h.before (no_change_call op said took h.between q other h.last)
 
 -- a call has ended in the history of which it is one
-pub ends_inside : (h : List Event) (begin end : ℕ) (op : Op) (said : Reply) → IsCall h begin end op said → end < length h
-ends_inside h begin end op said c = at_inside h end (Ends c.seat said) c.ends
+pub ends_inside : (h : List Event) (begin end : ℕ) (op : Op) (said : Reply) (took : Option ℕ) → IsCall h begin end op said took → end < length h
+ends_inside h begin end op said took c = at_inside h end (Ends c.seat said took) c.ends
 
 -- the longer one of two histories is no shorter than either
 pub longer_left : (a b : List Event) → length a ≤ length (longer a b)

@@ -7,6 +7,8 @@ use Rattle.ell_cards.specs.Contention.{how_many}
 use Rattle.ell_cards.specs.Looking.{KeysAreFixed}
 use Rattle.ell_cards.specs.Models.{TablePlan, Has, latest, earlier, PassModel}
 use Rattle.ell_cards.proofs.lemmas.runs.HowMany.{many_most, many_where}
+use Rattle.ell_cards.specs.LookPlaces.{SawLookBegin}
+use Rattle.ell_tree.proofs.lemmas.LookPlaces.{saw_on}
 use Rattle.ell_tree.specs.Cursors.{BeginsALook, IsNodeKey, KeepsLooking}
 use Rattle.ell_tree.specs.Looks.{OnlyLooks, stretch_steps}
 use Rattle.ell_tree.specs.Scans.{scan_steps}
@@ -116,6 +118,7 @@ keys_more cards old new was is more passes fixed key at before after =
 pub record Stretches (plan : TablePlan) (test : ℕ → Bool) (More : Type 0) (old now : PassModel) : Type 0 where
   pub count : ℕ
   pub only : OnlyLooks old now (count * stretch_steps (deepest plan) + 1)
+  pub saw : SawLookBegin old.sight now.sight
   pub few : count ≤ keys_told plan.last_card test now.view.told + 1
   pub fewer : More → count ≤ keys_told plan.last_card test now.view.told
 
@@ -124,6 +127,7 @@ pub stretches_none : (plan : TablePlan) (test : ℕ → Bool) (More : Type 0) (o
 stretches_none plan test More old now begins = record {
   count = 0;
   only = only_trans old now now 1 0 (0 * stretch_steps (deepest plan) + 1) begins.only (only_none_yet now) (omega arith);
+  saw = begins.saw;
   few = omega arith;
   fewer = λ more. omega arith;
 }
@@ -136,6 +140,7 @@ stretches_more plan was is More Then old now new s more on passes fixed key ends
   count = s.count + 1;
   only = only_trans old now new (s.count * stretch_steps (deepest plan) + 1) (stretch_steps (deepest plan)) ((s.count + 1) * stretch_steps (deepest plan) + 1) s.only on.only
       (omega arith);
+  saw = saw_on old.sight now.sight new.sight s.saw on.sees;
   few = (let still = s.fewer more in let least = keys_still plan.last_card now new was is on.told passes in omega arith);
   fewer = λ keeps. elim ends [
     | inl none ↦ absurd (none keeps)

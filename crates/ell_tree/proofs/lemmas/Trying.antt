@@ -1,4 +1,4 @@
-use Rattle.std.proofs.Common.{ℕ, ◌++◌, Bool, true, false, List, [], length, inl, inr, sym, ap, ◌∙◌, subst, arith}
+use Rattle.std.proofs.Common.{ℕ, is_some, ◌++◌, Bool, true, false, List, [], length, inl, inr, sym, ap, ◌∙◌, subst, arith}
 use Rattle.std.proofs.lemmas.List.{append_cancel_right}
 use Rattle.ell_ops.specs.declared.op.Op.{Op}
 use Rattle.ell_core.specs.declared.fact.Fact.{Fact}
@@ -14,12 +14,14 @@ use Rattle.ell_tree.specs.Ledgers.{TreeModel}
 use Rattle.ell_tree.specs.Milestones.{SeesMilestone}
 use Rattle.ell_tree.specs.Searches.{AtRoot, EndsAt, HasSearched}
 use Rattle.ell_tree.specs.Tries.{Halts, TryEnds, TryTook}
-use Rattle.ell_tree.proofs.lemmas.Called.{take_before}
 use Rattle.ell_tree.proofs.lemmas.Halting.{seek_meets}
 use Rattle.ell_tree.proofs.lemmas.Hindrances.{root_in_try}
 use Rattle.ell_tree.proofs.lemmas.Keeping.{share_trans}
 use Rattle.ell_tree.proofs.lemmas.Meeting.{meets_trans}
+use Rattle.ell_ops.specs.declared.op.Op.TheVariants.{Delete}
+use Rattle.ell_ops.specs.Meaning.{yes_if}
 use Rattle.ell_tree.proofs.lemmas.Owning.{keeps_answers, takes_before, would_before}
+use Rattle.ell_tree.proofs.lemmas.Sights.{ends_from}
 
 -- a search from the root leaves the try as it was: it has met nothing, and has no card
 pub searched : (plan : TablePlan) (op : Op) (place : Place) (p q : PassModel) (n : ℕ) → KeepsAllButSearch p q n → AtRoot op p.view → EndsAt plan q.view op place
@@ -39,7 +41,6 @@ module _ (p q r : PassModel) (n : ℕ) (k : KeepsAllButSearch p q n) where
     label = h.label ∙ k.keeps.label;
     sight = h.sight ∙ k.keeps.sight;
     ledger = h.ledger ∙ k.keeps.view.ledger;
-    answers = h.answers ∙ k.keeps.view.answers;
     share = share_trans p.view q.view r.view k.keeps.view.share h.share;
     meets = meets_trans p.view q.view r.view (seek_meets p q n k) h.meets;
     in_try = h.in_try ∙ ap (λ (hs : List Hindrance). r.view.met ++ hs) k.hindrances;
@@ -73,7 +74,8 @@ module _ (p q r : PassModel) (n : ℕ) (k : KeepsAllButSearch p q n) where
       (halts_after op h.0, (let same = ap length k.hindrances in omega (arith, h.1, same)), sees_after t.plan.last_card h.2, h.3)
 
   pub took_after : (t : TreeModel) (key : ℕ) (ended : Tried) → TryTook t key q r ended → TryTook t key p r ended
-  took_after t key (Answered taken) h = (takes_before t key taken p q r k.keeps.view.ledger h.0, take_before key taken p q r k.keeps.view.answers h.1)
+  took_after t key (Answered taken) h =
+      (takes_before t key taken p q r k.keeps.view.ledger h.0, ends_from (Delete key) (yes_if (is_some taken)) taken p.sight q.sight r.sight k.keeps.sight h.1)
   took_after t key Spent h = tt
   took_after t key Hindered h = tt
 

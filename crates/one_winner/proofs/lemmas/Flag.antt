@@ -5,7 +5,7 @@ use Rattle.ell_tree.specs.Op.TheVariants.{Find, Insert}
 use Rattle.ell_tree.specs.Reply.{Reply}
 use Rattle.ell_tree.specs.Contents.{nothing}
 use Rattle.ell_tree.specs.Meaning.{yes_if, found}
-use Rattle.ell_tree.specs.Accounts.{count_such}
+use Rattle.ell_tree.specs.OneThread.{count_such}
 use Rattle.ell_tree.specs.Act.{Act}
 use Rattle.ell_tree.specs.Models.{latest, earlier}
 use Rattle.ell_tree.specs.OneThread.{IsOfOneThread}

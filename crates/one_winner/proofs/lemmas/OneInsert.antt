@@ -7,7 +7,7 @@ use Rattle.ell_tree.specs.Op.TheVariants.{Delete, Find, Insert, Swap}
 use Rattle.ell_tree.specs.Reply.{Reply}
 use Rattle.ell_tree.specs.Contents.{Contents}
 use Rattle.ell_tree.specs.Meaning.{reply_of, after, replies, found}
-use Rattle.ell_tree.specs.Accounts.{ops_in, replies_in, count_such}
+use Rattle.ell_tree.specs.OneThread.{ops_in, replies_in, count_such}
 use Rattle.one_winner.proofs.lemmas.FirstInsert.{one_if, on_first, found_same}
 
 -- a call with its answer

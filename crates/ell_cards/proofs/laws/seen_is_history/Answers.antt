@@ -6,5 +6,5 @@ pub returns : goal.returns
 returns c = record {
   linear = λ plan t h seat k at. seen_linear plan h.tree h.reached seat k.sight (h.seen seat k at);
   line = λ plan t h i j k l at there. seen_in_line (history_of h.reached.turns) k.sight.seen l.sight.seen (h.seen i k at).part (h.seen j l there).part;
-  all = λ plan t h seat k at. seen_all plan h.tree h.reached t.views h.views h.seen h.made h.silent h.apart seat k at;
+  all = λ plan t h seat k at. (seen_all plan h.tree h.reached t.views h.views h.seen h.made h.silent h.apart seat k at).all;
 }

@@ -43,7 +43,7 @@ module _ (m : Machine) (stage : Stages) (holds : Invariant m stage) (i : ℕ) (m
   machine_pairs (call.Begin op) n h = acts (act.Begin op) Moved h
   machine_pairs call.Again n h = acts act.Again Moved h
   machine_pairs call.Leave n h = acts act.Leave Moved h
-  machine_pairs (call.Answer said) n h = acts act.Answer (said_of (call.Answer said) n) h
+  machine_pairs (call.Answer said took) n h = acts act.Answer (said_of (call.Answer said took) n) h
   machine_pairs (call.Upd x) n h = acts act.Upd Moved h
   machine_pairs (call.Down x right) n h = acts act.Down Moved h
   machine_pairs (call.Claim c q) n h = claims (n == c) h

@@ -19,7 +19,7 @@ use Rattle.ell_cards.proofs.lemmas.seats.LedgersStay.{claim_ledger, flag_ledger,
 use Rattle.ell_cards.proofs.lemmas.own_words.OwnWords.{own_words_are_sound}
 
 pub table_answers_are_the_maps : AnswersByMachine
-table_answers_are_the_maps plan s r id v (call.Answer said) here may = (steps_are_events plan s r id v (call.Answer said) here may).tells.0
+table_answers_are_the_maps plan s r id v (call.Answer said took) here may = (steps_are_events plan s r id v (call.Answer said took) here may).tells.0
 table_answers_are_the_maps plan s r id v (call.Claim c q) here may = claim_ledger (found_by s (call.Claim c q) == c) c q v
 table_answers_are_the_maps plan s r id v (call.IFlag c p from) here may =
     let n = found_by s (call.IFlag c p from) in flag_ledger (n == packed from) (IFlagged c) p (unpacked n) v

@@ -17,7 +17,7 @@ use Rattle.ell_cards.specs.declared.call.NewNode.{NewNode}
 use Rattle.ell_cards.specs.declared.view.Answered.{Answered}
 use Rattle.ell_cards.specs.declared.view.View.{View}
 use Rattle.ell_cards.specs.Models.{TablePlan}
-use Rattle.ell_cards.specs.Changes.{answered_so, taken_now, after_claim, after_flag, after_mark, is_mark_of, with_fact, unmarking, left_view, right_view, joined_view, spent_view, first_of}
+use Rattle.ell_cards.specs.Changes.{answered_so, after_claim, after_flag, after_mark, is_mark_of, with_fact, unmarking, left_view, right_view, joined_view, spent_view, first_of}
 use Rattle.ell_cards.specs.Calls.{after}
 use Rattle.ell_cards.specs.States.{TableState}
 use Rattle.ell_cards.specs.Turns.{Turn, Makes, Splits, Joins, CallIsMade, TableTurns, TableRun, found_by, view_after}
@@ -150,7 +150,7 @@ module _ (op : Op) (said : Reply) where
 
   -- the call that answered it so
   abbrev IsAnswer : Option ℕ → Option ℕ → Call → View → Type 0
-  IsAnswer card took c v = (c ≡ call.Answer said) × (v.worker.operation ≡ Some op) × (v.worker.card ≡ card) × (taken_now said v ≡ took)
+  IsAnswer card took c v = (c ≡ call.Answer said took) × (v.worker.operation ≡ Some op) × (v.worker.card ≡ card)
 
   claim_answered : (b : Bool) (c : ℕ) (q : NewNode) (v : View) → (after_claim b c q v).answered ≡ v.answered
   claim_answered true c q v = refl
@@ -178,9 +178,9 @@ module _ (op : Op) (said : Reply) where
       (ap (λ (a : Answered). a.said) same, ap (λ (a : Answered). Some a.op) same, ap (λ (a : Answered). a.card) same, ap (λ (a : Answered). a.took) same)
 
   answer_before : (card took : Option ℕ) (c : Call) (n : ℕ) (v : View) → Answers card took (after c n v) → IsAnswer card took c v ⊎ (Unit {0} × Answers card took v)
-  answer_before card took (call.Answer other) n v e =
-      let is = answered_op card took v.worker.operation v.worker.card other (taken_now other v) e in
-      inl (ap call.Answer is.0, is.1, is.2, ap (λ r. taken_now r v) (sym is.0) ∙ is.3)
+  answer_before card took (call.Answer other taken) n v e =
+      let is = answered_op card took v.worker.operation v.worker.card other taken e in
+      inl ((λ i. call.Answer (is.0 i) (is.3 i)), is.1, is.2)
   answer_before card took (call.Begin next) n v e = absurd (some_not_none e refl)
   answer_before card took call.Again n v e = absurd (some_not_none e refl)
   answer_before card took (call.Claim c q) n v e = inr (tt, sym (claim_answered (n == c) c q v) ∙ e)
@@ -231,7 +231,7 @@ module _ (op : Op) (said : Reply) where
 
   pub busy_before : (c : Call) (n : ℕ) (v : View) → Busy (after c n v) → IsBegin c v ⊎ (KeepsOn c × Busy v)
   busy_before (call.Begin next) n v e = inl (ap call.Begin (same_Some next op e))
-  busy_before (call.Answer other) n v e = absurd (some_not_none e refl)
+  busy_before (call.Answer other took) n v e = absurd (some_not_none e refl)
   busy_before call.Leave n v e = absurd (some_not_none e refl)
   busy_before call.Rest n v e = absurd (some_not_none e refl)
   busy_before (call.Claim c q) n v e = inr (tt, sym (claim_busy (n == c) c q v) ∙ e)
@@ -259,7 +259,7 @@ module _ (op : Op) (said : Reply) where
 pub answers_with_card : (plan : TablePlan) (v : View) (op : Op) (said : Reply) (card took : Option ℕ)
     → v.answered ≡ Some (record { op = op; said = said; card = card; took = took })
     → (s : TableState) → Starts plan s → (turns : List Turn) (s' : TableState) → TableRun plan s turns s' → (seat : ℕ) → get_elem? s'.views seat ≡ some v
-    → (a : AnsweredInRun plan s turns s' seat op said) × (a.called.answers.view.worker.operation ≡ Some op) × (a.called.answers.view.worker.card ≡ card) × (taken_now said a.called.answers.view ≡ took)
+    → (a : AnsweredInRun plan s turns s' seat op said) × (a.called.answers.view.worker.operation ≡ Some op) × (a.called.answers.view.worker.card ≡ card) × (a.called.took ≡ took)
 answers_with_card plan v op said card took last s starts turns s' run seat there =
     elim (run_back plan seat (Answers op said card took) (IsAnswer op said card took) (λ c. Unit {0}) (answer_before op said card took) (λ chosen v e. some_not_none e refl)
     (λ chosen v e. some_not_none e refl) (λ v w e. some_not_none e refl) (λ e. some_not_none e refl) s turns s' run (record { view = v; there = there; has = last })) [
@@ -276,10 +276,11 @@ answers_with_card plan v op said card took last s starts turns s' run seat there
                   begins = subst (λ c. CallIsMade plan b.from seat c b.to) b.is b.made;
                   run = b.since;
                   on = keep_on seat b.later b.on;
+                  took = took;
                   answers = subst (λ c. CallIsMade plan a.from seat c a.to) a.is.0 a.made;
                 } in
-                let last_is = subst (λ (u : View). (u.worker.operation ≡ Some op) × (u.worker.card ≡ card) × (taken_now said u ≡ took))
-                (some-injective a.made.view called.answers.view (sym a.made.there ∙ called.answers.there)) (a.is.1, a.is.2, a.is.3) in (
+                let last_is = subst (λ (u : View). (u.worker.operation ≡ Some op) × (u.worker.card ≡ card))
+                (some-injective a.made.view called.answers.view (sym a.made.there ∙ called.answers.there)) (a.is.1, a.is.2) in (
                   record {
                     earlier = b.before;
                     during = b.later;
@@ -296,7 +297,7 @@ answers_with_card plan v op said card took last s starts turns s' run seat there
                   },
                   last_is.0,
                   last_is.1,
-                  last_is.2,
+                  refl,
                 )
           ]
     ]

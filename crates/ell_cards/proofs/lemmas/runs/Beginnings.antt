@@ -56,7 +56,7 @@ module _ (plan : TablePlan) (seat : ℕ) where
   look_before call.Again n v may e = absurd e
   look_before call.Rest n v may e = absurd e
   look_before call.Leave n v may e = absurd e
-  look_before (call.Answer said) n v may e = absurd e
+  look_before (call.Answer said took) n v may e = absurd e
   look_before (call.Upd x) n v may e = inr (tt, e)
   look_before (call.Down x right) n v may e = inr (tt, e)
   look_before call.Next n v may e = inr (tt, e)

@@ -57,7 +57,7 @@ pub after_told : (c : Call) → forgets c ≡ false → (n : ℕ) (v : View) (e 
 after_told (call.Begin op) keeps n v e h = absurd (true≢false keeps)
 after_told call.Again keeps n v e h = absurd (true≢false keeps)
 after_told call.Leave keeps n v e h = absurd (true≢false keeps)
-after_told (call.Answer said) keeps n v e h = absurd (true≢false keeps)
+after_told (call.Answer said took) keeps n v e h = absurd (true≢false keeps)
 after_told call.Look keeps n v e h = absurd (true≢false keeps)
 after_told call.Rest keeps n v e h = absurd (true≢false keeps)
 after_told (call.Upd x) keeps n v e h = places_more x (unpacked n).state (unpacked n).card v.told e h

@@ -470,7 +470,7 @@ module _ (plan : TablePlan) (seat : ℕ) where
     call_came (call.Begin op) keeps may = absurd keeps
     call_came call.Again keeps may = absurd (some_not_none may.busy at.free)
     call_came call.Leave keeps may = absurd (some_not_none may.busy at.free)
-    call_came (call.Answer said) keeps may = absurd (some_not_none may.busy at.free)
+    call_came (call.Answer said took) keeps may = absurd (some_not_none may.busy at.free)
     call_came (call.Upd x) keeps may = at.came
     call_came (call.Down x right) keeps may = at.came
     call_came call.Next keeps may = at.came

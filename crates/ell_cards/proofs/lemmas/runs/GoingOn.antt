@@ -155,7 +155,7 @@ module _ (m : Machine) (stage : Stages) (holds : Invariant m stage) (i : ℕ) (m
   call_wins (call.Begin op) n v plan mine may h = acts (act.Begin op) Moved h
   call_wins call.Again n v plan mine may h = acts act.Again Moved h
   call_wins call.Leave n v plan mine may h = acts act.Leave Moved h
-  call_wins (call.Answer said) n v plan mine may h = acts act.Answer (Answered said) h
+  call_wins (call.Answer said took) n v plan mine may h = acts act.Answer (Answered said) h
   call_wins (call.Upd x) n v plan mine may h = acts act.Upd Moved h
   call_wins (call.Down x right) n v plan mine may h = acts act.Down Moved h
   call_wins (call.Claim c q) n v plan mine may h = claims (n == c) h

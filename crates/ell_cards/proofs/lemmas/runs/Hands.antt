@@ -65,7 +65,7 @@ call_keeps : (plan : TablePlan) (c : Call) (n : ℕ) (v : View) → May plan c v
 call_keeps plan (call.Begin op) n v may apart other = record { held = λ c e. absurd (some_not_none e refl); read = λ m x e no at. absurd (some_not_none e refl) }
 call_keeps plan call.Again n v may apart other = record { held = λ c e. absurd (some_not_none e refl); read = λ m x e no at. absurd (some_not_none e refl) }
 call_keeps plan call.Leave n v may apart other = keeps_nowhere v (after call.Leave n v) (λ c e. absurd (some_not_none e refl)) refl
-call_keeps plan (call.Answer said) n v may apart other = keeps_nowhere v (after (call.Answer said) n v) (λ c e. absurd (some_not_none e refl)) refl
+call_keeps plan (call.Answer said took) n v may apart other = keeps_nowhere v (after (call.Answer said took) n v) (λ c e. absurd (some_not_none e refl)) refl
 call_keeps plan call.Rest n v may apart other = keeps_nowhere v (after call.Rest n v) (λ c e. absurd (some_not_none e refl)) refl
 call_keeps plan (call.Down x right) n v may apart other = record { held = λ c e. e; read = λ m y e no at. (e, no, x, may.stands) }
 call_keeps plan call.Next n v may apart other = absurd (other refl)

@@ -584,7 +584,7 @@ module _ (plan : TablePlan) (m0 : Machine) (stage : Stages) (first : Invariant m
   call_hindered (call.Begin op) keeps may = absurd keeps
   call_hindered call.Again keeps may = tried (after_again v) (way_now v) refl way_was_met refl refl refl (λ n e. absurd (some_not_none e refl)) refl refl
   call_hindered call.Leave keeps may = tried (after_leave v) (way_now v) refl way_was_met refl refl refl (λ n e. e) refl refl
-  call_hindered (call.Answer said) keeps may = tried (after_answer said v) [] refl tt refl refl refl (λ n e. e) refl refl
+  call_hindered (call.Answer said took) keeps may = tried (after_answer said took v) [] refl tt refl refl refl (λ n e. e) refl refl
   call_hindered call.Rest keeps may = tried (after_rest v) [] refl tt refl refl refl (λ n e. e) refl refl
   call_hindered (call.Upd x) keeps may = quiet _ refl refl refl refl refl refl refl (λ seen h. h)
   call_hindered (call.Down x right) keeps may =

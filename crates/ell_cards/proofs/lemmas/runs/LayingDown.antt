@@ -107,7 +107,7 @@ module _ (op : Op) where
   laid_before (call.IFlag c p from) n v e = inr (tt, sym (flag_laid (n == packed from) (fact.IFlagged c) p (unpacked n) v) ∙ e)
   laid_before (call.DFlag c gp from) n v e = inr (tt, sym (flag_laid (n == packed from) (fact.DFlagged c) gp (unpacked n) v) ∙ e)
   laid_before (call.Mark c p was) n v e = inr (tt, sym (mark_laid (n == was) c p (unpacked n) v) ∙ e)
-  laid_before (call.Answer said) n v e = inr (tt, e)
+  laid_before (call.Answer said took) n v e = inr (tt, e)
   laid_before (call.Upd x) n v e = inr (tt, e)
   laid_before (call.Down x right) n v e = inr (tt, e)
   laid_before call.Next n v e = inr (tt, e)

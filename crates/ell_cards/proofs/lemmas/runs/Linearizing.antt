@@ -1,4 +1,4 @@
-use Rattle.std.proofs.Common.{◌≡◌, ◌≢◌, ℕ, zero, suc, ◌<◌, ◌≤◌, ◌+◌, ◌⊎◌, List, [], ◌∷◌, length, take, inl, inr, refl, sym, ap, ◌∙◌, subst, arith}
+use Rattle.std.proofs.Common.{◌≡◌, ◌≢◌, ℕ, zero, suc, ◌<◌, ◌≤◌, ◌+◌, ◌⊎◌, Option, List, [], ◌∷◌, length, take, inl, inr, refl, sym, ap, ◌∙◌, subst, arith}
 use Rattle.std.proofs.lemmas.Bool.{cases_eq, cases_lt}
 use mathlib.Core.Option.{some, some-injective}
 use lib.ListN.{get_elem?}
@@ -164,13 +164,13 @@ module _ (plan : TablePlan) (opened : TableState) (starts : Starts plan opened) 
     pub does : op ≡ o
     pub says : said ≡ other
 
-  answer_turn : (seat other : ℕ) (said o : Reply) → Makes seat (call.Answer said) ≡ Makes other (call.Answer o) → (seat ≡ other) × (said ≡ o)
-  answer_turn seat other said o e = (cc, cc)
+  answer_turn : (seat other : ℕ) (said o : Reply) (took taken : Option ℕ) → Makes seat (call.Answer said took) ≡ Makes other (call.Answer o taken) → (seat ≡ other) × (said ≡ o)
+  answer_turn seat other said o took taken e = (cc, cc)
 
   pub same_answer : (i k j : ℕ) (op o : Op) (said other : Reply) → IsAnswered turns i j op said → IsAnswered turns k j o other → SameAnswer i k op o said other
   same_answer i k j op o said other g h =
-      let turn = answer_turn g.seat h.seat said other
-      (some-injective (Makes g.seat (call.Answer said)) (Makes h.seat (call.Answer other)) (sym g.answers ∙ h.answers)) in
+      let turn = answer_turn g.seat h.seat said other g.took h.took
+      (some-injective (Makes g.seat (call.Answer said g.took)) (Makes h.seat (call.Answer other h.took)) (sym g.answers ∙ h.answers)) in
       let at = subst (λ x. get_elem? turns i ≡ some (Makes x (call.Begin op))) turn.0 g.begins in
       let on = subst (λ x. KeepsOnBetween x turns i j) turn.0 g.on in
       let begin : i ≡ k = one_begin turns h.seat i k j op o at g.later on h.begins h.later h.on in record {
@@ -200,7 +200,7 @@ module _ (plan : TablePlan) (opened : TableState) (starts : Starts plan opened) 
   no_reading p e = record {
     list = [];
     each = λ x i. absurd i;
-    all = λ i j op said up h. (let less = inside turns j (Makes h.seat (call.Answer said)) h.answers in absurd (omega arith));
+    all = λ i j op said up h. (let less = inside turns j (Makes h.seat (call.Answer said h.took)) h.answers in absurd (omega arith));
     apart = tt;
   }
 
@@ -282,19 +282,20 @@ module _ (plan : TablePlan) (opened : TableState) (starts : Starts plan opened) 
     ended : IsAnswered turns i end op said
 
   -- whether a turn is an answer
-  pub is_answer : (t : Turn) → ((seat : ℕ) × (said : Reply) × (t ≡ Makes seat (call.Answer said))) ⊎ ((seat : ℕ) (said : Reply) → t ≢ Makes seat (call.Answer said))
-  is_answer (Makes seat (call.Answer said)) = inl (seat, said, refl)
-  is_answer _ = inr (λ seat said e. cc)
+  pub is_answer : (t : Turn) → ((seat : ℕ) × (said : Reply) × (took : Option ℕ) × (t ≡ Makes seat (call.Answer said took)))
+      ⊎ ((seat : ℕ) (said : Reply) (took : Option ℕ) → t ≢ Makes seat (call.Answer said took))
+  is_answer (Makes seat (call.Answer said took)) = inl (seat, said, took, refl)
+  is_answer _ = inr (λ seat said took e. cc)
 
   pub answers_end_calls : AnswersEndCalls turns
-  answers_end_calls seat p said at =
-      let end : CallIsMade plan (at_turn p) seat (call.Answer said) (at_turn (suc p)) =
-      made plan opened starts turns s' run p (Makes seat (call.Answer said)) at in
-      let short = inside turns p (Makes seat (call.Answer said)) at in
+  answers_end_calls seat p said took at =
+      let end : CallIsMade plan (at_turn p) seat (call.Answer said took) (at_turn (suc p)) =
+      made plan opened starts turns s' run p (Makes seat (call.Answer said took)) at in
+      let short = inside turns p (Makes seat (call.Answer said took)) at in
       let begun = begun_of plan opened starts turns s' run p (omega arith) seat end.may.op (record { view = end.view; there = end.there; does = end.may.busy }) in record {
         begin = begun.begin;
         op = end.may.op;
-        ended = record { seat = seat; begins = begun.begins; later = begun.later; on = begun.on; answers = at };
+        ended = record { seat = seat; begins = begun.begins; later = begun.later; on = begun.on; took = took; answers = at };
       }
 
   ends_here : (p : ℕ) (said : Reply) → EndsACall turns p said → Reading (suc p) → Reading p
@@ -309,8 +310,8 @@ module _ (plan : TablePlan) (opened : TableState) (starts : Starts plan opened) 
       let t = turn_inside turns p (omega arith) in
       let rest = reading n (suc p) (omega arith) in
       elim (is_answer t.0) [
-        | inl is ↦ ends_here p is.1 (answers_end_calls is.0 p is.1 (t.1 ∙ ap (λ (u : Turn). some u) is.2)) rest
-        | inr none ↦ ends_none p (λ i op said h. none h.seat said (some-injective t.0 (Makes h.seat (call.Answer said)) (sym t.1 ∙ h.answers))) rest
+        | inl is ↦ ends_here p is.1 (answers_end_calls is.0 p is.1 is.2 (t.1 ∙ ap (λ (u : Turn). some u) is.3)) rest
+        | inr none ↦ ends_none p (λ i op said h. none h.seat said h.took (some-injective t.0 (Makes h.seat (call.Answer said h.took)) (sym t.1 ∙ h.answers))) rest
       ]
 
   -- a call that answers at a leaf does not change the tree
@@ -341,7 +342,7 @@ module _ (plan : TablePlan) (opened : TableState) (starts : Starts plan opened) 
       arranged map_at (length turns) every_reading.list every_change.list (λ x i. (let h = (every_reading.each x i).2 in record {
         right = h.right;
         reads = h.reads;
-        high = (let less = inside turns (every_reading.each x i).0 (Makes h.answered.seat (call.Answer x.item.reply)) h.answered.answers in let up = h.high in omega arith);
+        high = (let less = inside turns (every_reading.each x i).0 (Makes h.answered.seat (call.Answer x.item.reply h.answered.took)) h.answered.answers in let up = h.high in omega arith);
       })) every_reading.apart every_change.right every_change.apart
       (λ x y i j. let h = every_reading.each x i in let g = (every_change.each y j).1 in
       crossed x.item.begin y.item.begin h.0 y.at x.item.op y.item.op x.item.reply h.2.answered h.2.leaf g.changes)
@@ -378,7 +379,7 @@ module _ (plan : TablePlan) (opened : TableState) (starts : Starts plan opened) 
         let t = turn_inside turns n (omega arith) in
         elim (is_answer t.0) [
           | inl is ↦
-              let here = answers_end_calls is.0 n is.1 (t.1 ∙ ap (λ (u : Turn). some u) is.2) in
+              let here = answers_end_calls is.0 n is.1 is.2 (t.1 ∙ ap (λ (u : Turn). some u) is.3) in
               elim (cases_eq here.begin i) [
                 | inl same ↦ inl (record { end = n; op = here.op; said = is.1; ended = subst (λ k. IsAnswered turns k n here.op is.1) same here.ended })
                 | inr apart ↦ inr (λ j op said less h. elim (cases_lt j n) [
@@ -392,7 +393,7 @@ module _ (plan : TablePlan) (opened : TableState) (starts : Starts plan opened) 
             | inl low ↦ none j op said low h
             | inr most ↦
                 let now : j ≡ n = omega arith in
-                other h.seat said (some-injective t.0 (Makes h.seat (call.Answer said)) (sym t.1 ∙ (ap (get_elem? turns) (sym now) ∙ h.answers)))
+                other h.seat said h.took (some-injective t.0 (Makes h.seat (call.Answer said h.took)) (sym t.1 ∙ (ap (get_elem? turns) (sym now) ∙ h.answers)))
           ])
         ]
   ]
@@ -413,7 +414,7 @@ module _ (plan : TablePlan) (opened : TableState) (starts : Starts plan opened) 
     | inr none ↦ inr (record {
       change = p;
       changes = g;
-      unended = λ j op said h. (let less = inside turns j (Makes h.seat (call.Answer said)) h.answers in none j op said less h);
+      unended = λ j op said h. (let less = inside turns j (Makes h.seat (call.Answer said h.took)) h.answers in none j op said less h);
       says = says;
     })
   ]

@@ -69,7 +69,7 @@ held_by : (plan : TablePlan) (c : ℕ) (y : Call) (n : ℕ) (v : View) → Keeps
 held_by plan c (call.Begin op) n v keeps may fresh h = absurd keeps
 held_by plan c call.Again n v keeps may fresh h = absurd (fresh (may.backed c h.holds h.flagged))
 held_by plan c call.Leave n v keeps may fresh h = absurd (fresh (may.backed c h.holds h.flagged))
-held_by plan c (call.Answer said) n v keeps may fresh h = inl refl
+held_by plan c (call.Answer said took) n v keeps may fresh h = inl refl
 held_by plan c call.Rest n v keeps may fresh h = inl refl
 held_by plan c (call.Claim d q) n v keeps may fresh h = absurd (false≢true (sym (laid_aside (flat_from plan) v.worker c may.0.ready h.holds).1 ∙ h.flagged))
 held_by plan c (call.IFlag d p from) n v keeps may fresh h = absurd (false≢true (sym may.may.unflagged ∙ h.flagged))

@@ -1,4 +1,4 @@
-use Rattle.std.proofs.Common.{◌≡◌, ℕ, zero, suc, ◌<◌, ◌≤◌, ◌+◌, ◌-◌, ◌⊎◌, if◌then◌else◌, eq-eqb, Some, List, [], ◌∷◌, length, take, drop, inl, inr, refl, sym, ap, ◌∙◌, subst, arith}
+use Rattle.std.proofs.Common.{◌≡◌, ℕ, zero, suc, ◌<◌, ◌≤◌, ◌+◌, ◌-◌, ◌⊎◌, if◌then◌else◌, eq-eqb, Some, Option, List, [], ◌∷◌, length, take, drop, inl, inr, refl, sym, ap, ◌∙◌, subst, arith}
 use Rattle.std.proofs.lemmas.Bool.{cases_eq, cases_lt}
 use Rattle.std.proofs.lemmas.Option.{same_Some}
 use mathlib.Core.Option.{some, some-injective}
@@ -164,11 +164,11 @@ module _ (plan : TablePlan) (opened : TableState) (starts : Starts plan opened) 
       ]
 
   -- a call that has ended leaves its pass with nothing in hand, till it begins another
-  pub free_after : (seat i j : ℕ) (said : Reply) → get_elem? turns j ≡ some (Makes seat (call.Answer said)) → i < j → (q : ℕ) → j < q → KeepsOnBetween seat turns i q
+  pub free_after : (seat i j : ℕ) (said : Reply) (took : Option ℕ) → get_elem? turns j ≡ some (Makes seat (call.Answer said took)) → i < j → (q : ℕ) → j < q → KeepsOnBetween seat turns i q
       → (w : View) → get_elem? (after_turns q).views seat ≡ some w → IsFree w
-  free_after seat i j said at low q less on w there =
-      let h : CallIsMade plan (after_turns j) seat (call.Answer said) (after_turns (suc j)) = made j (Makes seat (call.Answer said)) at in
-      let v = view_after (after_turns j) h.view (call.Answer said) in
+  free_after seat i j said took at low q less on w there =
+      let h : CallIsMade plan (after_turns j) seat (call.Answer said took) (after_turns (suc j)) = made j (Makes seat (call.Answer said took)) at in
+      let v = view_after (after_turns j) h.view (call.Answer said took) in
       let now : get_elem? (after_turns (suc j)).views seat ≡ some v =
       ap (λ (t : TableState). get_elem? t.views seat) h.gives ∙ set_there (after_turns j).views seat v h.view h.there in
       free_on plan seat (after_turns (suc j)) v now refl (slice (suc j) q) (after_turns q) (run_slice (suc j) q (omega arith))
@@ -252,12 +252,18 @@ module _ (plan : TablePlan) (opened : TableState) (starts : Starts plan opened) 
         begins = made i (Makes h.seat (call.Begin op)) h.begins;
         run = run_slice (suc i) j (omega arith);
         on = keep_slice h.seat i (suc i) j (omega arith) (omega arith) h.on;
-        answers = made j (Makes h.seat (call.Answer said)) h.answers;
+        took = h.took;
+        answers = made j (Makes h.seat (call.Answer said h.took)) h.answers;
       }
 
+  -- with what it took
+  pub called_took : (i j : ℕ) (op : Op) (said : Reply) (h : IsAnswered turns i j op said) → (called i j op said h).took ≡ h.took
+  unfolding called
+  called_took i j op said h = refl
+
   -- an answer does not change the tree
-  no_effect : (s : TableState) (seat : ℕ) (said : Reply) (t : Turn) → t ≡ Makes seat (call.Answer said) → (op : Op) → turn_effect s t ≡ op ∷ [] → ⊥
-  no_effect s seat said t is op e =
+  no_effect : (s : TableState) (seat : ℕ) (said : Reply) (took : Option ℕ) (t : Turn) → t ≡ Makes seat (call.Answer said took) → (op : Op) → turn_effect s t ≡ op ∷ [] → ⊥
+  no_effect s seat said took t is op e =
       let none : [] ≡ op ∷ [] = subst (λ (u : Turn). turn_effect s u ≡ op ∷ []) is e in absurd cc
 
   -- a call that changes the tree does so before it ends
@@ -265,11 +271,11 @@ module _ (plan : TablePlan) (opened : TableState) (starts : Starts plan opened) 
   change_before i p j op o said h k = elim (cases_lt p j) [
     | inl less ↦ less
     | inr most ↦ elim (cases_lt j p) [
-      | inl less ↦ absurd (some_not_none k.does (free_after h.seat i j said h.answers h.later p less k.on k.view k.there))
+      | inl less ↦ absurd (some_not_none k.does (free_after h.seat i j said h.took h.answers h.later p less k.on k.view k.there))
       | inr least ↦
           let same : p ≡ j = omega arith in
-          let is = some-injective k.turn (Makes h.seat (call.Answer said)) (sym k.at ∙ (ap (get_elem? turns) same ∙ h.answers)) in
-          absurd (no_effect (after_turns p) h.seat said k.turn is o k.effect)
+          let is = some-injective k.turn (Makes h.seat (call.Answer said h.took)) (sym k.at ∙ (ap (get_elem? turns) same ∙ h.answers)) in
+          absurd (no_effect (after_turns p) h.seat said h.took k.turn is o k.effect)
     ]
   ]
 
@@ -285,21 +291,21 @@ module _ (plan : TablePlan) (opened : TableState) (starts : Starts plan opened) 
       ]
 
   -- it ends once
-  not_twice : (seat i j q : ℕ) (said other : Reply) → i < j → get_elem? turns j ≡ some (Makes seat (call.Answer said)) → get_elem? turns q ≡ some (Makes seat (call.Answer other))
+  not_twice : (seat i j q : ℕ) (said other : Reply) (took taken : Option ℕ) → i < j → get_elem? turns j ≡ some (Makes seat (call.Answer said took)) → get_elem? turns q ≡ some (Makes seat (call.Answer other taken))
       → KeepsOnBetween seat turns i q → j < q → ⊥
-  not_twice seat i j q said other low e f on less =
-      let end : CallIsMade plan (after_turns q) seat (call.Answer other) (after_turns (suc q)) = made q (Makes seat (call.Answer other)) f in
-      some_not_none end.may.busy (free_after seat i j said e low q less on end.view end.there)
+  not_twice seat i j q said other took taken low e f on less =
+      let end : CallIsMade plan (after_turns q) seat (call.Answer other taken) (after_turns (suc q)) = made q (Makes seat (call.Answer other taken)) f in
+      some_not_none end.may.busy (free_after seat i j said took e low q less on end.view end.there)
 
   pub one_end : (i j q : ℕ) (op o : Op) (said other : Reply) → IsAnswered turns i j op said → IsAnswered turns i q o other → j ≡ q
   one_end i j q op o said other h k =
       let same = (same_begin turns i h.seat k.seat op o h.begins k.begins).0 in
-      let ends = subst (λ x. get_elem? turns q ≡ some (Makes x (call.Answer other))) (sym same) k.answers in
+      let ends = subst (λ x. get_elem? turns q ≡ some (Makes x (call.Answer other k.took))) (sym same) k.answers in
       let on = subst (λ x. KeepsOnBetween x turns i q) (sym same) k.on in
       elim (cases_lt j q) [
-        | inl less ↦ absurd (not_twice h.seat i j q said other h.later h.answers ends on less)
+        | inl less ↦ absurd (not_twice h.seat i j q said other h.took k.took h.later h.answers ends on less)
         | inr most ↦ elim (cases_lt q j) [
-          | inl less ↦ absurd (not_twice h.seat i q j other said k.later ends h.answers h.on less)
+          | inl less ↦ absurd (not_twice h.seat i q j other said k.took h.took k.later ends h.answers h.on less)
           | inr least ↦ omega arith
         ]
       ]

@@ -93,7 +93,7 @@ call_goes : (c : Call) (n : ℕ) → KeepsOn c → GoesOnAny (act_of c n) ⊎ ((
 call_goes (call.Begin op) n h = absurd h
 call_goes call.Again n h = inr (λ u. inl refl)
 call_goes call.Leave n h = inr (λ u. inr refl)
-call_goes (call.Answer said) n h = inr (λ u. inr refl)
+call_goes (call.Answer said took) n h = inr (λ u. inr refl)
 call_goes (call.Upd x) n h = inl tt
 call_goes (call.Down x right) n h = inl tt
 call_goes (call.Claim c q) n h = inl (claim_goes (n == c))

@@ -109,7 +109,7 @@ after_met : (plan : TablePlan) (c : Call) (n : ℕ) (v : View) → May plan c v 
 after_met plan (call.Begin op) n v may rests h = met_root (after (call.Begin op) n v) refl (latest (Met 0) []) refl refl
 after_met plan call.Again n v may rests h = met_root (after call.Again n v) refl (latest (Met 0) []) refl refl
 after_met plan call.Leave n v may rests h = met_nowhere (after call.Leave n v) refl refl refl
-after_met plan (call.Answer said) n v may rests h = met_nowhere (after (call.Answer said) n v) refl refl refl
+after_met plan (call.Answer said took) n v may rests h = met_nowhere (after (call.Answer said took) n v) refl refl refl
 after_met plan call.Rest n v may rests h = met_nowhere (after call.Rest n v) refl refl refl
 after_met plan (call.Upd x) n v may rests h = met_still v (after (call.Upd x) n v) (after_told (call.Upd x) refl n v) (λ y e. e) refl refl h
 after_met plan (call.Down x right) n v may rests h =

@@ -145,7 +145,7 @@ after_names : (plan : TablePlan) (c : Call) (n : ℕ) (v : View) → May plan c 
 after_names plan (call.Begin op) n v may rests met h = names_rest (after (call.Begin op) n v) refl refl refl
 after_names plan call.Again n v may rests met h = names_rest (after call.Again n v) refl refl refl
 after_names plan call.Leave n v may rests met h = names_rest (after call.Leave n v) refl refl refl
-after_names plan (call.Answer said) n v may rests met h = names_rest (after (call.Answer said) n v) refl refl refl
+after_names plan (call.Answer said took) n v may rests met h = names_rest (after (call.Answer said took) n v) refl refl refl
 after_names plan call.Rest n v may rests met h = names_rest (after call.Rest n v) refl refl refl
 after_names plan (call.Upd x) n v may rests met h =
     names_still v (after (call.Upd x) n v) (after_told (call.Upd x) refl n v)

@@ -50,7 +50,7 @@ call_free plan call.Look n v begins may free = absurd begins
 call_free plan call.Rest n v begins may free = absurd begins
 call_free plan call.Again n v begins may free = absurd (some_not_none may.busy free)
 call_free plan call.Leave n v begins may free = absurd (some_not_none may.busy free)
-call_free plan (call.Answer said) n v begins may free = absurd (some_not_none may.busy free)
+call_free plan (call.Answer said took) n v begins may free = absurd (some_not_none may.busy free)
 call_free plan (call.Claim c q) n v begins may free = claim_free (n == c) c q v free
 call_free plan (call.IFlag c p from) n v begins may free = flag_free (n == packed from) (fact.IFlagged c) p (unpacked n) v (after (call.IFlag c p from) n v) refl free
 call_free plan (call.DFlag c gp from) n v begins may free = flag_free (n == packed from) (fact.DFlagged c) gp (unpacked n) v (after (call.DFlag c gp from) n v) refl free

@@ -1,4 +1,4 @@
-use Rattle.std.proofs.Common.{◌≡◌, ℕ, zero, suc, ◌<◌, ◌≤◌, ◌+◌, ◌-◌, ◌⊎◌, ◌==◌, if◌then◌else◌, Bool, true, false, List, [], ◌∷◌, length, inl, inr, refl, sym, ap, ◌∙◌, subst, arith}
+use Rattle.std.proofs.Common.{◌≡◌, ℕ, zero, suc, ◌<◌, ◌≤◌, ◌+◌, ◌-◌, ◌⊎◌, ◌==◌, if◌then◌else◌, Bool, true, false, Option, List, [], ◌∷◌, length, inl, inr, refl, sym, ap, ◌∙◌, subst, arith}
 use mathlib.Core.Option.{some, some-injective}
 use lib.ListN.{get_elem?}
 use Rattle.ell_word.specs.Word.{packed, unpacked}
@@ -44,11 +44,11 @@ does_mark false c x u v = by (is_mark_of c u.state u.card)
 
 -- what a call makes of the operation in hand
 abbrev Hand : Call → View → View → Type 0
-Hand c v w = ((said : Reply) × (c ≡ call.Answer said)) ⊎ ((c ≡ call.Leave) ⊎ (w.worker.operation ≡ v.worker.operation))
+Hand c v w = ((said : Reply) × (took : Option ℕ) × (c ≡ call.Answer said took)) ⊎ ((c ≡ call.Leave) ⊎ (w.worker.operation ≡ v.worker.operation))
 
 hand_after : (plan : TablePlan) (c : Call) (n : ℕ) (v : View) → KeepsOn c → May plan c v → Hand c v (after c n v)
 hand_after plan (call.Begin op) n v keeps may = absurd keeps
-hand_after plan (call.Answer said) n v keeps may = inl (said, refl)
+hand_after plan (call.Answer said took) n v keeps may = inl (said, took, refl)
 hand_after plan call.Leave n v keeps may = inr (inl refl)
 hand_after plan call.Rest n v keeps may = inr (inr (sym may))
 hand_after plan (call.Claim c q) n v keeps may = inr (inr (does_claim (n == c) c q v))
@@ -60,13 +60,13 @@ hand_after plan _ n v keeps may = inr (inr refl)
 -- a call that neither begins an operation, nor answers it, nor lays it down
 abbrev pub IsPlain : Call → Type 0
 IsPlain (call.Begin op) = ⊥
-IsPlain (call.Answer said) = ⊥
+IsPlain (call.Answer said took) = ⊥
 IsPlain call.Leave = ⊥
 IsPlain _ = Unit {0}
 
 pub does_stay : (plan : TablePlan) (c : Call) (n : ℕ) (v : View) → IsPlain c → May plan c v → (after c n v).worker.operation ≡ v.worker.operation
 does_stay plan (call.Begin op) n v plain may = absurd plain
-does_stay plan (call.Answer said) n v plain may = absurd plain
+does_stay plan (call.Answer said took) n v plain may = absurd plain
 does_stay plan call.Leave n v plain may = absurd plain
 does_stay plan call.Rest n v plain may = sym may
 does_stay plan (call.Claim c q) n v plain may = does_claim (n == c) c q v
@@ -139,7 +139,8 @@ module _ (plan : TablePlan) (opened : TableState) (starts : Starts plan opened) 
           begins = changes.begins;
           later = low;
           on = h.on;
-          answers = here ∙ ap (λ (x : Call). some (Makes seat x)) says.1;
+          took = says.1;
+          answers = here ∙ ap (λ (x : Call). some (Makes seat x)) says.2;
         }))
         by c (inr (inl is)) here = absurd (laid_down_calls_change_nothing plan opened starts turns s' run seat i q op (record {
           begins = changes.begins;

@@ -6,6 +6,8 @@ use lib.ListN.{get_elem?}
 use Rattle.ell_ops.specs.Contents.{Contents, contents_of}
 use Rattle.ell_ops.specs.Meaning.{after, final}
 use Rattle.ell_cards.specs.declared.call.Call.TheVariants as call
+use Rattle.ell_layout.specs.Words.{Words}
+use Rattle.ell_cards.specs.Changing.{HasMap}
 use Rattle.ell_cards.specs.Models.{TablePlan}
 use Rattle.ell_cards.specs.States.{TableState}
 use Rattle.ell_cards.specs.Turns.{Turn, Makes, TableTurns, TableRun}
@@ -13,7 +15,7 @@ use Rattle.ell_cards.specs.TurnEffects.{own_words}
 use Rattle.ell_cards.specs.Starts.{Starts}
 use Rattle.ell_cards.specs.Looking.{HasThere}
 use Rattle.ell_cards.specs.Linearizing.{IsAnswered, Item, ops_of}
-use Rattle.ell_cards.specs.Placing.{HasPlace, IsLook, LooksHavePlaces, began}
+use Rattle.ell_cards.specs.Placing.{HasPlace, IsLook, IsLookFor, LooksHavePlaces, began}
 use Rattle.ell_cards.proofs.lemmas.runs.AsMap.{map_has}
 use Rattle.ell_cards.proofs.lemmas.runs.LinearizingLists.{Placed, items_of, AreRight, low_in, in_at, placed_at}
 use Rattle.ell_cards.proofs.lemmas.runs.LinearizingStates.{run_same, run_to, turn_same}
@@ -108,14 +110,14 @@ module _ (plan : TablePlan) (opened : TableState) (starts : Starts plan opened) 
   order = sequence plan opened starts turns s' run
 
   -- the state in which it was so, after so many turns of the run
-  record SeenAt (began ended key : ℕ) (there : Option ℕ) : Type 0 where
-    at : ℕ
-    low : suc began ≤ at
-    high : at ≤ ended
-    so : HasThere key there (own_words (state at))
+  pub record SeenAt (began ended : ℕ) (what : Words → Type 0) : Type 0 where
+    pub at : ℕ
+    pub low : suc began ≤ at
+    pub high : at ≤ ended
+    pub so : what (own_words (state at))
 
-  seen_at : (ended key : ℕ) (there : Option ℕ) (look : IsLook plan opened turns ended key there) → SeenAt (began plan opened turns ended key there look) ended key there
-  seen_at ended key there look =
+  pub seen_at : (ended : ℕ) (what : Words → Type 0) (look : IsLookFor plan opened turns ended what) → SeenAt look.found.began.first ended what
+  seen_at ended what look =
       let b = look.found.began in
       let at = of_take ended turns b.first (Makes look.seat call.Look) b.at in
       let less = at.0 in
@@ -137,14 +139,14 @@ module _ (plan : TablePlan) (opened : TableState) (starts : Starts plan opened) 
         at = between.place;
         low = between.low;
         high = between.high;
-        so = subst (λ (x : TableState). HasThere key there (own_words x)) between.is look.found.so.so;
+        so = subst (λ (x : TableState). what (own_words x)) between.is look.found.so.so;
       }
 
-  least : (p : ℕ) → 0 ≤ p
+  pub least : (p : ℕ) → 0 ≤ p
   least p = omega arith
 
-  within : (ended key : ℕ) (there : Option ℕ) (look : IsLook plan opened turns ended key there) → (seen_at ended key there look).at ≤ length turns
-  within ended key there look = let high = (seen_at ended key there look).high in let inside = look.inside in omega arith
+  pub within : (ended : ℕ) (what : Words → Type 0) (look : IsLookFor plan opened turns ended what) → (seen_at ended what look).at ≤ length turns
+  within ended what look = let high = (seen_at ended what look).high in let inside = look.inside in omega arith
 
   -- the calls before a state
   abbrev before : (p : ℕ) → p ≤ length turns → Cut map_at 0 p (all_calls plan opened starts turns s' run).list
@@ -154,20 +156,33 @@ module _ (plan : TablePlan) (opened : TableState) (starts : Starts plan opened) 
   before_rises p q up up' less =
       cut_rises map_at (length turns) 0 p q (all_calls plan opened starts turns s' run).list (all_calls plan opened starts turns s' run).right (least p) up (least q) up' less
 
-  abbrev look_placed : (ended key : ℕ) (there : Option ℕ) (look : IsLook plan opened turns ended key there)
-      → HasPlace (contents_of plan.start) turns order (began plan opened turns ended key there look) ended key there
-  look_placed ended key there look =
-      let seen = seen_at ended key there look in
+  -- what they leave is the map of that state, and they are with each call that had ended before the look began, and none
+  -- that began after it
+  pub record StandsAt (began ended : ℕ) (what : Words → Type 0) : Type 0 where
+    pub place : ℕ
+    pub map : Contents
+    pub words : Words
+    pub are : HasMap words map
+    pub so : what words
+    pub leaves : map ≡ final (contents_of plan.start) (ops_of (take place order))
+    pub after : (i : ℕ) (x : Item) → get_elem? order i ≡ some x → (end : ℕ) → IsAnswered turns x.begin end x.op x.reply → end < began → i < place
+    pub before : (i : ℕ) (x : Item) → get_elem? order i ≡ some x → ended ≤ x.begin → place ≤ i
+
+  abbrev pub look_stands : (ended : ℕ) (what : Words → Type 0) (look : IsLookFor plan opened turns ended what) → StandsAt look.found.began.first ended what
+  look_stands ended what look =
+      let seen = seen_at ended what look in
       let p = seen.at in
       let low = seen.low in
       let high = seen.high in
       let calls = all_calls plan opened starts turns s' run in
-      let parts = before p (within ended key there look) in
-      let says : map_at p ≡ final (contents_of plan.start) (ops_of (take parts.count (items_of calls.list))) =
-      parts.leaves ∙ ap (λ (m : Contents). final m (ops_of (take parts.count (items_of calls.list)))) (first_map plan opened starts turns s' run) in
+      let parts = before p (within ended what look) in
       record {
         place = parts.count;
-        says = sym (map_has (own_words (state p)) (map_at p) (is_map plan opened starts turns s' run p) key there seen.so) ∙ ap (λ (m : Contents). m key) says;
+        map = map_at p;
+        words = own_words (state p);
+        are = is_map plan opened starts turns s' run p;
+        so = seen.so;
+        leaves = parts.leaves ∙ ap (λ (m : Contents). final m (ops_of (take parts.count (items_of calls.list)))) (first_map plan opened starts turns s' run);
         after = λ i x there' end h first.
             let y = placed_at calls.list i x there' in
             let last = before_end plan opened starts turns s' run y.placed (in_at calls.list i y.placed y.there) end
@@ -180,16 +195,27 @@ module _ (plan : TablePlan) (opened : TableState) (starts : Starts plan opened) 
             parts.beyond i y.placed y.there (omega arith);
       }
 
+  abbrev look_placed : (ended key : ℕ) (there : Option ℕ) (look : IsLook plan opened turns ended key there)
+      → HasPlace (contents_of plan.start) turns order (began plan opened turns ended key there look) ended key there
+  look_placed ended key there look =
+      let at = look_stands ended (HasThere key there) look in
+      record {
+        place = at.place;
+        says = sym (map_has at.words at.map at.are key there at.so) ∙ ap (λ (m : Contents). m key) at.leaves;
+        after = at.after;
+        before = at.before;
+      }
+
 -- each look of each run has a place
 pub looks_have_places : LooksHavePlaces
 looks_have_places plan opened starts turns s' run = record {
   calls = linearized plan opened starts turns s' run;
   looks = look_placed plan opened starts turns s' run;
   keeps = λ ended key there look ended' key' there' later first.
-      let one = seen_at plan opened starts turns s' run ended key there look in
-      let other = seen_at plan opened starts turns s' run ended' key' there' later in
+      let one = seen_at plan opened starts turns s' run ended (HasThere key there) look in
+      let other = seen_at plan opened starts turns s' run ended' (HasThere key' there') later in
       let high = one.high in
       let low = other.low in
-      before_rises plan opened starts turns s' run one.at other.at (within plan opened starts turns s' run ended key there look)
-      (within plan opened starts turns s' run ended' key' there' later) (omega arith);
+      before_rises plan opened starts turns s' run one.at other.at (within plan opened starts turns s' run ended (HasThere key there) look)
+      (within plan opened starts turns s' run ended' (HasThere key' there') later) (omega arith);
 }

@@ -162,7 +162,7 @@ module _ (plan : TablePlan) where
   hand_by old low (call.Begin op) n v keeps fresh h = absurd keeps
   hand_by old low call.Again n v keeps fresh h = λ c e. absurd (some_not_none e refl)
   hand_by old low call.Leave n v keeps fresh h = λ c e. absurd (some_not_none e refl)
-  hand_by old low (call.Answer said) n v keeps fresh h = λ c e. absurd (some_not_none e refl)
+  hand_by old low (call.Answer said took) n v keeps fresh h = λ c e. absurd (some_not_none e refl)
   hand_by old low call.Rest n v keeps fresh h = λ c e. absurd (some_not_none e refl)
   hand_by old low (call.Claim d q) n v keeps fresh h = hand_claim old low (n == d) d q v
       (λ e. elim fresh [ inl least ↦ (let same = eqb-true n d e in omega arith) | inr none ↦ absurd (none d q refl) ]) h
@@ -177,7 +177,7 @@ module _ (plan : TablePlan) where
   claims_or_not (call.Begin op) = inr (λ d q e. cc)
   claims_or_not call.Again = inr (λ d q e. cc)
   claims_or_not call.Leave = inr (λ d q e. cc)
-  claims_or_not (call.Answer said) = inr (λ d q e. cc)
+  claims_or_not (call.Answer said took) = inr (λ d q e. cc)
   claims_or_not (call.Upd x) = inr (λ d q e. cc)
   claims_or_not (call.Down x right) = inr (λ d q e. cc)
   claims_or_not call.Next = inr (λ d q e. cc)
@@ -423,6 +423,13 @@ late_of : {low c : ℕ} → ((None ≡ Some c) ⊎ (low ≤ c)) → low ≤ c
 late_of (inl e) = absurd cc
 late_of (inr h) = h
 
+-- a call answers the operation that it began
+pub called_does : (plan : TablePlan) (s : TableState) → HasMachine plan s → (seat : ℕ) (op : Op) (begun : TableState) (turns : List Turn) (s' : TableState) (said : Reply)
+    → (called : IsCalled plan s seat op begun turns s' said) → called.answers.may.op ≡ op
+called_does plan s r seat op begun turns s' said called =
+    let real = (mine_sound plan s r seat called.begins.view called.begins.there).real (key_of op) called.begins.may.1 in
+    still_does plan s r seat op real begun called.begins turns s' called.run called.on called.answers.view called.answers.there called.answers.may.op called.answers.may.busy
+
 -- each call has its point: one that answers at a leaf a state, and one that answers by its card a turn
 pub point_of : (plan : TablePlan) (s : TableState) → HasMachine plan s → (seat : ℕ) (op : Op) (begun : TableState) (turns : List Turn) (s' : TableState) (said : Reply)
     → (called : IsCalled plan s seat op begun turns s' said)
@@ -433,7 +440,7 @@ point_of plan s r seat op begun turns s' said called =
     let v = called.answers.view in
     let there = called.answers.there in
     let may = called.answers.may in
-    let is : may.op ≡ op = still_does plan s r seat op real begun called.begins turns s' called.run called.on v there may.op may.busy in
+    let is : may.op ≡ op = called_does plan s r seat op begun turns s' said called in
     let does : Does v op = may.busy ∙ ap Some is in
     let turn = turn_lawful plan s r (Makes seat (Begin op)) begun called.begins in
     elim may.answers [

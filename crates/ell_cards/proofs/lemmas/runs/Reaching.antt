@@ -18,7 +18,7 @@ use Rattle.ell_cards.specs.States.{TableState}
 use Rattle.ell_cards.specs.Machines.{HasMachine}
 use Rattle.ell_cards.specs.Turns.{Turn, Makes, TableTurns, TableRun, found_by, view_after, state_after}
 use Rattle.ell_cards.specs.Starts.{MayStart, Starts, IsReached, RunFromStart}
-use Rattle.ell_cards.specs.Looking.{IsKnownInRun, KeysAreFixed, ValuesAreFixed}
+use Rattle.ell_cards.specs.Looking.{IsKnownInRun, KeysAreFixed}
 use Rattle.ell_cards.specs.Shown.{cut_by, shown, shown_call, IsNoClaim}
 use Rattle.ell_cards.specs.Naming.{IsPlaced}
 use Rattle.ell_cards.specs.Stepping.{MayTell, IsTaken}
@@ -83,14 +83,6 @@ module _ (plan : TablePlan) where
       let holds = (reached_kept s h).views id v here in
       sym (holds.entries (Key node key) told).1 ∙ (holds.entries (Key node other) told').1
 
-  -- and none two leaves of one card, or two values of one leaf
-  told_one_value : (s : TableState) → IsReached plan s → (id : ℕ) (v : View) → get_elem? s.views id ≡ some v → ValuesAreFixed v
-  told_one_value s h id v here =
-      let entries = ((reached_kept s h).views id v here).entries in record {
-        leaf = λ c leaf other told told'. sym (entries (Info c field.L leaf) told).2 ∙ (entries (Info c field.L other) told').2;
-        value = λ leaf value other told told'. sym (entries (Value leaf value) told).1 ∙ (entries (Value leaf other) told').1;
-      }
-
   -- a step call is a turn
   abbrev pub call_on : (s : TableState) → IsReached plan s → (id : ℕ) (c : Call) (v : View) → get_elem? s.views id ≡ some v → May plan c v
       → IsReached plan (state_after s id v c)
@@ -111,7 +103,6 @@ module _ (plan : TablePlan) where
         own = (looks_read_their_own plan s' on id w there).0;
         missed = (looks_read_their_own plan s' on id w there).1;
         fixed = told_once s' on id w there;
-        values = told_one_value s h id v here;
         keys = keys_stay c n v;
         share = same_share c n v;
         named = kept_named plan s' (reached_kept s' on) id w there;
@@ -150,7 +141,6 @@ module _ (plan : TablePlan) where
         own = t.own;
         missed = t.missed;
         fixed = t.fixed;
-        values = t.values;
         keys = t.keys;
         share = t.share;
         named = t.named;

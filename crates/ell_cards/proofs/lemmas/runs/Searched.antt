@@ -163,7 +163,7 @@ module _ (plan : TablePlan) (seat key : ℕ) (real : key ≤ greatest_key) (aske
     goes_by (call.Begin op) keeps may = absurd keeps
     goes_by call.Again keeps may = anew _ (λ op d. d) refl
     goes_by call.Leave keeps may = ends _ refl
-    goes_by (call.Answer said) keeps may = ends _ refl
+    goes_by (call.Answer said took) keeps may = ends _ refl
     goes_by call.Rest keeps may = ends _ refl
     goes_by (call.Down x right) keeps may = goes_down x right may
     goes_by (call.Claim c q) keeps may = by (found_by s (call.Claim c q) == c)

@@ -269,7 +269,7 @@ insert_ends_asks : RunAsks small_plan at_5 insert_ends
 insert_ends_asks =
     (refl, record { parent_key = infinity1; right_key = 7; left_key = 5; knows = refl; parent = told_at 1 _ _ refl; leaf = told_at 2 _ _ refl; expects = told_at 0 _ _ refl; told_parent = told_at 12 _ _ refl; told_right = told_at 5 _ _ refl; told_left = told_at 4 _ _ refl; brings = refl; side = refl })
     ▸ (refl, record { knows = refl; place = told_at 1 _ _ refl })
-    ▸ (refl, record { op = Insert 7 70; busy = refl; answers = inr (record { card = 3; holds = refl; flagged = refl; over = refl; says = refl }) })
+    ▸ (refl, record { op = Insert 7 70; busy = refl; answers = inr (record { card = 3; holds = refl; flagged = refl; over = refl; says = refl }); takes = tt })
     ▸ tt
 
 abbrev at_6 : TableState
@@ -309,7 +309,7 @@ delete_ends_asks =
     ▸ (refl, told_at 1 _ _ refl)
     ▸ (refl, record { leaf = 13; grandparent_key = infinity1; sibling_key = 7; knows = refl; grandparent = told_at 5 _ _ refl; parent = told_at 6 _ _ refl; expects = told_at 4 _ _ refl; below = told_at 7 _ _ refl; sibling = inl (told_at 1 _ _ refl, λ e. let h : ◌≡◌ {A = ℕ} 14 13 = e in omega arith); told_grandparent = told_at 15 _ _ refl; told_sibling = told_at 0 _ _ refl; side = refl })
     ▸ (refl, record { knows = refl; place = told_at 5 _ _ refl })
-    ▸ (refl, record { op = Delete 5; busy = refl; answers = inr (record { card = 4; holds = refl; flagged = refl; over = refl; says = refl }) })
+    ▸ (refl, record { op = Delete 5; busy = refl; answers = inr (record { card = 4; holds = refl; flagged = refl; over = refl; says = refl }); takes = tt })
     ▸ tt
 
 abbrev at_8 : TableState

@@ -18,10 +18,9 @@ use Rattle.std.proofs.lemmas.Bool.{false≢true}
 use Rattle.ell_cards.specs.declared.call.Call.{Call}
 use Rattle.ell_cards.specs.declared.call.Call.TheVariants as call
 use Rattle.ell_cards.specs.declared.call.NewNode.{NewNode}
-use Rattle.ell_cards.specs.declared.view.Deed.{Deed}
 use Rattle.ell_cards.specs.declared.view.View.{View}
 use Rattle.ell_cards.specs.Models.{TablePlan, IsFree, whole_share}
-use Rattle.ell_cards.specs.Changes.{first_of, ownable_if, left_view, right_view, joined_view, united_ledgers, inherited, after_claim, after_flag, after_mark, is_mark_of, with_fact, unmarking}
+use Rattle.ell_cards.specs.Changes.{first_of, ownable_if, left_view, right_view, joined_view, united_ledgers}
 use Rattle.ell_cards.specs.Calls.{after, May}
 use Rattle.ell_cards.specs.States.{TableState}
 use Rattle.ell_cards.specs.Turns.{Turn, Makes, Splits, Joins, TableTurns, TableRun, found_by}
@@ -34,50 +33,19 @@ use Rattle.ell_cards.proofs.lemmas.lifetimes.Openings.{each_first}
 use Rattle.ell_cards.proofs.lemmas.runs.OwnSeat.{call_free}
 use Rattle.ell_cards.proofs.lemmas.runs.Shares.{alone_with_the_whole}
 
--- a step call that answers nothing
-abbrev pub AnswersNothing : Call → Type 0
-AnswersNothing (call.Answer said) = ⊥
-AnswersNothing _ = Unit {0}
-
--- only an answer adds to what a pass was answered
-answers_claim : (b : Bool) (c : ℕ) (q : NewNode) (v : View) → (after_claim b c q v).answers ≡ v.answers
-answers_claim true c q v = refl
-answers_claim false c q v = refl
-
-answers_flag : (b : Bool) (new : Fact) (x : ℕ) (u : Update) (v : View) → (after_flag b new x u v).answers ≡ v.answers
-answers_flag true new x u v = refl
-answers_flag false new x u v = refl
-
-answers_mark : (b : Bool) (c x : ℕ) (u : Update) (v : View) → (after_mark b c x u v).answers ≡ v.answers
-answers_mark true c x u v = refl
-answers_mark false c x u v = by (is_mark_of c u.state u.card)
-  where
-    by : (b : Bool) → (if b then with_fact (fact.Marked c) v else unmarking c x u v).answers ≡ v.answers
-    by true = refl
-    by false = refl
-
-pub answers_stay : (c : Call) (n : ℕ) (v : View) → AnswersNothing c → (after c n v).answers ≡ v.answers
-answers_stay (call.Answer said) n v h = absurd h
-answers_stay (call.Claim c q) n v h = answers_claim (n == c) c q v
-answers_stay (call.IFlag c p from) n v h = answers_flag (n == packed from) (fact.IFlagged c) p (unpacked n) v
-answers_stay (call.DFlag c gp from) n v h = answers_flag (n == packed from) (fact.DFlagged c) gp (unpacked n) v
-answers_stay (call.Mark c p was) n v h = answers_mark (n == was) c p (unpacked n) v
-answers_stay _ n v h = refl
-
--- a pass that has nothing, and was answered nothing: it was joined to another
+-- a pass that has nothing: it was joined to another
 pub record IsSpent (v : View) : Type 0 where
   pub free : IsFree v
   pub ledger : v.worker.ledger ≡ []
-  pub answers : v.answers ≡ []
 
 -- so is each that takes no key for a shared one
 abbrev pub SpentAreSpent : TableState → Type 0
 SpentAreSpent s = (j : ℕ) (u : View) → get_elem? s.views j ≡ some u → u.worker.shared ≡ None → IsSpent u
 
-other : (plan : TablePlan) (c : Call) (n : ℕ) (v : View) → BeginsNothing c → AnswersNothing c → May plan c v → IsSpent v → IsSpent (after c n v)
-other plan c n v begins silent may spent =
+other : (plan : TablePlan) (c : Call) (n : ℕ) (v : View) → BeginsNothing c → May plan c v → IsSpent v → IsSpent (after c n v)
+other plan c n v begins may spent =
     let h = call_free plan c n v begins may spent.free in
-    record { free = h.free; ledger = h.ledger ∙ spent.ledger; answers = answers_stay c n v silent ∙ spent.answers }
+    record { free = h.free; ledger = h.ledger ∙ spent.ledger }
 
 begins_none : (op : Op) (v : View) → MayChange (worker_of v.worker) (key_of op) → v.worker.shared ≡ None → v.worker.ledger ≡ [] → ⊥
 begins_none op v (inl owns) none empty = owns (ap (λ (l : List (ℕ × Entry)). ledger_of l (key_of op)) empty)
@@ -86,16 +54,21 @@ begins_none op v (inr shared) none empty = false≢true (sym (ap (λ o. shared_o
 -- it may begin nothing, so it stays so
 call_spent : (plan : TablePlan) (c : Call) (n : ℕ) (v : View) → May plan c v → v.worker.shared ≡ None → IsSpent v → IsSpent (after c n v)
 call_spent plan (call.Begin op) n v may none spent = absurd (begins_none op v may.1 none spent.ledger)
-call_spent plan call.Look n v may none spent = record { free = spent.free; ledger = spent.ledger; answers = spent.answers }
-call_spent plan call.Rest n v may none spent = record { free = refl; ledger = spent.ledger; answers = spent.answers }
-call_spent plan (call.Answer said) n v may none spent = absurd (some_not_none may.busy spent.free)
+call_spent plan call.Look n v may none spent = record { free = spent.free; ledger = spent.ledger }
+call_spent plan call.Rest n v may none spent = record { free = refl; ledger = spent.ledger }
+call_spent plan (call.Answer said took) n v may none spent = absurd (some_not_none may.busy spent.free)
 call_spent plan call.Again n v may none spent = absurd (some_not_none may.busy spent.free)
 call_spent plan call.Leave n v may none spent = absurd (some_not_none may.busy spent.free)
-call_spent plan (call.Claim c q) n v may none spent = other plan (call.Claim c q) n v tt tt may spent
-call_spent plan (call.IFlag c p from) n v may none spent = other plan (call.IFlag c p from) n v tt tt may spent
-call_spent plan (call.DFlag c gp from) n v may none spent = other plan (call.DFlag c gp from) n v tt tt may spent
-call_spent plan (call.Mark c p was) n v may none spent = other plan (call.Mark c p was) n v tt tt may spent
-call_spent plan _ n v may none spent = record { free = spent.free; ledger = spent.ledger; answers = spent.answers }
+call_spent plan (call.Claim c q) n v may none spent = other plan (call.Claim c q) n v tt may spent
+call_spent plan (call.IFlag c p from) n v may none spent = other plan (call.IFlag c p from) n v tt may spent
+call_spent plan (call.DFlag c gp from) n v may none spent = other plan (call.DFlag c gp from) n v tt may spent
+call_spent plan (call.Mark c p was) n v may none spent = other plan (call.Mark c p was) n v tt may spent
+call_spent plan _ n v may none spent = record { free = spent.free; ledger = spent.ledger }
+
+-- where neither of two passes takes a key for a shared one, the two as one do not
+pub neither : (l m : Option (List ℕ)) → option_or l m ≡ None → (l ≡ None) × (m ≡ None)
+neither None m e = (refl, e)
+neither (Some l) m e = absurd (some_not_none refl e)
 
 turn_spent : (plan : TablePlan) (s : TableState) (t : Turn) (s' : TableState) → TableTurns plan s t s' → SpentAreSpent s → SpentAreSpent s'
 turn_spent plan s (Makes id c) s' turn h = λ j u at none.
@@ -113,12 +86,10 @@ turn_spent plan s (Splits id chosen) s' turn h =
     (λ none. let spent = h id v turn.there none in record {
       free = refl;
       ledger = ap (filter (λ (e : ℕ × Entry). set_of chosen e.0)) spent.ledger;
-      answers = spent.answers;
     })
     (λ none. let spent = h id v turn.there none in record {
       free = refl;
       ledger = ap (filter (λ (e : ℕ × Entry). not (set_of chosen e.0))) spent.ledger;
-      answers = ap inherited spent.answers;
     })
     h)
 turn_spent plan s (Joins id other) s' turn h =
@@ -132,14 +103,9 @@ turn_spent plan s (Joins id other) s' turn h =
     let two = h other w turn.there' both.1 in record {
       free = refl;
       ledger = ap₂ united_ledgers one.ledger two.ledger;
-      answers = ap₂ (λ (a b : List Deed). a ++ b) one.answers two.answers;
     })
-    (λ none. record { free = refl; ledger = refl; answers = refl })
+    (λ none. record { free = refl; ledger = refl })
     h)
-  where
-    neither : (l m : Option (List ℕ)) → option_or l m ≡ None → (l ≡ None) × (m ≡ None)
-    neither None m e = (refl, e)
-    neither (Some l) m e = absurd (some_not_none refl e)
 
 run_spent : (plan : TablePlan) (s : TableState) (turns : List Turn) (s' : TableState) → TableRun plan s turns s' → SpentAreSpent s → SpentAreSpent s'
 run_spent plan s [] s' run h = subst SpentAreSpent (sym run) h
@@ -151,10 +117,10 @@ spent_are_spent plan s mode h = run_spent plan h.first h.turns s h.run (subst Sp
     (each_first (first_of plan) (λ u. u.worker.shared ≡ None → IsSpent u)
     (λ none. absurd (some_not_none (ap (λ b. ownable_if b plan.keys) mode) none))))
 
--- where one pass has the whole share, and nothing in hand, nobody has anything in hand, and no other was answered anything
+-- where one pass has the whole share, and nothing in hand, nobody has anything in hand, and no other takes a key for a shared one
 pub record IsAllThere (s : TableState) (seat : ℕ) : Type 0 where
   pub free : (j : ℕ) (u : View) → get_elem? s.views j ≡ some u → IsFree u
-  pub silent : (j : ℕ) (u : View) → get_elem? s.views j ≡ some u → (j ≡ seat) ⊎ (u.answers ≡ [])
+  pub alone : (j : ℕ) (u : View) → get_elem? s.views j ≡ some u → (j ≡ seat) ⊎ (u.worker.shared ≡ None)
 
 pub all_there : (plan : TablePlan) (s : TableState) → plan.shared ≡ true → IsReached plan s → (seat : ℕ) (v : View) → get_elem? s.views seat ≡ some v
     → v.share ≡ whole_share → IsFree v → IsAllThere s seat
@@ -165,8 +131,5 @@ all_there plan s mode h seat v here whole free =
         | inl same ↦ subst IsFree (some-injective v u (sym here ∙ (ap (get_elem? s.views) (sym same) ∙ at))) free
         | inr none ↦ (spent j u at none).free
       ];
-      silent = λ j u at. elim (alone j u at) [
-        | inl same ↦ inl same
-        | inr none ↦ inr (spent j u at none).answers
-      ];
+      alone = alone;
     }

@@ -1,4 +1,4 @@
-use Rattle.std.proofs.Common.{◌≡◌, ℕ, ◌==◌, if◌then◌else◌, Some, None, is_some, List, ◌∷◌, [], drop, inl, inr, refl, sym, ap, ◌∙◌, subst}
+use Rattle.std.proofs.Common.{◌≡◌, ℕ, ◌==◌, if◌then◌else◌, Some, None, IfSome, is_some, List, ◌∷◌, [], drop, inl, inr, refl, sym, ap, ◌∙◌, subst}
 use Rattle.std.proofs.lemmas.Bool.{eq-eqb}
 use Rattle.std.proofs.lemmas.Option.{same_Some}
 use mathlib.Core.Option.{some}
@@ -23,8 +23,8 @@ use Rattle.ell_cards.specs.Turns.{Turn, TableTurns, TableRun}
 use Rattle.ell_cards.specs.TurnEffects.{own_words, turn_wins}
 use Rattle.ell_cards.specs.Changing.{run_effects}
 use Rattle.ell_cards.specs.Taking.{DeletesTakeWhatTheyTell}
-use Rattle.ell_cards.specs.Changes.{taken_by}
-use Rattle.ell_cards.proofs.lemmas.views.TakenValues.{takes_by}
+use Rattle.ell_ops.specs.declared.op.Op.{Op}
+use Rattle.ell_cards.specs.Guards.{TakesBy}
 use Rattle.ell_cards.proofs.lemmas.own_words.OwnWords.{own_taken_value}
 use Rattle.ell_cards.proofs.lemmas.runs.GoingOn.{run_goes}
 use Rattle.ell_cards.proofs.lemmas.runs.Points.{dchild_flagged, dchild_claimed}
@@ -70,9 +70,11 @@ deletes_take_what_they_tell plan v key card value last s starts turns s' run sea
         | inl leaves ↦ absurd (says_no had key p.says (leaves had map key))
         | inr next ↦
             let holds = next.hand.holds answering did.called.answers.there in
-            let t = takes_by (Delete key) answering.worker.card Yes answering.told value
-            (ap (λ o. taken_by o answering.worker.card Yes answering.told) (sym a.1) ∙ a.3) in
-            let card_is : next.card ≡ t.c = same_Some next.card t.c (sym holds.0 ∙ t.holds) in
+            let may = did.called.answers.may in
+            let is : may.op ≡ Delete key = same_Some may.op (Delete key) (sym may.busy ∙ a.1) in
+            let t : TakesBy answering (Delete key) Yes value =
+            subst (λ (o : Op). TakesBy answering o Yes value) is (subst (λ o. IfSome o (TakesBy answering may.op Yes)) a.3 may.takes) in
+            let card_is : next.card ≡ t.card = same_Some next.card t.card (sym holds.0 ∙ t.holds) in
             (map key (card_value (own_words p.state) next.card)).0 next.finds
             ∙ ap (λ n. Some n) (told_is_value plan p.state kept next.turn next.next next.now next.card next.own
             (drop p.first did.during) did.at p.after seat answering did.called.answers.there t.leaf value

@@ -1,4 +1,4 @@
-use Rattle.std.proofs.Common.{◌≡◌, ℕ, suc, if◌then◌else◌, Option, Some, None, List, [], ◌∷◌, length, take, inl, inr, sym, ap, ◌∙◌, subst, arith, eq-eqb}
+use Rattle.std.proofs.Common.{◌≡◌, ℕ, suc, if◌then◌else◌, Option, Some, None, IfSome, refl, List, [], ◌∷◌, length, take, inl, inr, sym, ap, ◌∙◌, subst, arith, eq-eqb}
 use Rattle.std.proofs.lemmas.Option.{same_Some}
 use mathlib.Core.Option.{some}
 use lib.ListN.{get_elem?}
@@ -14,19 +14,19 @@ use Rattle.ell_layout.specs.Cards.{card_value}
 use Rattle.ell_core.proofs.lemmas.outcomes.Decide.{some_not_none}
 use Rattle.ell_cards.specs.declared.view.View.{View}
 use Rattle.ell_cards.specs.Models.{TablePlan, Does}
-use Rattle.ell_cards.specs.Changes.{taken_by}
 use Rattle.ell_cards.specs.States.{TableState}
 use Rattle.ell_cards.specs.Starts.{Starts}
 use Rattle.ell_cards.specs.Turns.{Turn, TableRun}
 use Rattle.ell_cards.specs.TurnEffects.{own_words, turn_wins}
 use Rattle.ell_cards.specs.Changing.{FindsItsValue}
 use Rattle.ell_cards.specs.Linearizing.{IsAnswered, ChangesAt, Item, ops_of, StandsIn}
-use Rattle.ell_cards.proofs.lemmas.views.TakenValues.{TakesBy, takes_by}
+use Rattle.ell_cards.specs.Guards.{TakesBy}
+use Rattle.ell_cards.proofs.lemmas.runs.Points.{called_does}
 use Rattle.ell_cards.proofs.lemmas.runs.TurnsOfRuns.{turn_lawful}
 use Rattle.ell_cards.proofs.lemmas.runs.Taking.{told_is_value}
 use Rattle.ell_cards.proofs.lemmas.runs.LinearizingLists.{right_map, in_at, placed_at}
 use Rattle.ell_cards.proofs.lemmas.runs.Linearizing.{all_calls, sequence, every_change, every_reading, same_change, crossed}
-use Rattle.ell_cards.proofs.lemmas.runs.LinearizingPoints.{same_begin, Changed, after_turns, kept, map_after, is_map, first_map, made, slice, run_slice, changed_of, change_before, settled_at, point_at}
+use Rattle.ell_cards.proofs.lemmas.runs.LinearizingPoints.{same_begin, called, called_took, Changed, after_turns, kept, map_after, is_map, first_map, made, slice, run_slice, changed_of, change_before, settled_at, point_at}
 
 module _ (plan : TablePlan) (opened : TableState) (starts : Starts plan opened) (turns : List Turn) (s' : TableState) (run : TableRun plan opened turns s') where
   abbrev state : ℕ → TableState
@@ -40,21 +40,21 @@ module _ (plan : TablePlan) (opened : TableState) (starts : Starts plan opened) 
 
   -- a delete that changes the tree has this card in hand, whose value is what its pass is told of the leaf later
   by_change : (i q p : ℕ) (key : ℕ) (h : IsAnswered turns i p (Delete key) Yes) (g : ChangesAt plan opened turns i q (Delete key)) (v : View) → get_elem? (state p).views h.seat ≡ some v
-      → Does v (Delete key) → (value : ℕ) → TakesBy (Delete key) v.worker.card Yes v.told value → HasTaken i (Delete key) value
+      → Does v (Delete key) → (value : ℕ) → TakesBy v (Delete key) Yes value → HasTaken i (Delete key) value
   by_change i q p key h g v there does value told =
       let seat : g.by.work.seat ≡ h.seat = (same_begin turns i g.by.work.seat h.seat (Delete key) (Delete key) g.begins h.begins).0 in
       let c = subst (λ x. Changed plan opened starts turns s' run x i q (Delete key)) seat (changed_of plan opened starts turns s' run i q (Delete key) g) in
       let before = change_before plan opened starts turns s' run i q p (Delete key) (Delete key) Yes h c in
-      let card : c.card ≡ told.c = elim (settled_at plan opened starts turns s' run h.seat i q (Delete key) c p before h.on v there) [
+      let card : c.card ≡ told.card = elim (settled_at plan opened starts turns s' run h.seat i q (Delete key) c p before h.on v there) [
         | inl free ↦ absurd (some_not_none does free)
-        | inr held ↦ same_Some c.card told.c (sym held.holds ∙ told.holds)
+        | inr held ↦ same_Some c.card told.card (sym held.holds ∙ told.holds)
       ] in
       let now = made plan opened starts turns s' run q c.turn c.at in
       let lawful = turn_lawful plan (state q) (kept plan opened starts turns s' run q) c.turn (state (suc q)) now in
-      let mine : c.changes.card ≡ told.c = sym c.same ∙ card in
-      let wins : turn_wins (state q) c.turn told.c ≡ exchange.DChild ∷ [] =
-      c.changes.own told.c ∙ ap (λ b. if b then exchange.DChild ∷ [] else []) (eq-eqb told.c c.changes.card (sym mine)) in
-      let same = told_is_value plan (state q) (kept plan opened starts turns s' run q) c.turn (state (suc q)) now told.c wins (slice plan opened starts turns s' run q p) (state p)
+      let mine : c.changes.card ≡ told.card = sym c.same ∙ card in
+      let wins : turn_wins (state q) c.turn told.card ≡ exchange.DChild ∷ [] =
+      c.changes.own told.card ∙ ap (λ b. if b then exchange.DChild ∷ [] else []) (eq-eqb told.card c.changes.card (sym mine)) in
+      let same = told_is_value plan (state q) (kept plan opened starts turns s' run q) c.turn (state (suc q)) now told.card wins (slice plan opened starts turns s' run q p) (state p)
       (run_slice plan opened starts turns s' run q p (omega arith)) h.seat v there told.leaf value told.at_leaf told.at_value in
       let finds : FindsItsValue (Delete key) c.changes.card (own_words (state q)) = c.changes.finds (state (suc q)) lawful.1.tree in
       record {
@@ -71,20 +71,27 @@ module _ (plan : TablePlan) (opened : TableState) (starts : Starts plan opened) 
   -- what a call takes that ends in a turn
   abbrev TakesAt : ℕ → ℕ → View → ℕ → Op → Reply → Type 0
   TakesAt i p v value op said =
-      (h : IsAnswered turns i p op said) → get_elem? (state p).views h.seat ≡ some v → Does v op → TakesBy op v.worker.card said v.told value → HasTaken i op value
+      (h : IsAnswered turns i p op said) → get_elem? (state p).views h.seat ≡ some v → Does v op → TakesBy v op said value → HasTaken i op value
 
-  -- a call takes what the pass that answers it was told of its card's leaf
-  pub has_taken : (i p : ℕ) (op : Op) (said : Reply) (h : IsAnswered turns i p op said) (v : View) → get_elem? (state p).views h.seat ≡ some v → Does v op
-      → (value : ℕ) → taken_by (Some op) v.worker.card said v.told ≡ Some value → HasTaken i op value
-  has_taken i p op said h v there does value taken =
-      let t = takes_by op v.worker.card said v.told value taken in
-      subst (λ r. TakesAt i p v value op r) (sym t.says) (subst (λ o. TakesAt i p v value o Yes) (sym t.deletes) (base t.key)) h there does t
+  takes_at : (i p : ℕ) (op : Op) (said : Reply) (v : View) (value : ℕ) → TakesBy v op said value → TakesAt i p v value op said
+  takes_at i p op said v value t =
+      subst (λ r. TakesAt i p v value op r) (sym t.says) (subst (λ o. TakesAt i p v value o Yes) (sym t.deletes) (base t.key))
     where
       base : (key : ℕ) → TakesAt i p v value (Delete key) Yes
       base key h there does t = elim (point_at plan opened starts turns s' run i p (Delete key) Yes h) [
         | inl leaf ↦ absurd (no_leaf_yes key leaf.0.there leaf.0.says)
         | inr card ↦ by_change i card.1.change p key h card.1.changes v there does value t
       ]
+
+  -- a call takes what the pass that answers it was told of its card's leaf
+  pub has_taken : (i p : ℕ) (op : Op) (said : Reply) (h : IsAnswered turns i p op said) (value : ℕ) → h.took ≡ Some value → HasTaken i op value
+  has_taken i p op said h value took =
+      let call = called plan opened starts turns s' run i p op said h in
+      let may = call.answers.may in
+      let v = call.answers.view in
+      let is = called_does plan (state i) (kept plan opened starts turns s' run i) h.seat op (state (suc i)) (slice plan opened starts turns s' run (suc i) p) (state p) said call in
+      let t : TakesBy v may.op said value = subst (λ o. IfSome o (TakesBy v may.op said)) (called_took plan opened starts turns s' run i p op said h ∙ took) may.takes in
+      takes_at i p op said v value (subst (λ o. TakesBy v o said value) is t) h call.answers.there (may.busy ∙ ap Some is) (subst (λ o. TakesBy v o said value) is t)
 
   abbrev order : List Item
   order = sequence plan opened starts turns s' run

@@ -106,7 +106,7 @@ calls_touch_their_words call.Rest = root_word (key_field 0)
 calls_touch_their_words (call.Begin op) = root_word (key_field 0)
 calls_touch_their_words call.Again = root_word (key_field 0)
 calls_touch_their_words call.Leave = root_word (key_field 0)
-calls_touch_their_words (call.Answer said) = root_word (key_field 0)
+calls_touch_their_words (call.Answer said took) = root_word (key_field 0)
 
 -- how far a card has come, by what it has won
 changed-won : (s : Stage) → is_changed s ≡ true → insert_won s ≡ true
@@ -347,7 +347,7 @@ module _ (plan : TablePlan) (m : Machine) (stage : Stages) (first : Invariant m 
       told_since (call.Begin op) keeps may e h = absurd (true≢false keeps)
       told_since call.Again keeps may e h = absurd (true≢false keeps)
       told_since call.Leave keeps may e h = absurd (true≢false keeps)
-      told_since (call.Answer said) keeps may e h = absurd (true≢false keeps)
+      told_since (call.Answer said took) keeps may e h = absurd (true≢false keeps)
       told_since call.Look keeps may e h = absurd (true≢false keeps)
       told_since call.Rest keeps may e h = absurd (true≢false keeps)
       told_since (call.Upd x) keeps may e h =
@@ -467,7 +467,7 @@ module _ (plan : TablePlan) (m : Machine) (stage : Stages) (first : Invariant m 
     told_anew (call.Begin op) anew e h = forgotten_since M from kept e h
     told_anew call.Again anew e h = forgotten_since M from kept e h
     told_anew call.Leave anew e h = forgotten_since M from kept e h
-    told_anew (call.Answer said) anew e h = forgotten_since M from kept e h
+    told_anew (call.Answer said took) anew e h = forgotten_since M from kept e h
     told_anew call.Rest anew e h = forgotten_since M from kept e h
     told_anew call.Look anew e h =
         met_since from.stages 1 (link_in (found_by s call.Look)).node forgotten

@@ -104,7 +104,7 @@ abbrev GoesOn : Call → Type 0
 GoesOn (call.Begin op) = ⊥
 GoesOn call.Again = ⊥
 GoesOn call.Leave = ⊥
-GoesOn (call.Answer said) = ⊥
+GoesOn (call.Answer said took) = ⊥
 GoesOn call.Rest = ⊥
 GoesOn _ = Unit {0}
 
@@ -522,7 +522,7 @@ module _ (plan : TablePlan) where
     call_rests (call.Begin op) goes made may at g = absurd goes
     call_rests call.Again goes made may at g = absurd goes
     call_rests call.Leave goes made may at g = absurd goes
-    call_rests (call.Answer said) goes made may at g = absurd goes
+    call_rests (call.Answer said took) goes made may at g = absurd goes
     call_rests call.Rest goes made may at g = absurd goes
     call_rests (call.Claim c q) goes made may at g =
         let i = call.Claim c q in
@@ -608,8 +608,8 @@ module _ (plan : TablePlan) where
         by (call.Begin op) keeps may made at g = absurd keeps
         by call.Again keeps may made at g = inl (begins_anew (view_after s v call.Again) at g refl may)
         by call.Leave keeps may made at g = inr (stops (view_after s v call.Leave) g refl (more_hindered s0 v0 seat s v h there may s' (view_after s v call.Leave) g))
-        by (call.Answer said) keeps may made at g =
-            let w = view_after s v (call.Answer said) in
+        by (call.Answer said took) keeps may made at g =
+            let w = view_after s v (call.Answer said took) in
             let more = done_more s0 h.begun h.begins.view s' w (grows_on h.begun h.begins.view s v s' w h.since g) in
             let was = h.counted in
             inr (stops w g refl (omega arith))
@@ -632,7 +632,7 @@ module _ (plan : TablePlan) where
   call_stays (call.Begin op) n v keeps may free = absurd keeps
   call_stays call.Again n v keeps may free = absurd (some_not_none may.busy free)
   call_stays call.Leave n v keeps may free = absurd (some_not_none may.busy free)
-  call_stays (call.Answer said) n v keeps may free = absurd (some_not_none may.busy free)
+  call_stays (call.Answer said took) n v keeps may free = absurd (some_not_none may.busy free)
   call_stays call.Rest n v keeps may free = (refl, refl)
   call_stays (call.Claim c q) n v keeps may free = absurd (some_not_none may.0.busy free)
   call_stays (call.IFlag c p from) n v keeps may free = absurd (some_not_none may.busy free)

@@ -167,7 +167,31 @@ module _ (t u : TableModel) (p q : PassModel) (same_table : t ≡ u) (same_pass 
       let same = ap (λ i. i.words) of_table in
       omega arith
 
-  -- what a step call owes that may begin an operation or answer one, by what its caller says of the table and the pass, which is shown of what its seat knows
+  -- what a step call asks of the slots, of what the seat of the pass knows
+  pub asks_there : (k : Known) → shown k.tree ≡ p.view → k.period.slot ≡ p.slot → k.period.sought ≡ p.sought → (c : Call) → MayInTable u.plan q c
+      → (s : Slots) → u.plan.slots ≡ Some s → MayInMemory s k.period.slot k.period.sought.retired (shown k.tree) c
+  asks_there k shows slotted sought c kept s some =
+      let is : q.view ≡ shown k.tree = ap (λ (m : PassModel). m.view) (sym same_pass) ∙ sym shows in
+      let taken : q.slot ≡ k.period.slot = ap (λ (m : PassModel). m.slot) (sym same_pass) ∙ sym slotted in
+      let seeks : q.sought ≡ k.period.sought = ap (λ (m : PassModel). m.sought) (sym same_pass) ∙ sym sought in
+      subst (λ v. MayInMemory s k.period.slot k.period.sought.retired v c) is
+      (subst (λ (r : Seek). MayInMemory s k.period.slot r.retired q.view c) seeks (subst (λ o. MayInMemory s o q.sought.retired q.view c) taken (kept s some)))
+
+  -- what a step call owes that the rule of its table allows, by what its caller says of the table and the pass
+  pub owed_by : (k : Known) (seat : ℕ) → k.period.slot ≡ p.slot → (held : List (ℕ × Unit {0})) (keys : List ℕ) (share : Share) (standing : Standing) (word : ℕ) (f : ℕ → ℕ)
+      (told : ℕ → Me (Unit {0}) Known → List (ℕ × Unit {0}) → Type 0) (c : Call) → t.id.slots ≡ 0 → held ≡ [] → PassFits keys share p.table.words p.view → PlaceFits standing p.table.words k.period
+      → word ≡ place_of c → May u.plan c q.view → MayInTable u.plan q c → ((id : ℕ) → Allows (IsWhole u.plan) 0 id (k, []) (place_of c) f (λ n x. told n x []))
+      → (p.table ≡ t.id) × (word < t.id.words) × Allows (IsWhole t.plan) t.id.slots seat (k, held) word f (λ n x. told n x held)
+  owed_by k seat slotted held keys share standing word f told c none empty fits placed at may kept step =
+      let rule : (id : ℕ) → Allows (IsWhole t.plan) 0 id (k, []) word f (λ n x. told n x []) =
+      subst (λ (i : ℕ). (id : ℕ) → Allows (IsWhole t.plan) 0 id (k, []) i f (λ n x. told n x [])) (sym at)
+      (subst (λ (m : TableModel). (id : ℕ) → Allows (IsWhole m.plan) 0 id (k, []) (place_of c) f (λ n x. told n x [])) (sym same_table) step) in (
+        of_table,
+        subst (λ i. i < t.id.words) (sym at) (inside_there keys share c fits may (fill_fits keys share standing k.period slotted fits placed c may kept)),
+        allowed t.plan t.id.slots seat (k, held) word f told none empty rule,
+      )
+
+  -- what one owes that may begin an operation or answer one, by a pass that is shown of what its seat knows
   pub owed_marked : (k : Known) → shown k.tree ≡ p.view → (seat : ℕ) → k.period.slot ≡ p.slot → k.period.sought ≡ p.sought → (held : List (ℕ × Unit {0})) (keys : List ℕ) (share : Share) (standing : Standing) (word : ℕ) (f : ℕ → ℕ)
       (told : ℕ → View → Type 0) (notes : ℕ → Period) (c : Call) → t.id.slots ≡ 0 → held ≡ [] → PassFits keys share p.table.words p.view → PlaceFits standing p.table.words k.period
       → StoresWord c → word ≡ place_of c → May u.plan c q.view → MayInTable u.plan q c → Does u.plan c f
@@ -177,19 +201,8 @@ module _ (t u : TableModel) (p q : PassModel) (same_table : t ≡ u) (same_pass 
       × Allows (IsWhole t.plan) t.id.slots seat (k, held) word f (λ n x. told n (shown x.0.tree) × (x.0.period ≡ notes n) × (x.1 ≡ held) × Marks c (shown k.tree) k.sight x.0.sight)
   owed_marked k shows seat slotted sought held keys share standing word f told notes c none empty fits placed stores at may kept does quiet same tells noted =
       let is : q.view ≡ shown k.tree = ap (λ (m : PassModel). m.view) (sym same_pass) ∙ sym shows in
-      let taken : q.slot ≡ k.period.slot = ap (λ (m : PassModel). m.slot) (sym same_pass) ∙ sym slotted in
-      let seeks : q.sought ≡ k.period.sought = ap (λ (m : PassModel). m.sought) (sym same_pass) ∙ sym sought in
-      let asks : (s : Slots) → u.plan.slots ≡ Some s → MayInMemory s k.period.slot k.period.sought.retired (shown k.tree) c =
-      λ s some. subst (λ v. MayInMemory s k.period.slot k.period.sought.retired v c) is
-      (subst (λ (r : Seek). MayInMemory s k.period.slot r.retired q.view c) seeks (subst (λ o. MayInMemory s o q.sought.retired q.view c) taken (kept s some))) in
-      let step = tree_step_marked u.plan k c f told notes stores (subst (May u.plan c) is may) asks (λ some. placed.lost) does quiet same (subst (λ v. MayTell u.plan c v told) is tells) noted in
-      let rule : (id : ℕ) → Allows (IsWhole t.plan) 0 id (k, []) word f (λ n x. told n (shown x.0.tree) × (x.0.period ≡ notes n) × (x.1 ≡ []) × Marks c (shown k.tree) k.sight x.0.sight) =
-      subst (λ (i : ℕ). (id : ℕ) → Allows (IsWhole t.plan) 0 id (k, []) i f (λ n x. told n (shown x.0.tree) × (x.0.period ≡ notes n) × (x.1 ≡ []) × Marks c (shown k.tree) k.sight x.0.sight)) (sym at)
-      (subst (λ (m : TableModel). (id : ℕ) → Allows (IsWhole m.plan) 0 id (k, []) (place_of c) f (λ n x. told n (shown x.0.tree) × (x.0.period ≡ notes n) × (x.1 ≡ []) × Marks c (shown k.tree) k.sight x.0.sight)) (sym same_table) step) in (
-        of_table,
-        subst (λ i. i < t.id.words) (sym at) (inside_there keys share c fits may (fill_fits keys share standing k.period slotted fits placed c may kept)),
-        allowed t.plan t.id.slots seat (k, held) word f (λ n x l. told n (shown x.0.tree) × (x.0.period ≡ notes n) × (x.1 ≡ l) × Marks c (shown k.tree) k.sight x.0.sight) none empty rule,
-      )
+      owed_by k seat slotted held keys share standing word f (λ n x l. told n (shown x.0.tree) × (x.0.period ≡ notes n) × (x.1 ≡ l) × Marks c (shown k.tree) k.sight x.0.sight) c none empty fits placed at may kept
+      (tree_step_marked u.plan k c f told notes stores (subst (May u.plan c) is may) (asks_there k shows slotted sought c kept) (λ some. placed.lost) does quiet same (subst (λ v. MayTell u.plan c v told) is tells) noted)
 
   -- what a step call owes that neither begins an operation nor answers one, by what its caller says of the table and the pass, which is shown of what its seat knows
   pub owed : (k : Known) → shown k.tree ≡ p.view → (seat : ℕ) → k.period.slot ≡ p.slot → k.period.sought ≡ p.sought → (held : List (ℕ × Unit {0})) (keys : List ℕ) (share : Share) (standing : Standing) (word : ℕ) (f : ℕ → ℕ)

@@ -47,7 +47,7 @@ answered_keys _ _ l = refl
 
 -- no step call changes which keys a pass owns
 pub keys_stay : (c : Call) (n : ℕ) (v : View) → ledger_keys (after c n v).worker.ledger ≡ ledger_keys v.worker.ledger
-keys_stay (call.Answer said) n v = answered_keys v.worker.operation said v.worker.ledger
+keys_stay (call.Answer said took) n v = answered_keys v.worker.operation said v.worker.ledger
 keys_stay (call.Claim c q) n v = ap ledger_keys (claim_ledger (n == c) c q v)
 keys_stay (call.IFlag c p from) n v = ap ledger_keys (flag_ledger (n == packed from) (IFlagged c) p (unpacked n) v)
 keys_stay (call.DFlag c gp from) n v = ap ledger_keys (flag_ledger (n == packed from) (DFlagged c) gp (unpacked n) v)

@@ -204,8 +204,8 @@ guards_are_lifted plan call.Leave v apart stores word may = record {
   may = record { op = may.op; busy = may.busy; backed = may.backed };
   fills = tt;
 }
-guards_are_lifted plan (call.Answer said) v apart stores word may =
-    record { origin = call.Answer said; is = refl; may = answer_whole plan v apart said may; fills = tt }
+guards_are_lifted plan (call.Answer said took) v apart stores word may =
+    record { origin = call.Answer said took; is = refl; may = answer_whole plan v apart said took may; fills = tt }
 guards_are_lifted plan (call.Upd x) v apart stores word may =
     let at = was_stood v.worker.search.node x may.stands in record {
       origin = call.Upd at.whole;

@@ -1,5 +1,5 @@
 -- A call that may be made by what is shown of what a pass knows is what is shown of one that may be made by that itself.
-use Rattle.std.proofs.Common.{◌≡◌, ℕ, ◌≤◌, ◌%◌, ◌==◌, map, Bool, true, false, Option, Some, None, List, [], ◌∷◌, refl, sym, ap, ◌∙◌, subst, inl, inr, eqb-true, eq-eqb, true≢false}
+use Rattle.std.proofs.Common.{◌≡◌, ℕ, ◌≤◌, ◌%◌, ◌==◌, map, Bool, true, false, Option, Some, None, IfSome, List, [], ◌∷◌, refl, sym, ap, ◌∙◌, subst, inl, inr, eqb-true, eq-eqb, true≢false}
 use Rattle.std.specs.Option.{option_map}
 use Rattle.std.proofs.lemmas.Option.{same_Some}
 use Rattle.ell_ops.specs.declared.op.Op.{Op}
@@ -18,7 +18,7 @@ use Rattle.ell_cards.specs.declared.view.Told.TheVariants.{Met, Key, Value}
 use Rattle.ell_cards.specs.declared.view.View.{View}
 use Rattle.ell_cards.specs.Apart.{cut_node, IsApart}
 use Rattle.ell_cards.specs.Models.{TablePlan, Has, latest, earlier, IsTold, HasCome, HasComeWhole, flat_from}
-use Rattle.ell_cards.specs.Guards.{TellsOf, CardIsOver, MayAnswer, KnowsWhere, MayLookDown, Wants, MayClaim, IsFilled}
+use Rattle.ell_cards.specs.Guards.{TellsOf, CardIsOver, MayAnswer, TakesBy, KnowsWhere, MayLookDown, Wants, MayClaim, IsFilled}
 use Rattle.ell_cards.specs.Shown.{shown_seen, shown_glance, shown_word, shown, StoresAreWhole, IsWholeFor}
 use Rattle.ell_cards.proofs.lemmas.shown.CutWords.{node_place}
 use Rattle.ell_cards.proofs.lemmas.shown.ShownTold.{was_key, was_value, was_info}
@@ -83,8 +83,29 @@ module _ (plan : TablePlan) (v : View) (apart : IsApart plan v) where
   over_whole (Delete k) c h = h
   over_whole (Swap k was value) c h = h
 
-  pub answer_whole : (said : Reply) → MayAnswer (shown v) said → MayAnswer v said
-  answer_whole said may = record {
+  -- what a delete took is what was told of the leaf of its card
+  takes_whole : (op : Op) (said : Reply) (value : ℕ) → TakesBy (shown v) op said value → TakesBy v op said value
+  takes_whole op said value t =
+      let leaf = was_info v.told t.card field.L t.leaf t.at_leaf in
+      let old = was_value v.told t.leaf value t.at_value in
+      let same = apart.met old.whole leaf.whole (apart.names.entries (Value old.whole value) old.has) (apart.names.leaf t.card leaf.whole t.holds leaf.has) (old.is ∙ sym leaf.is) in
+      record {
+        key = t.key;
+        card = t.card;
+        leaf = leaf.whole;
+        deletes = t.deletes;
+        says = t.says;
+        holds = t.holds;
+        at_leaf = leaf.has;
+        at_value = subst (λ x. IsTold v (Value x value)) same old.has;
+      }
+
+  taken_whole : (op : Op) (said : Reply) (took : Option ℕ) → IfSome took (TakesBy (shown v) op said) → IfSome took (TakesBy v op said)
+  taken_whole op said None h = h
+  taken_whole op said (Some value) h = takes_whole op said value h
+
+  pub answer_whole : (said : Reply) (took : Option ℕ) → MayAnswer (shown v) said took → MayAnswer v said took
+  answer_whole said took may = record {
     op = may.op;
     busy = may.busy;
     answers = elim may.answers [
@@ -108,6 +129,7 @@ module _ (plan : TablePlan) (v : View) (apart : IsApart plan v) where
         says = h.says;
       })
     ];
+    takes = taken_whole may.op said took may.takes;
   }
 
   pub where_whole : (c : ℕ) → KnowsWhere (shown v) c → KnowsWhere v c

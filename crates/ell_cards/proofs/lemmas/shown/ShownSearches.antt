@@ -21,11 +21,11 @@ use Rattle.ell_cards.specs.declared.view.View.{View}
 use Rattle.ell_cards.specs.Apart.{cut_node, IsApart}
 use Rattle.ell_cards.specs.Depths.{depth_told, met_at}
 use Rattle.ell_cards.specs.Models.{TablePlan, IsTold, StandsAt}
-use Rattle.ell_cards.specs.Changes.{counted, forgotten, way_now, in_the_way, read_in_way, first_in_way, was_hindered, tries_hindered, given_up, at_rest, answered_ledger, answered_so, with_answer, after_begin, after_again, after_leave, after_answer, after_upd, places_by, told_info, depth_there, knows_delete, is_this}
+use Rattle.ell_cards.specs.Changes.{counted, forgotten, way_now, in_the_way, read_in_way, first_in_way, was_hindered, tries_hindered, given_up, at_rest, answered_ledger, answered_so, after_begin, after_again, after_leave, after_answer, after_upd, places_by, told_info, depth_there, knows_delete, is_this}
 use Rattle.ell_cards.specs.Calls.{after}
 use Rattle.ell_cards.specs.Shown.{IsWord, cut_word, cut_field, shown_seen, shown_glance, shown_told, shown, FieldIsWhole}
 use Rattle.ell_cards.proofs.lemmas.shown.CutWords.{same_cut, cut_node_in, cut_tag_in, cut_same}
-use Rattle.ell_cards.proofs.lemmas.shown.ShownTold.{depth_shown, under_shown, taken_shown}
+use Rattle.ell_cards.proofs.lemmas.shown.ShownTold.{depth_shown, under_shown}
 use Rattle.ell_cards.proofs.lemmas.views.Depths.{grandparent_is}
 
 -- what a search has read in the way is shown as it is
@@ -66,13 +66,8 @@ pub leave_shown : (v : View) → shown (after_leave v) ≡ after_leave (shown v)
 leave_shown v =
     ap (λ w. counted (record (at_rest v.worker.ledger w) { laid_down = v.worker.operation })) (given_up_shown v)
 
-pub answer_shown : (plan : TablePlan) (said : Reply) (v : View) → IsApart plan v → shown (after_answer said v) ≡ after_answer said (shown v)
-answer_shown plan said v apart =
-    ap (λ took. counted (record (at_rest (answered_ledger v.worker.operation said v.worker.ledger) (shown v)) {
-      answered = answered_so v.worker.operation v.worker.card said took;
-      answers = with_answer v.worker.operation said took v.answers;
-    })) (sym (taken_shown v.worker.operation v.worker.card said v.told
-    (λ c leaf holds has y value told same. apart.met y leaf (apart.names.entries (Value y value) told) (apart.names.leaf c leaf holds has) same)))
+pub answer_shown : (said : Reply) (took : Option ℕ) (v : View) → shown (after_answer said took v) ≡ after_answer said took (shown v)
+answer_shown said took v = refl
 
 -- what an update tells of a node
 pub places_shown : (x : ℕ) (s : State) (c : ℕ) (told : List Told)

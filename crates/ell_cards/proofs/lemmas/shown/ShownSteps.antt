@@ -14,7 +14,7 @@ pub steps_are_shown : StepsAreShown
 steps_are_shown plan (call.Begin op) n v plain apart may can = refl
 steps_are_shown plan call.Again n v plain apart may can = again_shown v
 steps_are_shown plan call.Leave n v plain apart may can = leave_shown v
-steps_are_shown plan (call.Answer said) n v plain apart may can = answer_shown plan said v apart
+steps_are_shown plan (call.Answer said took) n v plain apart may can = answer_shown said took v
 steps_are_shown plan (call.Upd x) n v plain apart may can = upd_shown x n v can.whole
 steps_are_shown plan (call.Down x right) n v plain apart may can = down_shown plan x right n v apart may.stands
 steps_are_shown plan call.Next n v plain apart may can = next_shown n v can.whole

@@ -168,7 +168,7 @@ pub stores_stay_whole : StoresStayWhole
 stores_stay_whole plan (call.Begin op) n v apart may fills stores = λ f e. refl
 stores_stay_whole plan call.Again n v apart may fills stores = λ f e. refl
 stores_stay_whole plan call.Leave n v apart may fills stores = λ f e. refl
-stores_stay_whole plan (call.Answer said) n v apart may fills stores = λ f e. refl
+stores_stay_whole plan (call.Answer said took) n v apart may fills stores = λ f e. refl
 stores_stay_whole plan call.Rest n v apart may fills stores = λ f e. refl
 stores_stay_whole plan (call.Claim c node_key) n v apart may fills stores =
     claim_stays plan v apart c node_key (n == c) may.0 stores

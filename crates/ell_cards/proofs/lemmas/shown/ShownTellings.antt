@@ -54,10 +54,10 @@ node_shown last field.P n tells = ((let low = tells.0 in let less = node_within 
 node_shown last field.L n tells = in_table last n tells
 node_shown last _ n tells = tt
 
-answer_shown : (v : View) (said : Reply) (n : ℕ)
-    → AnswersAsMap (worker_of v.worker) (ledger_of (after (call.Answer said) n v).worker.ledger) said
-    → AnswersAsMap (worker_of (shown v).worker) (ledger_of (after (call.Answer said) (cut_word n) (shown v)).worker.ledger) said
-answer_shown v said n h = record {
+answer_shown : (v : View) (said : Reply) (took : Option ℕ) (n : ℕ)
+    → AnswersAsMap (worker_of v.worker) (ledger_of (after (call.Answer said took) n v).worker.ledger) said
+    → AnswersAsMap (worker_of (shown v).worker) (ledger_of (after (call.Answer said took) (cut_word n) (shown v)).worker.ledger) said
+answer_shown v said took n h = record {
   op = h.op;
   busy = h.busy;
   may = h.may;
@@ -82,7 +82,7 @@ card_shown : (last n : ℕ) → (unpacked n).card ≤ last → (unpacked (cut_wo
 card_shown last n tells = (let less = cut_within n in omega arith)
 
 pub tellings_are_shown : TellingsAreShown
-tellings_are_shown plan (call.Answer said) n v apart may whole later tells = (answer_shown v said n tells.0, tells.1)
+tellings_are_shown plan (call.Answer said took) n v apart may whole later tells = (answer_shown v said took n tells.0, tells.1)
 tellings_are_shown plan call.Leave n v apart may whole later tells = tells
 tellings_are_shown plan (call.Upd x) n v apart may whole later tells =
     subst (λ m. ((unpacked m).card ≤ plan.last_card) × EndWasUnknown v (unpacked m).state (unpacked m).card) (sym (cut_same n whole)) tells

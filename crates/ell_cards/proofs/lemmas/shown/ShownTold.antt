@@ -12,7 +12,7 @@ use Rattle.ell_cards.specs.declared.view.Told.TheVariants.{Met, Depth, Key, Valu
 use Rattle.ell_cards.specs.Apart.{cut_node}
 use Rattle.ell_cards.specs.Models.{Has, latest, earlier}
 use Rattle.ell_cards.specs.Depths.{depth_told, depth_below, depth_under, tells_grandparent_of}
-use Rattle.ell_cards.specs.Changes.{last_told, tells_leaf_of, tells_value_of, taken_by, told_value, value_told}
+use Rattle.ell_cards.specs.Changes.{told_value, value_told}
 use Rattle.ell_cards.specs.Shown.{cut_tag, shown_info, shown_told}
 use Rattle.ell_cards.proofs.lemmas.shown.CutWords.{node_place, same_cut}
 
@@ -200,103 +200,7 @@ under_shown c told (e ∷ es) apart =
     first : depth_below (map shown_told told) (tells_grandparent_of c (shown_told e)) ≡ depth_below told (tells_grandparent_of c e)
     first = ap (depth_below (map shown_told told)) (tells_above c e) ∙ below_shown told (tells_grandparent_of c e) (apart e (latest e es))
 
--- what entries told so the last time is shown of that, where each entry that is shown tells what is shown of what it tells
-pub last_shown : (tells tells' : Told → Option ℕ) (cut : ℕ → ℕ) (told : List Told)
-    → ((e : Told) → Has told e → tells' (shown_told e) ≡ option_map cut (tells e))
-    → last_told tells' (map shown_told told) ≡ option_map cut (last_told tells told)
-last_shown tells tells' cut [] same = refl
-last_shown tells tells' cut (e ∷ told) same =
-    (λ t. option_or (same e (latest e told) t) (last_shown tells tells' cut told (λ d has. same d (earlier d e told has)) t)) ∙ by (tells e)
-  where
-    by : (o : Option ℕ) → option_or (option_map cut o) (option_map cut (last_told tells told)) ≡ option_map cut (option_or o (last_told tells told))
-    by None = refl
-    by (Some x) = refl
-
-tells_leaf : (c : ℕ) (e : Told) → tells_leaf_of c (shown_told e) ≡ option_map cut_node (tells_leaf_of c e)
-tells_leaf c (Info d field.L x) = by (d == c)
-  where
-    by : (b : Bool) → (if b then Some (cut_node x) else None) ≡ option_map cut_node (if b then Some x else None)
-    by true = refl
-    by false = refl
-tells_leaf c (Info d field.Gp x) = refl
-tells_leaf c (Info d field.P x) = refl
-tells_leaf c (Info d field.Left x) = refl
-tells_leaf c (Info d field.Right x) = refl
-tells_leaf c (Info d field.Was x) = refl
-tells_leaf c (Info d field.Key x) = refl
-tells_leaf c (Info d field.Update x) = refl
-tells_leaf c (Info d field.LeftLeafKey x) = refl
-tells_leaf c (Info d field.RightLeafKey x) = refl
-tells_leaf c (Info d field.LeftValue x) = refl
-tells_leaf c (Info d field.RightValue x) = refl
-tells_leaf c (Met x) = refl
-tells_leaf c (Depth x n) = refl
-tells_leaf c (Key x n) = refl
-tells_leaf c (Value x n) = refl
-tells_leaf c (Expects d tag) = refl
-tells_leaf c (Frozen d right x) = refl
-
--- the value that an entry tells of a leaf stays
-abbrev value_stays : ℕ → ℕ
-value_stays x = x
-
-tells_value : (leaf : ℕ) (e : Told) → ((y value : ℕ) → e ≡ Value y value → cut_node y ≡ cut_node leaf → y ≡ leaf)
-    → tells_value_of (cut_node leaf) (shown_told e) ≡ option_map value_stays (tells_value_of leaf e)
-tells_value leaf (Value x value) apart = ap (λ b. if b then Some value else None) (same_cut x leaf (apart x value refl)) ∙ by (x == leaf)
-  where
-    by : (b : Bool) → (if b then Some value else None) ≡ option_map value_stays (if b then Some value else None)
-    by true = refl
-    by false = refl
-tells_value leaf (Met x) apart = refl
-tells_value leaf (Depth x n) apart = refl
-tells_value leaf (Key x n) apart = refl
-tells_value leaf (Info d f x) apart = refl
-tells_value leaf (Expects d tag) apart = refl
-tells_value leaf (Frozen d right x) apart = refl
-
-stays_so : (o : Option ℕ) → option_map value_stays o ≡ o
-stays_so None = refl
-stays_so (Some x) = refl
-
--- the leaf that entries told of a card the last time is one that one of them told
-last_leaf : (c : ℕ) (told : List Told) (leaf : ℕ) → last_told (tells_leaf_of c) told ≡ Some leaf → Has told (Info c field.L leaf)
-last_leaf c [] leaf is = absurd cc
-last_leaf c (e ∷ told) leaf is = by (tells_leaf_of c e) refl (last_leaf c told leaf)
-  where
-    told_leaf : (e : Told) (leaf : ℕ) → tells_leaf_of c e ≡ Some leaf → e ≡ Info c field.L leaf
-    told_leaf (Info d field.L x) leaf is = at (d == c) refl is
-      where
-        at : (b : Bool) → (d == c) ≡ b → (if b then Some x else None) ≡ Some leaf → Info d field.L x ≡ Info c field.L leaf
-        at true same is = (let card = eqb-true d c same in let node : x ≡ leaf = cc in λ t. Info (card t) field.L (node t))
-        at false other is = absurd cc
-    told_leaf _ leaf is = absurd cc
-
-    by : (o : Option ℕ) → tells_leaf_of c e ≡ o → (last_told (tells_leaf_of c) told ≡ Some leaf → Has told (Info c field.L leaf)) → Has (e ∷ told) (Info c field.L leaf)
-    by None none rest = earlier (Info c field.L leaf) e told (rest (sym (ap (λ p. option_or p (last_told (tells_leaf_of c) told)) none) ∙ is))
-    by (Some x) some rest =
-        let x_is : Some x ≡ Some leaf = sym (ap (λ p. option_or p (last_told (tells_leaf_of c) told)) some) ∙ is in
-        subst (λ d. Has (d ∷ told) (Info c field.L leaf)) (sym (told_leaf e leaf (some ∙ x_is))) (latest (Info c field.L leaf) told)
-
--- and what an operation took, where values were told of no other node that is cut to its card's leaf
-pub taken_shown : (op : Option Op) (card : Option ℕ) (said : Reply) (told : List Told)
-    → ((c leaf : ℕ) → card ≡ Some c → Has told (Info c field.L leaf) → (y value : ℕ) → Has told (Value y value) → cut_node y ≡ cut_node leaf → y ≡ leaf)
-    → taken_by op card said (map shown_told told) ≡ taken_by op card said told
-unfolding taken_by
-taken_shown (Some (Delete key)) (Some c) Yes told apart =
-    ap (option_and_then (λ leaf. last_told (tells_value_of leaf) (map shown_told told))) (last_shown (tells_leaf_of c) (tells_leaf_of c) cut_node told (λ e has. tells_leaf c e))
-    ∙ by (last_told (tells_leaf_of c) told) refl
-  where
-    by : (o : Option ℕ) → last_told (tells_leaf_of c) told ≡ o
-        → option_and_then (λ leaf. last_told (tells_value_of leaf) (map shown_told told)) (option_map cut_node o)
-        ≡ option_and_then (λ leaf. last_told (tells_value_of leaf) told) o
-    by None is = refl
-    by (Some leaf) is =
-        last_shown (tells_value_of leaf) (tells_value_of (cut_node leaf)) value_stays told
-        (λ e has. tells_value leaf e (λ y value same. apart c leaf refl (last_leaf c told leaf is) y value (subst (Has told) same has)))
-        ∙ stays_so (last_told (tells_value_of leaf) told)
-taken_shown _ _ _ told apart = refl
-
--- and the value of a leaf
+-- the value of a leaf
 told_value_shown : (told : List Told) (x : ℕ) → ((y value : ℕ) → Has told (Value y value) → cut_node y ≡ cut_node x → y ≡ x)
     → told_value (map shown_told told) (cut_node x) ≡ told_value told x
 told_value_shown [] x apart = refl

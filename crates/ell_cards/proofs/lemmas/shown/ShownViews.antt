@@ -16,7 +16,7 @@ use Rattle.ell_cards.specs.Models.{TablePlan, flat_from, IsTold, stored_at}
 use Rattle.ell_cards.specs.Depths.{deepest, IsShallow}
 use Rattle.ell_cards.specs.Naming.{InfoIsNamed, EntryIsNamed, EntryIsPlaced, SeenIsNamed, IsNamed, IsPlaced}
 use Rattle.ell_cards.specs.SlotWords.{slot_of}
-use Rattle.ell_cards.specs.Looking.{HasFound, HasFoundBetween, HasMissed, LacksBetween, TellsBetween, KeysAreFixed, ValuesAreFixed, ReadsItsOwn, MissesItsOwn}
+use Rattle.ell_cards.specs.Looking.{HasFound, HasFoundBetween, HasMissed, LacksBetween, TellsBetween, KeysAreFixed, ReadsItsOwn, MissesItsOwn}
 use Rattle.ell_cards.specs.Periods.{IsOfRoot, IsAtRest}
 use Rattle.ell_cards.specs.Shown.{shown_seen, shown_glance, shown_info, shown_told, shown, StoresAreWhole, HandoversAreShown}
 use Rattle.ell_cards.specs.ShownTakings.{TakingsAreShown}
@@ -111,23 +111,11 @@ placed_shown last v h = record {
 }
 
 module _ (plan : TablePlan) (v : View) (apart : IsApart plan v) where
-  -- keys and values that were told
+  -- keys that were told
   pub keys_shown : KeysAreFixed v → KeysAreFixed (shown v)
   keys_shown fixed node key other first second =
       let old = was_key v.told node key first in
       fixed old.whole key other old.has (met_key plan v apart old.whole node other old.is (apart.names.entries (Key old.whole key) old.has) second)
-
-  -- what was told of a leaf's node is cut
-  pub values_shown : ValuesAreFixed v → ValuesAreFixed (shown v)
-  values_shown fixed = record {
-    leaf = λ c leaf other first second.
-        (let old = was_info v.told c field.L leaf first in
-        let new = was_info v.told c field.L other second in
-        sym old.is ∙ (ap cut_node (fixed.leaf c old.whole new.whole old.has new.has) ∙ new.is));
-    value = λ leaf value other first second.
-        (let old = was_value v.told leaf value first in
-        fixed.value old.whole value other old.has (met_value plan v apart old.whole leaf other old.is (apart.names.entries (Value old.whole value) old.has) second));
-  }
 
   -- what a look has found, and what it has missed
   pub found_whole : (key : ℕ) (there : Option ℕ) → HasFound (shown v) key there → HasFound v key there
@@ -206,7 +194,6 @@ takings_are_shown plan c v n w plain apart later may can taken = record {
   own = reads_shown plan w later taken.own;
   missed = misses_shown plan w later taken.missed;
   fixed = keys_shown plan w later taken.fixed;
-  values = values_shown plan v apart taken.values;
   keys = taken.keys;
   share = record { share = taken.share.share; ownable = taken.share.ownable };
   named = named_shown _ w taken.named;

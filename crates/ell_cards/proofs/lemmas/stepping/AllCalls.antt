@@ -14,7 +14,7 @@ pub steps_are_events : StepsAreEvents
 steps_are_events plan s r id v (call.Begin op) here may = keeps_begin plan s r id v here op may
 steps_are_events plan s r id v call.Again here may = keeps_again plan s r id v here may
 steps_are_events plan s r id v call.Leave here may = keeps_leave plan s r id v here may
-steps_are_events plan s r id v (call.Answer said) here may = keeps_answer plan s r id v here said may
+steps_are_events plan s r id v (call.Answer said took) here may = keeps_answer plan s r id v here said took may
 steps_are_events plan s r id v (call.Upd x) here may = keeps_upd plan s r id v here x may
 steps_are_events plan s r id v (call.Down x right) here may = keeps_down plan s r id v here x right may
 steps_are_events plan s r id v call.Next here may = keeps_next plan s r id v here

@@ -170,9 +170,9 @@ module _ (plan : TablePlan) (s : TableState) (r : HasMachine plan s) (id : ℕ) 
   )
 
   -- answer
-  pub keeps_answer : (said : Reply) → MayAnswer v said → IsEvent plan s r id v (call.Answer said)
-  keeps_answer said may =
-      let after = after_answer said v in
+  pub keeps_answer : (said : Reply) (took : Option ℕ) → MayAnswer v said took → IsEvent plan s r id v (call.Answer said took)
+  keeps_answer said took may =
+      let after = after_answer said took v in
       let same = mine_is plan s r id v here in
       let sound = mine_sound plan s r id v here in
       let ledger : (key : ℕ) → ledger_of after.worker.ledger key ≡ ledger_after may.op said (ledger_of v.worker.ledger) key =
@@ -198,7 +198,7 @@ module _ (plan : TablePlan) (s : TableState) (r : HasMachine plan s) (id : ℕ) 
       let set_now : AnswersAsMap (worker_of v.worker) (ledger_of after.worker.ledger) said =
       subst (λ (l : Ledger). AnswersAsMap (worker_of v.worker) l said) now
       (subst (λ (u : Worker). AnswersAsMap u (seat_worker (get_elem? (set s.views id after) id)).ledger said) same told) in
-      is_event plan s r id v here (call.Answer said) act.Answer (Answered said) r.words
+      is_event plan s r id v here (call.Answer said took) act.Answer (Answered said) r.words
       (looks plan s r id v here act.Answer (Answered said) after happens (λ c. refl)
       (forgotten_holds r.words r.stages r.invariant.words)
       (bare r.words r.stages v after refl refl (λ k has none. has ((set_now.owned k).1 none)) refl (λ n at. at) refl (r.views id v here).knew (r.views id v here).knew

@@ -96,7 +96,7 @@ pub waited_before : (plan : TablePlan) (c : Call) (n : ℕ) (v : View) (d : ℕ)
 waited_before plan (call.Begin op) n v d h = none_waits (call.Begin op) n v (after (call.Begin op) n v) d refl h
 waited_before plan call.Again n v d h = none_waits call.Again n v (after call.Again n v) d refl h
 waited_before plan call.Leave n v d h = none_waits call.Leave n v (after call.Leave n v) d refl h
-waited_before plan (call.Answer said) n v d h = none_waits (call.Answer said) n v (after (call.Answer said) n v) d refl h
+waited_before plan (call.Answer said took) n v d h = none_waits (call.Answer said took) n v (after (call.Answer said took) n v) d refl h
 waited_before plan call.Rest n v d h = none_waits call.Rest n v (after call.Rest n v) d refl h
 waited_before plan (call.Claim e q) n v d h = claim_waits (n == e) e q n refl v (after (call.Claim e q) n v) d refl refl h
 waited_before plan (call.Fill c g value) n v d h = fill_waits c g value n v d h

@@ -116,7 +116,7 @@ spots call.Rest = inr (key_field 0, refl, refl, said_key 0, cut_key 0)
 spots (call.Begin op) = inr (key_field 0, refl, refl, said_key 0, cut_key 0)
 spots call.Again = inr (key_field 0, refl, refl, said_key 0, cut_key 0)
 spots call.Leave = inr (key_field 0, refl, refl, said_key 0, cut_key 0)
-spots (call.Answer said) = inr (key_field 0, refl, refl, said_key 0, cut_key 0)
+spots (call.Answer said took) = inr (key_field 0, refl, refl, said_key 0, cut_key 0)
 
 -- no field has the address of the claim word, nor of the one behind it
 pub no_claim : (c : ℕ) (f : Field) → address c f ≢ 0

@@ -170,8 +170,8 @@ module _ (plan : TablePlan) (s : WholeState) (h : IsWhole plan s) (id : ℕ) (k 
     pub made_after : (p : Period) (g : Sight) → Sees c g → AreMade (history_of (h.reached.turns ++ Makes id c ∷ [])) (set s.views id (noting p g))
     made_after p g is = subst (λ l. AreMade l (set s.views id (noting p g))) (sym next_history) (is.made (noting p g) refl)
 
-    pub silent_after : (p : Period) (g : Sight) → Sees c g → AreSilent (set s.views id (noting p g))
-    silent_after p g is = silent_set s.views id (noting p g) h.silent (is.silent (found_by h.tree c))
+    pub silent_after : (p : Period) (g : Sight) → Sees c g → AreSilent plan (set s.views id (noting p g))
+    silent_after p g is = silent_set plan s.views id (noting p g) h.silent (is.silent (found_by h.tree c))
 
     abbrev after : TableState
     after = state_after h.tree id k.tree c
@@ -472,7 +472,7 @@ asks_whole s slot r v (call.DFlag e gp from) asks = (asks.0, λ f said. was_stor
 asks_whole s slot r v (call.Claim e node_key) asks = asks
 asks_whole s slot r v call.Again asks = lets_go_whole s slot r v asks
 asks_whole s slot r v call.Leave asks = lets_go_whole s slot r v asks
-asks_whole s slot r v (call.Answer said) asks = lets_go_whole s slot r v asks
+asks_whole s slot r v (call.Answer said took) asks = lets_go_whole s slot r v asks
 asks_whole s slot r v _ asks = tt
 
 -- begins nothing that the call does not begin
@@ -538,13 +538,14 @@ module _ (plan : TablePlan) (k : Known) (c : Call) (f : ℕ → ℕ) (told : ℕ
     (mem : (s : Slots) → plan.slots ≡ Some s → MayInMemory s k.period.slot k.period.sought.retired (shown k.tree) c) (unlost : plan.slots ≢ None → k.period.lost ≡ None) (does : Does plan c f)
     (quiet : plan.slots ≢ None → k.period.announced ≡ None → IsQuiet c) (same : IsFill c → (n m : ℕ) (w : View) → told n w → told m w)
     (tells : MayTell plan c (shown k.tree) told) (noted : (n : ℕ) → IsWord n → Notes plan.slots c n k.period (notes n)) (id : ℕ) (s : WholeState) (h : IsWhole plan s) (here : get_elem? s.views id ≡ some k) (small : IsWord (get_or s.words (place_of c) 0))
-    (marks : Sight → Type 0) (see : Call → Sight) (sees : (d : Call) → May plan d k.tree → shown_call d ≡ c → Sees plan s h id k here d (see d)) (marked_by : (d : Call) → May plan d k.tree → shown_call d ≡ c → marks (see d)) where
+    (marks : View → Sight → Type 0) (see : Call → Sight) (sees : (d : Call) → May plan d k.tree → shown_call d ≡ c → Sees plan s h id k here d (see d))
+    (marked_by : (d : Call) → May plan d k.tree → shown_call d ≡ c → IsApart plan (view_after h.tree k.tree d) → marks (view_after h.tree k.tree d) (see d)) where
   abbrev n : ℕ
   n = get_or s.words (place_of c) 0
 
   abbrev Goes : Type 0
   Goes = (w : Known) × (a : Act (Unit {0})) × Valid s.homes [] a × IsWhole plan (stepped s (place_of c) (f n) id [] w a)
-      × (told n (shown w.tree) × (w.period ≡ notes n) × (carried_after {S = Unit {0}} [] a ≡ []) × marks w.sight)
+      × (told n (shown w.tree) × (w.period ≡ notes n) × (carried_after {S = Unit {0}} [] a ≡ []) × marks w.tree w.sight)
 
   there : get_elem? h.tree.views id ≡ some k.tree
   there = tree_here plan s h id k here
@@ -577,7 +578,7 @@ module _ (plan : TablePlan) (k : Known) (c : Call) (f : ℕ → ℕ) (told : ℕ
               (plain_apart plan s h id k here c own.may own.fills none)),
           refl,
           refl,
-          marked_by c own.may own.same,
+          marked_by c own.may own.same (plain_apart plan s h id k here c own.may own.fills none),
         ),
       )
 
@@ -615,7 +616,7 @@ module _ (plan : TablePlan) (k : Known) (c : Call) (f : ℕ → ℕ) (told : ℕ
               (tied_apart plan s h id k here whole lift.may lift.fills sl placed asks (unlost some) fills calm))),
           refl,
           refl,
-          marked_by whole lift.may lift.is,
+          marked_by whole lift.may lift.is (tied_apart plan s h id k here whole lift.may lift.fills sl placed asks (unlost some) fills calm),
         ),
       )
 
@@ -631,9 +632,9 @@ pub tree_step_marked : (plan : TablePlan) (k : Known) (c : Call) (f : ℕ → �
     → (id : ℕ) → Allows (IsWhole plan) 0 id (k, []) (place_of c) f (λ n x. told n (shown x.0.tree) × (x.0.period ≡ notes n) × (x.1 ≡ []) × Marks c (shown k.tree) k.sight x.0.sight)
 tree_step_marked plan k c f told notes word by_shown mem unlost does quiet same tells noted id s h homes here small =
     goes_by plan k c f told notes word by_shown mem unlost does quiet same tells noted id s h here small
-    (Marks c (shown k.tree) k.sight) (λ d. marked d id (history_of h.reached.turns) k.sight)
+    (λ v g. Marks c (shown k.tree) k.sight g) (λ d. marked d id (history_of h.reached.turns) k.sight)
     (λ d may is. marked_so plan s h id k here d may)
-    (λ d may is. subst (λ e. Marks e (shown k.tree) k.sight (marked d id (history_of h.reached.turns) k.sight)) is
+    (λ d may is apart. subst (λ e. Marks e (shown k.tree) k.sight (marked d id (history_of h.reached.turns) k.sight)) is
     (marks_shown d k.tree k.sight (marked d id (history_of h.reached.turns) k.sight) (marks_now plan h.tree h.reached id k.tree (tree_here plan s h id k here) d k.sight (h.seen id k here))))
     plan.slots refl
 
@@ -650,12 +651,14 @@ tree_step plan k c f told notes word by_shown mem unlost does quiet same tells n
 -- stores and exchanges do neither
 pub store_calm : (c : Call) (value : ℕ) → atomic_of c ≡ Store value → IsCalm c
 store_calm (call.Begin op) value is = absurd cc
-store_calm (call.Answer said) value is = absurd cc
+store_calm (call.Answer said took) value is = absurd cc
+store_calm call.Look value is = absurd cc
 store_calm _ value is = tt
 
 pub exchange_calm : (c : Call) (expected value : ℕ) → atomic_of c ≡ Exchange expected value → IsCalm c
 exchange_calm (call.Begin op) expected value is = absurd cc
-exchange_calm (call.Answer said) expected value is = absurd cc
+exchange_calm (call.Answer said took) expected value is = absurd cc
+exchange_calm call.Look expected value is = absurd cc
 exchange_calm _ expected value is = tt
 
 -- what a load, a store and an exchange do

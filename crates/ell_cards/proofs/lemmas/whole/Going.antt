@@ -218,7 +218,7 @@ module _ (plan : TablePlan) (s : Slots) (placed : plan.slots ≡ Some s) where
           reached = h.reached;
           seen = all_set (history_of h.reached.turns) t.views id now h.seen (h.seen id k here);
           made = made_set (history_of h.reached.turns) t.views id k now here (λ a has. has) h.made;
-          silent = silent_set t.views id now h.silent (h.silent id k here);
+          silent = silent_set plan t.views id now h.silent (h.silent id k here);
           apart = apart_set t.views id k now here h.apart (h.apart.each id k here) (λ a has. inl has);
           views = map-set (λ (l : Known). l.tree) t.views id now ∙ (set_again (trees_of t.views) id k.tree (tree_at t.views id k here) ∙ h.views);
           homes = h.homes;

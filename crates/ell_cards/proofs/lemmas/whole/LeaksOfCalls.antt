@@ -159,7 +159,7 @@ killer_in_hand plan s m c x un (inr (on, (ended, why))) = absurd (false≢true (
 abbrev pub LetsCardGo : Call → Type 0
 LetsCardGo call.Again = Unit {0}
 LetsCardGo call.Leave = Unit {0}
-LetsCardGo (call.Answer said) = Unit {0}
+LetsCardGo (call.Answer said took) = Unit {0}
 LetsCardGo _ = ⊥
 
 mark_keeps : (b : Bool) (d x : ℕ) (u : Update) (v w : View) → w.worker ≡ (after_mark b d x u v).worker → (c : ℕ) → HasFlagged v c → HasFlagged w c
@@ -204,7 +204,7 @@ module _ (plan : TablePlan) (s : TableState) (m : HasMachine plan s) (seat : ℕ
   keeps_flagged call.Rest n may d h = absurd (free_no_card d may h.holds)
   keeps_flagged call.Again n may d h = inr tt
   keeps_flagged call.Leave n may d h = inr tt
-  keeps_flagged (call.Answer said) n may d h = inr tt
+  keeps_flagged (call.Answer said took) n may d h = inr tt
   keeps_flagged (call.Claim e q) n may d h = absurd (false≢true (sym (laid_aside (flat_from plan) v.worker d may.0.ready h.holds).1 ∙ h.flagged))
   keeps_flagged (call.IFlag e p from) n may d h = absurd (false≢true (sym may.may.unflagged ∙ h.flagged))
   keeps_flagged (call.DFlag e gp from) n may d h = absurd (false≢true (sym may.may.unflagged ∙ h.flagged))
@@ -219,7 +219,7 @@ module _ (plan : TablePlan) (s : TableState) (m : HasMachine plan s) (seat : ℕ
   waiting_goes sl slot r call.Rest n may mem d h at = absurd (free_no_card d may h.0)
   waiting_goes sl slot r call.Again n may mem d h at = absurd (mem.waiting d h at)
   waiting_goes sl slot r call.Leave n may mem d h at = absurd (mem.waiting d h at)
-  waiting_goes sl slot r (call.Answer said) n may mem d h at = absurd (mem.waiting d h at)
+  waiting_goes sl slot r (call.Answer said took) n may mem d h at = absurd (mem.waiting d h at)
   waiting_goes sl slot r (call.Claim e q) n may mem d h at = absurd (mem d h at)
   waiting_goes sl slot r (call.IFlag e p from) n may mem d h at = inr (same_Some d e (sym h.0 ∙ may.may.holds))
   waiting_goes sl slot r (call.DFlag e gp from) n may mem d h at = inr (same_Some d e (sym h.0 ∙ may.may.holds))
@@ -271,7 +271,7 @@ free_after (call.Mark e p was) n v begun free = mark_free (n == was) e p (unpack
 free_after (call.Claim e node) n v begun free = claim_free (n == e) e node v free
 free_after call.Leave n v begun free = refl
 free_after call.Rest n v begun free = refl
-free_after (call.Answer said) n v begun free = refl
+free_after (call.Answer said took) n v begun free = refl
 free_after _ n v begun free = free
 
 -- a pass that is to flag a card has it in hand
@@ -322,7 +322,7 @@ retired_ended plan s m seat v there sl r c (backed knows own) = backed-ended (m.
 lets_go : (sl : Slots) (slot : Option ℕ) (r : Retired) (v : View) (c : Call) → LetsCardGo c → MayInMemory sl slot r v c → MayLetGo sl slot r v
 lets_go sl slot r v call.Again go mem = mem
 lets_go sl slot r v call.Leave go mem = mem
-lets_go sl slot r v (call.Answer said) go mem = mem
+lets_go sl slot r v (call.Answer said took) go mem = mem
 lets_go sl slot r v _ go mem = absurd go
 
 module _ (plan : TablePlan) (flat : plan.flat ≡ true) (sl : Slots) (tree : TableState) (t : WholeState) (id : ℕ) (k : Known) (here : get_elem? t.views id ≡ some k) (there : get_elem? tree.views id ≡ some k.tree)

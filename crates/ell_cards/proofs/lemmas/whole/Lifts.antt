@@ -231,7 +231,7 @@ module _ (plan : TablePlan) (v : View) (last : ℕ) (few : last ≤ greatest_car
   plan_fits all (call.Begin op) n may fits = nothing_fits
   plan_fits all call.Again n may fits = nothing_fits
   plan_fits all call.Leave n may fits = nothing_fits
-  plan_fits all (call.Answer said) n may fits = nothing_fits
+  plan_fits all (call.Answer said took) n may fits = nothing_fits
   plan_fits all call.Rest n may fits = nothing_fits
   plan_fits all (call.Claim c node_key) n may fits = claim_fits (flat_from plan) c node_key (n == c) may.0 (let low = may.1 in omega (arith, low, all)) fits
   plan_fits all (call.IFlag c p from) n may fits = flag_fits (n == packed from) (fact.IFlagged c) p (unpacked n) fits

@@ -20,7 +20,8 @@ use Rattle.ell_core.proofs.lemmas.outcomes.Decide.{some_not_none}
 use Rattle.ell_cards.specs.Histories.{history_of}
 use Rattle.ell_cards.specs.Seeing.{HasSeen, AllHaveSeen, AreMade}
 use Rattle.ell_cards.specs.Sights.{given_sight}
-use Rattle.ell_cards.proofs.lemmas.whole.Seeing.{silent_set, silent_snoc, both_none, has_none, has_left, has_right, has_either, made_quiet, made_set, made_snoc, made_joined, history_snoc, all_on, all_set, all_snoc, seen_on, longer_part}
+use Rattle.ell_cards.proofs.lemmas.runs.Spent.{neither}
+use Rattle.ell_cards.proofs.lemmas.whole.Seeing.{silent_set, silent_snoc, has_none, has_left, has_right, has_either, made_quiet, made_set, made_snoc, made_joined, history_snoc, all_on, all_set, all_snoc, seen_on, longer_part}
 use Rattle.ell_cards.specs.Starts.{SlotsFit}
 use Rattle.ell_cards.specs.Turns.{TableTurns, Splits as SplitsInto, Joins as JoinsWith, state_split, state_joined}
 use Rattle.ell_cards.proofs.lemmas.ties.Handovers.{split_goes, split_held, join_goes, join_held}
@@ -66,10 +67,10 @@ whole_splits plan k keys quiet may id s h here =
       reached = reached_on plan h.tree h.reached (SplitsInto id keys) tree turn;
       seen = subst (λ l. AllHaveSeen l (set s.views id l' ++ r ∷ [])) (sym (history_snoc h.reached.turns (SplitsInto id keys)))
           (all_snoc past (set s.views id l') r (all_set past s.views id l' (all_on (history_of h.reached.turns) (Quiet ∷ []) s.views h.seen) mine)
-          (λ seat. record { part = mine.part; began = λ b at. absurd (some_not_none at refl); mine = λ a has. absurd (has_none a has) }));
+          (λ seat. record { part = mine.part; began = λ b at. absurd (some_not_none at refl); looks = λ n at. absurd (some_not_none at refl); mine = λ a has. absurd (has_none a has) }));
       made = subst (λ v. AreMade v (set s.views id l' ++ r ∷ [])) (sym (history_snoc h.reached.turns (SplitsInto id keys)))
           (made_snoc past (set s.views id l') r (made_quiet (history_of h.reached.turns) (set s.views id l') (made_set (history_of h.reached.turns) s.views id k l' here (λ a has. has) h.made)));
-      silent = silent_snoc (set s.views id l') r (silent_set s.views id l' h.silent (λ none. h.silent id k here none)) (λ none. refl);
+      silent = silent_snoc plan (set s.views id l') r (silent_set plan s.views id l' h.silent (λ spent. h.silent id k here spent)) (λ spent. refl);
       apart = apart_snoc (set s.views id l') r (apart_set s.views id k l' here h.apart (h.apart.each id k here) (λ a has. inl has)) refl;
       views = trees_more (set s.views id l') r ∙ (ap (λ v. v ++ (right_view keys k.tree) ∷ []) (map-set (λ (x : Known). x.tree) s.views id l') ∙ ap (λ v. set v id (left_view keys k.tree) ++ (right_view keys k.tree) ∷ []) h.views);
       homes = h.homes;
@@ -142,17 +143,18 @@ whole_joins plan k l free other_free unlost id other s h here aside there =
           (record {
             part = longer_part past k.sight.seen l.sight.seen mine.part its.part;
             began = mine.began;
+            looks = mine.looks;
             mine = λ a has. elim (has_either k.sight.mine l.sight.mine a has) [
               | inl one ↦ mine.mine a one
               | inr one ↦ its.mine a one
             ];
           }))
-          (record { part = (past, refl); began = λ b at. absurd (some_not_none at refl); mine = λ a has. absurd (has_none a has) }));
+          (record { part = (past, refl); began = λ b at. absurd (some_not_none at refl); looks = λ n at. absurd (some_not_none at refl); mine = λ a has. absurd (has_none a has) }));
       made = subst (λ v. AreMade v (set (set s.views id (joined_known k l)) other spent_known)) (sym (history_snoc h.reached.turns (JoinsWith id other)))
           (made_quiet (history_of h.reached.turns) (set (set s.views id (joined_known k l)) other spent_known)
           (made_joined (history_of h.reached.turns) s.views id other k l (joined_known k l) spent_known here theirs aside (λ a has. has_left k.sight.mine l.sight.mine a has) (λ a has. has_right k.sight.mine l.sight.mine a has) h.made));
-      silent = silent_set (set s.views id (joined_known k l)) other spent_known
-          (silent_set s.views id (joined_known k l) h.silent (λ none. (let two = both_none k.tree.answers l.tree.answers none in ap₂ (λ a b. a ++ b) (h.silent id k here two.0) (h.silent other l theirs two.1)))) (λ none. refl);
+      silent = silent_set plan (set s.views id (joined_known k l)) other spent_known
+          (silent_set plan s.views id (joined_known k l) h.silent (λ spent. (let both = neither k.tree.worker.shared l.tree.worker.shared spent.1 in ap₂ (λ a b. a ++ b) (h.silent id k here (spent.0, both.0)) (h.silent other l theirs (spent.0, both.1))))) (λ spent. refl);
       apart = apart_joined s.views id other k l (joined_known k l) spent_known here theirs aside refl refl h.apart;
       views = map-set (λ (x : Known). x.tree) (set s.views id (joined_known k l)) other spent_known
           ∙ (ap (λ v. set v other spent_view) (map-set (λ (x : Known). x.tree) s.views id (joined_known k l))

@@ -62,7 +62,7 @@ module _ (v : View) (rest : IsAtRest v) where
   stays_at_rest plan call.Look n quiet may = absurd quiet
   stays_at_rest plan call.Again n quiet may = absurd (some_not_none may.busy rest.free)
   stays_at_rest plan call.Leave n quiet may = is_at_rest _ refl refl refl refl refl
-  stays_at_rest plan (call.Answer said) n quiet may = is_at_rest _ refl refl refl refl refl
+  stays_at_rest plan (call.Answer said took) n quiet may = is_at_rest _ refl refl refl refl refl
   stays_at_rest plan (call.Upd x) n quiet may = absurd (some_not_none may.stands rest.nowhere)
   stays_at_rest plan (call.Down x right) n quiet may = absurd (some_not_none may.busy rest.free)
   stays_at_rest plan call.Next n quiet may = told_same _ refl rest.free rest.nowhere rest.empty rest.nothing

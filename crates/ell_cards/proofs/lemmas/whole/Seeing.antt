@@ -1,5 +1,5 @@
 -- What passes have seen of the history stays a beginning of it.
-use Rattle.std.proofs.Common.{◌≡◌, ◌≢◌, ℕ, zero, suc, ◌+◌, ◌<◌, ne_eqb, eq-eqb, option_map, ◌≤◌, Bool, true, false, Some, None, List, [], ◌∷◌, ◌++◌, length, set, take, if◌then◌else◌, nat_le, inl, inr, ◌⊎◌, refl, sym, ap, ◌∙◌, subst, arith, append-nil}
+use Rattle.std.proofs.Common.{◌≡◌, ◌≢◌, ℕ, zero, suc, ◌+◌, ◌<◌, ne_eqb, eq-eqb, option_map, ◌≤◌, Bool, true, false, Some, None, Option, List, [], ◌∷◌, ◌++◌, length, set, take, if◌then◌else◌, nat_le, inl, inr, ◌⊎◌, refl, sym, ap, ◌∙◌, subst, arith, append-nil}
 use Rattle.std.proofs.lemmas.List.{append_assoc}
 use Rattle.std.proofs.lemmas.Bool.{cases_eq, cases_lt}
 use Rattle.std.proofs.lemmas.Option.{same_Some}
@@ -8,32 +8,36 @@ use lib.ListN.{get_elem?}
 use Rattle.atomic_table.proofs.Lists.{at_set, at_snoc, at_map, set_else}
 use Rattle.ell_ops.specs.declared.op.Op.{Op}
 use Rattle.ell_ops.specs.declared.reply.Reply.{Reply}
+use Rattle.ell_core.proofs.lemmas.outcomes.Decide.{some_not_none}
 use Rattle.ell_cards.specs.declared.call.Call.{Call}
 use Rattle.ell_cards.specs.declared.call.Call.TheVariants as call
 use Rattle.ell_cards.specs.declared.view.Act.{Act}
 use Rattle.ell_cards.specs.declared.view.Event.{Event}
-use Rattle.ell_cards.specs.declared.view.Event.TheVariants.{Begins, Ends, Quiet}
+use Rattle.ell_cards.specs.declared.view.Event.TheVariants.{Begins, Ends, Looks, Quiet}
 use Rattle.ell_cards.specs.declared.view.Known.{Known}
 use Rattle.ell_cards.specs.declared.view.Sight.{Sight}
 use Rattle.ell_cards.specs.declared.view.View.{View}
 use Rattle.ell_ops.specs.Contents.{contents_of}
 use Rattle.ell_cards.specs.Histories.{IsCall, IsLinearizable, event_of, history_of}
 use Rattle.ell_cards.specs.Linearizing.{IsAnswered, KeepsOnBetween}
-use Rattle.ell_cards.specs.Models.{TablePlan, Does, Has, latest, earlier}
+use Rattle.ell_cards.specs.Models.{TablePlan, Does, Has, IsFree, latest, earlier}
 use Rattle.ell_cards.specs.Calls.{May, after}
-use Rattle.ell_cards.specs.Changes.{deed_taking, taken_by, with_answer}
+use Rattle.ell_cards.specs.Changing.{HasMap}
+use Rattle.ell_cards.specs.Linearizing.{ops_of}
+use Rattle.ell_cards.specs.TurnEffects.{own_words}
+use Rattle.ell_ops.specs.Meaning.{final}
 use Rattle.ell_cards.specs.Whole.{trees_of}
-use Rattle.ell_cards.proofs.lemmas.runs.Spent.{IsAllThere, all_there, answers_stay}
-use Rattle.ell_cards.proofs.lemmas.runs.Accounts.{ended_only, lin}
+use Rattle.ell_cards.proofs.lemmas.runs.Spent.{IsAllThere, all_there}
+use Rattle.ell_cards.proofs.lemmas.seats.Taken.{owned_stays}
 use Rattle.ell_cards.proofs.lemmas.seats.Seats.{set_there}
 use Rattle.std.specs.Option.{option_or}
-use Rattle.ell_cards.specs.Seeing.{BeganAt, HasSeen, AllHaveSeen, IsMadeBy, AreMade, AreAllApart, AreSilent, HasSeenAll, begin_in, last_begin, with_act, marked, SeesEnd, Marks, IsCalm}
+use Rattle.ell_cards.specs.Seeing.{BeganAt, HasSeen, AllHaveSeen, IsMadeBy, AreMade, AreAllApart, AreSilent, IsSpentIn, HasSeenAll, begin_in, last_begin, with_act, marked, SeesEnd, Marks, IsCalm}
 use Rattle.ell_cards.specs.Shown.{shown, shown_call}
 use Rattle.ell_cards.specs.Sights.{IsPart, longer}
 use Rattle.ell_cards.specs.Starts.{IsReached}
 use Rattle.ell_cards.specs.States.{TableState}
 use Rattle.ell_cards.specs.Turns.{Turn, Makes}
-use Rattle.ell_cards.proofs.lemmas.runs.Histories.{linear_of, call_of, begin_at, histories_are_linearizable}
+use Rattle.ell_cards.proofs.lemmas.runs.Histories.{ended_only, lin, linear_of, call_of, begin_at, histories_are_linearizable}
 use Rattle.ell_cards.proofs.lemmas.runs.LinearizingAnswers.{behind}
 use Rattle.ell_cards.proofs.lemmas.runs.LinearizingPoints.{begun_of}
 use Rattle.ell_cards.proofs.lemmas.runs.LinearizingStates.{at_end, state_at, run_to}
@@ -64,17 +68,17 @@ ahead_of (x ∷ xs) b zero less = refl
 ahead_of (x ∷ xs) b (suc n) less = ahead_of xs b n (omega arith)
 
 -- a call stays one, and was one if it had ended
-pub call_more : (h more : List Event) (begin end : ℕ) (op : Op) (said : Reply) → IsCall h begin end op said → IsCall (h ++ more) begin end op said
-call_more h more begin end op said c = record {
+pub call_more : (h more : List Event) (begin end : ℕ) (op : Op) (said : Reply) (took : Option ℕ) → IsCall h begin end op said took → IsCall (h ++ more) begin end op said took
+call_more h more begin end op said took c = record {
   seat = c.seat;
   begins = at_more h more begin (Begins c.seat op) c.begins;
   later = c.later;
-  none = λ k o low high e. c.none k o low high (sym (ahead_of h more k (let less = at_inside h end (Ends c.seat said) c.ends in omega arith)) ∙ e);
-  ends = at_more h more end (Ends c.seat said) c.ends;
+  none = λ k o low high e. c.none k o low high (sym (ahead_of h more k (let less = at_inside h end (Ends c.seat said took) c.ends in omega arith)) ∙ e);
+  ends = at_more h more end (Ends c.seat said took) c.ends;
 }
 
-call_less : (h more : List Event) (begin end : ℕ) (op : Op) (said : Reply) → end < length h → IsCall (h ++ more) begin end op said → IsCall h begin end op said
-call_less h more begin end op said less c = record {
+call_less : (h more : List Event) (begin end : ℕ) (op : Op) (said : Reply) (took : Option ℕ) → end < length h → IsCall (h ++ more) begin end op said took → IsCall h begin end op said took
+call_less h more begin end op said took less c = record {
   seat = c.seat;
   begins = sym (ahead_of h more begin (let later = c.later in omega arith)) ∙ c.begins;
   later = c.later;
@@ -89,7 +93,8 @@ pub seen_on : (h more : List Event) (seat : ℕ) (g : Sight) → HasSeen h seat 
 seen_on h more seat g is = record {
   part = part_on g.seen h more is.part;
   began = λ b at. (let was = is.began b at in (was.0, at_more h more b (Begins seat was.0) was.1));
-  mine = λ a has. call_more h more a.begin a.end a.op a.said (is.mine a has);
+  looks = λ n at. at_more h more n (Looks seat) (is.looks n at);
+  mine = λ a has. call_more h more a.begin a.end a.op a.said a.took (is.mine a has);
 }
 
 pub all_on : (h more : List Event) (views : List Known) → AllHaveSeen h views → AllHaveSeen (h ++ more) views
@@ -121,13 +126,14 @@ whole_part h = ([], sym (append-nil h))
 -- what a pass has seen after a step call goes by what is shown
 pub marks_shown : (c : Call) (v : View) (old new : Sight) → Marks c v old new → Marks (shown_call c) (shown v) old new
 marks_shown (call.Begin op) v old new m = m
-marks_shown (call.Answer said) v old new m = λ op does. m op does
+marks_shown (call.Answer said took) v old new m = λ op does. m op does
 marks_shown _ v old new m = m
 
 -- a call that neither begins nor answers leaves it
 pub calm_marks : (c : Call) → IsCalm c → (v : View) (old new : Sight) → Marks c v old new → new ≡ old
 calm_marks (call.Begin op) calm v old new m = absurd calm
-calm_marks (call.Answer said) calm v old new m = absurd calm
+calm_marks (call.Answer said took) calm v old new m = absurd calm
+calm_marks call.Look calm v old new m = absurd calm
 calm_marks _ calm v old new m = m
 
 -- lists of calls
@@ -158,7 +164,8 @@ has_either (x ∷ xs) ys a (earlier _ _ _ h) = elim (has_either xs ys a h) [
 -- where a pass began last
 no_begin : (seat : ℕ) (e : Event) → ((o : Op) → e ≢ Begins seat o) → begin_in seat e ≡ None
 no_begin seat (Begins s op) none = ap (λ b. if b then Some (0, op) else None) (ne_eqb s seat (λ same. none op (ap (λ x. Begins x op) same)))
-no_begin seat (Ends s said) none = refl
+no_begin seat (Ends s said took) none = refl
+no_begin seat (Looks s) none = refl
 no_begin seat Quiet none = refl
 
 none_begins : (seat : ℕ) (h : List Event) → ((k : ℕ) (o : Op) → get_elem? h k ≡ some (Begins seat o) → ⊥) → last_begin seat h ≡ None
@@ -178,27 +185,26 @@ last_is seat (e ∷ es) (suc b) op at none =
 
 -- calls that were answered by passes
 pub made_set : (h : List Event) (views : List Known) (id : ℕ) (k now : Known) → get_elem? views id ≡ some k → ((a : Act) → Has k.sight.mine a → Has now.sight.mine a) → AreMade h views → AreMade h (set views id now)
-made_set h views id k now here more all begin end op said c =
-    let m = all begin end op said c in
+made_set h views id k now here more all a c =
+    let m = all a c in
     elim (cases_eq m.seat id) [
       | inl same ↦ record {
         seat = id;
         knows = now;
         there = set_there views id now k here;
-        has = more _ (subst (λ (x : Known). Has x.sight.mine (record { begin = begin; end = end; op = op; said = said })) (some-injective m.knows k (sym m.there ∙ (ap (get_elem? views) same ∙ here))) m.has);
+        has = more a (subst (λ (x : Known). Has x.sight.mine a) (some-injective m.knows k (sym m.there ∙ (ap (get_elem? views) same ∙ here))) m.has);
       }
       | inr other ↦ record { seat = m.seat; knows = m.knows; there = set_else views id m.seat now other ∙ m.there; has = m.has }
     ]
 
 pub made_snoc : (h : List Event) (views : List Known) (k : Known) → AreMade h views → AreMade h (views ++ k ∷ [])
-made_snoc h views k all begin end op said c =
-    let m = all begin end op said c in record { seat = m.seat; knows = m.knows; there = at_more views (k ∷ []) m.seat m.knows m.there; has = m.has }
+made_snoc h views k all a c =
+    let m = all a c in record { seat = m.seat; knows = m.knows; there = at_more views (k ∷ []) m.seat m.knows m.there; has = m.has }
 
 pub made_joined : (h : List Event) (views : List Known) (id other : ℕ) (k l both spent : Known) → get_elem? views id ≡ some k → get_elem? views other ≡ some l → other ≢ id
     → ((a : Act) → Has k.sight.mine a → Has both.sight.mine a) → ((a : Act) → Has l.sight.mine a → Has both.sight.mine a) → AreMade h views → AreMade h (set (set views id both) other spent)
-made_joined h views id other k l both spent here there aside left right all begin end op said c =
-    let m = all begin end op said c in
-    let a : Act = record { begin = begin; end = end; op = op; said = said } in
+made_joined h views id other k l both spent here there aside left right all a c =
+    let m = all a c in
     let now : get_elem? (set (set views id both) other spent) id ≡ some both = set_else (set views id both) other id spent (λ e. aside (sym e)) ∙ set_there views id both k here in
     elim (cases_eq m.seat id) [
       | inl same ↦ record {
@@ -220,96 +226,94 @@ made_joined h views id other k l both spent here there aside left right all begi
 
 -- one event more: what ends there was answered
 made_more : (h : List Event) (e : Event) (views : List Known) → AreMade h views
-    → ((begin : ℕ) (op : Op) (said : Reply) → IsCall (h ++ e ∷ []) begin (length h) op said → IsMadeBy views (record { begin = begin; end = length h; op = op; said = said }))
+    → ((a : Act) → a.end ≡ length h → IsCall (h ++ e ∷ []) a.begin a.end a.op a.said a.took → IsMadeBy views a)
     → AreMade (h ++ e ∷ []) views
-made_more h e views all last begin end op said c = elim (cases_lt end (length h)) [
-  | inl less ↦ all begin end op said (call_less h (e ∷ []) begin end op said less c)
+made_more h e views all last a c = elim (cases_lt a.end (length h)) [
+  | inl less ↦ all a (call_less h (e ∷ []) a.begin a.end a.op a.said a.took less c)
   | inr most ↦
-      let inside = at_inside (h ++ e ∷ []) end (Ends c.seat said) c.ends in
+      let inside = at_inside (h ++ e ∷ []) a.end (Ends c.seat a.said a.took) c.ends in
       let long = one_longer h e in
-      let same : length h ≡ end = omega arith in
-      subst (λ n. IsMadeBy views (record { begin = begin; end = n; op = op; said = said })) same (last begin op said (subst (λ n. IsCall (h ++ e ∷ []) begin n op said) (sym same) c))
+      last a (omega arith) c
 ]
   where
     one_longer : (h : List Event) (e : Event) → length (h ++ e ∷ []) ≡ length h + 1
     one_longer [] e = refl
     one_longer (x ∷ xs) e = (let rest = one_longer xs e in omega arith)
 
-no_end : (h : List Event) (e : Event) → ((seat : ℕ) (said : Reply) → e ≢ Ends seat said) → (begin : ℕ) (op : Op) (said : Reply) → IsCall (h ++ e ∷ []) begin (length h) op said → ⊥
-no_end h e none begin op said c = none c.seat said (some-injective e (Ends c.seat said) (sym (behind h (e ∷ []) 0 (length h) (omega arith)) ∙ c.ends))
+no_end : (h : List Event) (e : Event) → ((seat : ℕ) (said : Reply) (took : Option ℕ) → e ≢ Ends seat said took) → (a : Act) → a.end ≡ length h → IsCall (h ++ e ∷ []) a.begin a.end a.op a.said a.took → ⊥
+no_end h e none a at c = none c.seat a.said a.took (some-injective e (Ends c.seat a.said a.took) (sym (behind h (e ∷ []) 0 a.end (omega arith)) ∙ c.ends))
 
 pub made_quiet : (h : List Event) (views : List Known) → AreMade h views → AreMade (h ++ Quiet ∷ []) views
-made_quiet h views all = made_more h Quiet views all (λ begin op said c. absurd (no_end h Quiet (λ seat said e. cc) begin op said c))
+made_quiet h views all = made_more h Quiet views all (λ a at c. absurd (no_end h Quiet (λ seat said took e. cc) a at c))
 
 -- two calls that end together are one
-one_call : (h : List Event) (begin other end : ℕ) (op o : Op) (said r : Reply) → IsCall h begin end op said → IsCall h other end o r → (begin ≡ other) × (op ≡ o) × (said ≡ r)
-one_call h begin other end op o said r c d =
-    let both = ends_same c.seat d.seat said r (some-injective (Ends c.seat said) (Ends d.seat r) (sym c.ends ∙ d.ends)) in
-    let its = subst (λ n. get_elem? h other ≡ some (Begins n o)) (sym both.0) d.begins in
-    let place : begin ≡ other = elim (cases_lt begin other) [
-      | inl low ↦ absurd (c.none other o low d.later its)
-      | inr most ↦ elim (cases_lt other begin) [
-        | inl low ↦ absurd (d.none begin op low c.later (subst (λ n. get_elem? h begin ≡ some (Begins n op)) both.0 c.begins))
+one_call : (h : List Event) (a b : Act) → IsCall h a.begin a.end a.op a.said a.took → IsCall h b.begin b.end b.op b.said b.took → a.end ≡ b.end → a ≡ b
+one_call h a b c d at =
+    let both = ends_same c.seat d.seat a.said b.said a.took b.took
+    (some-injective (Ends c.seat a.said a.took) (Ends d.seat b.said b.took) (sym c.ends ∙ (ap (get_elem? h) at ∙ d.ends))) in
+    let its = subst (λ n. get_elem? h b.begin ≡ some (Begins n b.op)) (sym both.0) d.begins in
+    let later = c.later in
+    let later' = d.later in
+    let place : a.begin ≡ b.begin = elim (cases_lt a.begin b.begin) [
+      | inl low ↦ absurd (c.none b.begin b.op low (omega arith) its)
+      | inr most ↦ elim (cases_lt b.begin a.begin) [
+        | inl low ↦ absurd (d.none a.begin a.op low (omega arith) (subst (λ n. get_elem? h a.begin ≡ some (Begins n a.op)) both.0 c.begins))
         | inr least ↦ omega arith
       ]
     ] in
-    (place, begins_same c.seat op o (some-injective (Begins c.seat op) (Begins c.seat o) (sym c.begins ∙ (ap (get_elem? h) place ∙ its))), both.1)
+    let op = begins_same c.seat a.op b.op (some-injective (Begins c.seat a.op) (Begins c.seat b.op) (sym c.begins ∙ (ap (get_elem? h) place ∙ its))) in
+    λ i. record { begin = place i; end = at i; op = op i; said = both.1 i; took = both.2 i }
   where
-    ends_same : (a b : ℕ) (x y : Reply) → Ends a x ≡ Ends b y → (a ≡ b) × (x ≡ y)
-    ends_same a b x y e = (cc, cc)
+    ends_same : (a b : ℕ) (x y : Reply) (m n : Option ℕ) → Ends a x m ≡ Ends b y n → (a ≡ b) × (x ≡ y) × (m ≡ n)
+    ends_same a b x y m n e = (cc, cc, cc)
 
     begins_same : (a : ℕ) (x y : Op) → Begins a x ≡ Begins a y → x ≡ y
     begins_same a x y e = cc
 
--- who was answered nothing has no calls
-pub silent_set : (views : List Known) (id : ℕ) (k : Known) → AreSilent views → (k.tree.answers ≡ [] → k.sight.mine ≡ []) → AreSilent (set views id k)
-silent_set views id k all mine seat u at = elim (at_set views id seat k u at) [
-  | inl e ↦ subst (λ (x : Known). x.tree.answers ≡ [] → x.sight.mine ≡ []) e.1 mine
+-- who has nothing left has no calls
+pub silent_set : (plan : TablePlan) (views : List Known) (id : ℕ) (k : Known) → AreSilent plan views → (IsSpentIn plan k.tree → k.sight.mine ≡ []) → AreSilent plan (set views id k)
+silent_set plan views id k all mine seat u at = elim (at_set views id seat k u at) [
+  | inl e ↦ subst (λ (x : Known). IsSpentIn plan x.tree → x.sight.mine ≡ []) e.1 mine
   | inr e ↦ all seat u e.1
 ]
 
-pub silent_snoc : (views : List Known) (k : Known) → AreSilent views → (k.tree.answers ≡ [] → k.sight.mine ≡ []) → AreSilent (views ++ k ∷ [])
-silent_snoc views k all mine seat u at = elim (at_snoc views k u seat at) [
+pub silent_snoc : (plan : TablePlan) (views : List Known) (k : Known) → AreSilent plan views → (IsSpentIn plan k.tree → k.sight.mine ≡ []) → AreSilent plan (views ++ k ∷ [])
+silent_snoc plan views k all mine seat u at = elim (at_snoc views k u seat at) [
   | inl there ↦ all seat u there
-  | inr e ↦ subst (λ (x : Known). x.tree.answers ≡ [] → x.sight.mine ≡ []) e mine
+  | inr e ↦ subst (λ (x : Known). IsSpentIn plan x.tree → x.sight.mine ≡ []) e mine
 ]
 
-pub both_none : {A : Type 0} (xs ys : List A) → xs ++ ys ≡ [] → (xs ≡ []) × (ys ≡ [])
-both_none [] ys e = (refl, e)
-both_none (x ∷ xs) ys e = absurd (cc)
+-- and answers nothing, as it has nothing in hand
+pub spent_before : (plan : TablePlan) (c : Call) (n : ℕ) (v : View) → IsSpentIn plan (after c n v) → IsSpentIn plan v
+spent_before plan c n v spent = (spent.0, sym (owned_stays c n v) ∙ spent.1)
 
-pub silent_call : (plan : TablePlan) (c : Call) (n : ℕ) (v : View) (seat : ℕ) (h : List Event) (g : Sight) → May plan c v → (v.answers ≡ [] → g.mine ≡ []) → (after c n v).answers ≡ [] → (marked c seat h g).mine ≡ []
-silent_call plan (call.Begin op) n v seat h g may was none = was none
-silent_call plan (call.Answer said) n v seat h g may was none =
-    let op = may.op in
-    let same : (after (call.Answer said) n v).answers ≡ deed_taking op said (taken_by (Some op) v.worker.card said v.told) v.answers ∷ v.answers =
-    ap (λ o. with_answer o said (taken_by o v.worker.card said v.told) v.answers) may.busy in
-    absurd (filled _ v.answers (sym same ∙ none))
-  where
-    filled : {A : Type 0} (x : A) (xs : List A) → x ∷ xs ≡ [] → ⊥
-    filled x xs e = cc
-silent_call plan c n v seat h g may was none = was (sym (answers_stay c n v tt) ∙ none)
+pub silent_call : (plan : TablePlan) (c : Call) (n : ℕ) (v : View) (seat : ℕ) (h : List Event) (g : Sight) → May plan c v → (IsSpentIn plan v → IsFree v) → (IsSpentIn plan v → g.mine ≡ [])
+    → IsSpentIn plan (after c n v) → (marked c seat h g).mine ≡ []
+silent_call plan (call.Answer said took) n v seat h g may free was spent = absurd (some_not_none may.busy (free (spent_before plan (call.Answer said took) n v spent)))
+silent_call plan (call.Begin op) n v seat h g may free was spent = was (spent_before plan (call.Begin op) n v spent)
+silent_call plan c n v seat h g may free was spent = was (spent_before plan c n v spent)
 
 -- the call that a pass answers is one of the history up to its answer, which it began no earlier than it began last
 module _ (plan : TablePlan) (s : TableState) (h : IsReached plan s) (id : ℕ) (v : View) (here : get_elem? s.views id ≡ some v) where
   abbrev past : List Event
   past = history_of h.turns
 
-  abbrev pub ends_call : (said : Reply) (op : Op) → Does v op → (g : Sight) → HasSeen past id g → SeesEnd op said g (marked (call.Answer said) id past g)
-  ends_call said op does g is =
-      let turns = h.turns ++ Makes id (call.Answer said) ∷ [] in
+  abbrev pub ends_call : (said : Reply) (took : Option ℕ) (op : Op) → Does v op → (g : Sight) → HasSeen past id g → SeesEnd op said took g (marked (call.Answer said took) id past g)
+  ends_call said took op does g is =
+      let turns = h.turns ++ Makes id (call.Answer said took) ∷ [] in
       let b = begun_of plan h.first h.starts h.turns s h.run (length h.turns) (omega arith) id op
       (record { view = v; there = subst (λ (x : TableState). get_elem? x.views id ≡ some v) (at_end plan h.first h.turns s h.run) here; does = does }) in
       let ended : IsAnswered turns b.begin (length h.turns) op said = record {
         seat = id;
-        begins = at_more h.turns (Makes id (call.Answer said) ∷ []) b.begin (Makes id (call.Begin op)) b.begins;
+        begins = at_more h.turns (Makes id (call.Answer said took) ∷ []) b.begin (Makes id (call.Begin op)) b.begins;
         later = b.later;
         on = λ k t low high e. b.on k t low high (before k t high e);
-        answers = behind h.turns (Makes id (call.Answer said) ∷ []) 0 (length h.turns) (omega arith);
+        took = took;
+        answers = behind h.turns (Makes id (call.Answer said took) ∷ []) 0 (length h.turns) (omega arith);
       } in
-      let its : IsCall (past ++ Ends id said ∷ []) b.begin (length past) op said =
-      subst (λ l. IsCall l b.begin (length past) op said) (history_snoc h.turns (Makes id (call.Answer said)))
-      (subst (λ n. IsCall (history_of turns) b.begin n op said) (sym (history_long h.turns)) (call_of turns b.begin (length h.turns) op said ended)) in
+      let its : IsCall (past ++ Ends id said took ∷ []) b.begin (length past) op said took =
+      subst (λ l. IsCall l b.begin (length past) op said took) (history_snoc h.turns (Makes id (call.Answer said took)))
+      (subst (λ n. IsCall (history_of turns) b.begin n op said took) (sym (history_long h.turns)) (call_of turns b.begin (length h.turns) op said ended)) in
       record {
         seat = id;
         before = past;
@@ -319,11 +323,11 @@ module _ (plan : TablePlan) (s : TableState) (h : IsReached plan s) (id : ℕ) (
         call = its;
         last = λ n at. no_later n (is.began n at) b.begin b.on;
         begun = refl;
-        mine = ap (λ o. with_act o (length past) said g.mine) (last_is id past b.begin op (begins_it b.begin b.begins) (λ k o late at. none_later k o b.begin b.on late at));
+        mine = ap (λ o. with_act o (length past) said took g.mine) (last_is id past b.begin op (begins_it b.begin b.begins) (λ k o late at. none_later k o b.begin b.on late at));
       }
     where
-      before : (k : ℕ) (t : Turn) → k < length h.turns → get_elem? (h.turns ++ Makes id (call.Answer said) ∷ []) k ≡ some t → get_elem? h.turns k ≡ some t
-      before k t less e = sym (inside_of h.turns (Makes id (call.Answer said) ∷ []) k less) ∙ e
+      before : (k : ℕ) (t : Turn) → k < length h.turns → get_elem? (h.turns ++ Makes id (call.Answer said took) ∷ []) k ≡ some t → get_elem? h.turns k ≡ some t
+      before k t less e = sym (inside_of h.turns (Makes id (call.Answer said took) ∷ []) k less) ∙ e
         where
           inside_of : {A : Type 0} (a b : List A) (n : ℕ) → n < length a → get_elem? (a ++ b) n ≡ get_elem? a n
           inside_of [] b n less = absurd (omega arith)
@@ -351,21 +355,34 @@ module _ (plan : TablePlan) (s : TableState) (h : IsReached plan s) (id : ℕ) (
           begin_there : (n : ℕ) (op : Op) → get_elem? past n ≡ some (Begins id op) → get_elem? h.turns n ≡ some (Makes id (call.Begin op))
           begin_there n op at = begin_at h.turns n id op at
 
+  -- the call that is answered now
+  abbrev pub act_of : Reply → Option ℕ → Op → ℕ → Act
+  act_of said took op begin = record { begin = begin; end = length past; op = op; said = said; took = took }
+
   -- what the call leaves has seen a beginning of the history, and its calls are some of it
   pub marked_seen : (c : Call) → May plan c v → (g : Sight) → HasSeen past id g → HasSeen (past ++ event_of (Makes id c) ∷ []) id (marked c id past g)
   marked_seen (call.Begin op) may g is = record {
     part = whole_part (past ++ Begins id op ∷ []);
     began = λ b at. (let same : length past ≡ b = same_Some (length past) b at in
         (op, ap (get_elem? (past ++ Begins id op ∷ [])) (sym same) ∙ behind past (Begins id op ∷ []) 0 (length past) (omega arith)));
-    mine = λ a has. call_more past (Begins id op ∷ []) a.begin a.end a.op a.said (is.mine a has);
+    looks = (seen_on past (Begins id op ∷ []) id g is).looks;
+    mine = λ a has. call_more past (Begins id op ∷ []) a.begin a.end a.op a.said a.took (is.mine a has);
   }
-  marked_seen (call.Answer said) may g is =
-      let e = ends_call said may.op may.busy g is in record {
-        part = whole_part (past ++ Ends id said ∷ []);
-        began = (seen_on past (Ends id said ∷ []) id g is).began;
-        mine = λ a has. elim (has_first (record { begin = e.begin; end = length past; op = may.op; said = said }) g.mine a (subst (λ l. Has l a) e.mine has)) [
-          | inl same ↦ subst (λ (x : Act). IsCall (past ++ Ends id said ∷ []) x.begin x.end x.op x.said) same e.call
-          | inr was ↦ call_more past (Ends id said ∷ []) a.begin a.end a.op a.said (is.mine a was)
+  marked_seen call.Look may g is = record {
+    part = whole_part (past ++ Looks id ∷ []);
+    began = (seen_on past (Looks id ∷ []) id g is).began;
+    looks = λ n at. (let same : length past ≡ n = same_Some (length past) n at in
+        ap (get_elem? (past ++ Looks id ∷ [])) (sym same) ∙ behind past (Looks id ∷ []) 0 (length past) (omega arith));
+    mine = λ a has. call_more past (Looks id ∷ []) a.begin a.end a.op a.said a.took (is.mine a has);
+  }
+  marked_seen (call.Answer said took) may g is =
+      let e = ends_call said took may.op may.busy g is in record {
+        part = whole_part (past ++ Ends id said took ∷ []);
+        began = (seen_on past (Ends id said took ∷ []) id g is).began;
+        looks = (seen_on past (Ends id said took ∷ []) id g is).looks;
+        mine = λ a has. elim (has_first (act_of said took may.op e.begin) g.mine a (subst (λ l. Has l a) e.mine has)) [
+          | inl same ↦ subst (λ (x : Act). IsCall (past ++ Ends id said took ∷ []) x.begin x.end x.op x.said x.took) same e.call
+          | inr was ↦ call_more past (Ends id said took ∷ []) a.begin a.end a.op a.said a.took (is.mine a was)
         ];
       }
   marked_seen _ may g is = seen_on past (Quiet ∷ []) id g is
@@ -376,20 +393,24 @@ module _ (plan : TablePlan) (s : TableState) (h : IsReached plan s) (id : ℕ) (
   made_by (call.Begin op) may views k at now is seen all =
       made_more past (Begins id op) (set views id now)
       (made_set past views id k now at (λ a has. subst (λ l. Has l a) (sym (ap (λ (g : Sight). g.mine) is)) has) all)
-      (λ begin o said c. absurd (no_end past (Begins id op) (λ seat r e. cc) begin o said c))
-  made_by (call.Answer said) may views k at now is seen all =
-      let e = ends_call said may.op may.busy k.sight seen in
-      let its : now.sight.mine ≡ record { begin = e.begin; end = length past; op = may.op; said = said } ∷ k.sight.mine =
-      ap (λ (g : Sight). g.mine) is ∙ e.mine in
-      made_more past (Ends id said) (set views id now)
-      (made_set past views id k now at (λ a has. subst (λ l. Has l a) (sym its) (earlier a _ k.sight.mine has)) all)
-      (λ begin o r c. (let one = one_call (past ++ Ends id said ∷ []) e.begin begin (length past) may.op o said r e.call c in record {
+      (λ a at c. absurd (no_end past (Begins id op) (λ seat r took e. cc) a at c))
+  made_by (call.Answer said took) may views k at now is seen all =
+      let e = ends_call said took may.op may.busy k.sight seen in
+      let new = act_of said took may.op e.begin in
+      let its : now.sight.mine ≡ new ∷ k.sight.mine = ap (λ (g : Sight). g.mine) is ∙ e.mine in
+      made_more past (Ends id said took) (set views id now)
+      (made_set past views id k now at (λ a has. subst (λ l. Has l a) (sym its) (earlier a new k.sight.mine has)) all)
+      (λ a last c. record {
         seat = id;
         knows = now;
         there = set_there views id now k at;
-        has = subst (λ l. Has l (record { begin = begin; end = length past; op = o; said = r })) (sym its)
-            (subst (λ (x : Act). Has (record { begin = e.begin; end = length past; op = may.op; said = said } ∷ k.sight.mine) x) (λ i. record { begin = one.0 i; end = length past; op = one.1 i; said = one.2 i }) (latest _ k.sight.mine));
-      }))
+        has = subst (λ l. Has l a) (sym its)
+            (subst (λ (x : Act). Has (new ∷ k.sight.mine) x) (one_call (past ++ Ends id said took ∷ []) new a e.call c (sym last)) (latest new k.sight.mine));
+      })
+  made_by call.Look may views k at now is seen all =
+      made_more past (Looks id) (set views id now)
+      (made_set past views id k now at (λ a has. subst (λ l. Has l a) (sym (ap (λ (g : Sight). g.mine) is)) has) all)
+      (λ a at c. absurd (no_end past (Looks id) (λ seat r took e. cc) a at c))
   made_by _ may views k at now is seen all =
       made_quiet past (set views id now)
       (made_set past views id k now at (λ a has. subst (λ l. Has l a) (sym (ap (λ (g : Sight). g.mine) is)) has) all)
@@ -397,7 +418,9 @@ module _ (plan : TablePlan) (s : TableState) (h : IsReached plan s) (id : ℕ) (
   -- what a step call lets a pass see
   pub marks_now : (c : Call) (g : Sight) → HasSeen past id g → Marks c v g (marked c id past g)
   marks_now (call.Begin op) g is = record { seat = id; before = past; more = is.part; seen = refl; begun = refl; mine = refl }
-  marks_now (call.Answer said) g is = λ op does. ends_call said op does g is
+  marks_now (call.Answer said took) g is = λ op does. ends_call said took op does g is
+  marks_now call.Look g is =
+      record { seat = id; before = past; more = is.part; seen = refl; looked = refl; begun = refl; mine = refl }
   marks_now _ g is = refl
 
 -- a beginning of a history is that of the first turns of the run
@@ -428,24 +451,33 @@ seen_in_line (z ∷ zs) (x ∷ xs) (y ∷ ys) one other =
       | inr p ↦ inr (p.0, (λ i. same i ∷ p.1 i))
     ]
 
--- what a pass knows that has seen all of it
+-- what a pass knows that has seen all of it, and what its calls leave
+pub record HasSeenTo (plan : TablePlan) (s : TableState) (v : View) (g : Sight) : Type 0 where
+  pub all : HasSeenAll plan v g
+  pub leaves : HasMap (own_words s) (final (contents_of plan.start) (ops_of all.linear.order))
+
 pub seen_all : (plan : TablePlan) (s : TableState) (h : IsReached plan s) (views : List Known) → trees_of views ≡ s.views
-    → AllHaveSeen (history_of h.turns) views → AreMade (history_of h.turns) views → AreSilent views → AreAllApart views
-    → (seat : ℕ) (k : Known) → get_elem? views seat ≡ some k → HasSeenAll plan k.tree (record k.sight { seen = history_of h.turns })
+    → AllHaveSeen (history_of h.turns) views → AreMade (history_of h.turns) views → AreSilent plan views → AreAllApart views
+    → (seat : ℕ) (k : Known) → get_elem? views seat ≡ some k → HasSeenTo plan s k.tree (record k.sight { seen = history_of h.turns })
 seen_all plan s h views same seen made silent apart seat k here = record {
-  linear = linear_of plan h.first h.turns s (lin plan h.first h.starts h.turns s h.run);
-  calls = (seen seat k here).mine;
-  apart = apart.each seat k here;
-  all = λ mode whole free item at.
-      let there : IsAllThere s seat = all_there plan s mode h seat k.tree (ap (λ v. get_elem? v seat) (sym same) ∙ at_map (λ (x : Known). x.tree) views seat k here) whole free in
-      let e = ended_only plan h.first h.starts h.turns s h.run there.free item at in
-      let m = made item.begin e.0 item.op item.reply (call_of h.turns item.begin e.0 item.op item.reply e.1) in (
-        e.0,
-        elim (there.silent m.seat m.knows.tree (tree_of views same m.seat m.knows m.there)) [
-          | inl is ↦ subst (λ (x : Known). Has x.sight.mine (record { begin = item.begin; end = e.0; op = item.op; said = item.reply })) (some-injective m.knows k (sym m.there ∙ (ap (get_elem? views) is ∙ here))) m.has
-          | inr none ↦ absurd (has_none _ (subst (λ l. Has l (record { begin = item.begin; end = e.0; op = item.op; said = item.reply })) (silent m.seat m.knows m.there none) m.has))
-        ],
-      );
+  leaves = (lin plan h.first h.starts h.turns s h.run).leaves;
+  all = record {
+    linear = linear_of plan h.first h.starts h.turns s h.run;
+    calls = (seen seat k here).mine;
+    apart = apart.each seat k here;
+    all = λ mode whole free item at.
+        let there : IsAllThere s seat = all_there plan s mode h seat k.tree (ap (λ v. get_elem? v seat) (sym same) ∙ at_map (λ (x : Known). x.tree) views seat k here) whole free in
+        let e = ended_only plan h.first h.starts h.turns s h.run there.free item at in
+        let a : Act = record { begin = item.begin; end = e.0; op = item.op; said = item.reply; took = e.1.took } in
+        let m = made a (call_of h.turns item.begin e.0 item.op item.reply e.1) in (
+          e.0,
+          e.1.took,
+          elim (there.alone m.seat m.knows.tree (tree_of views same m.seat m.knows m.there)) [
+            | inl is ↦ subst (λ (x : Known). Has x.sight.mine a) (some-injective m.knows k (sym m.there ∙ (ap (get_elem? views) is ∙ here))) m.has
+            | inr none ↦ absurd (has_none _ (subst (λ l. Has l a) (silent m.seat m.knows m.there (mode, none)) m.has))
+          ],
+        );
+  };
 }
   where
     tree_of : (l : List Known) → trees_of l ≡ s.views → (j : ℕ) (u : Known) → get_elem? l j ≡ some u → get_elem? s.views j ≡ some u.tree

@@ -34,15 +34,15 @@ use Rattle.ell_cards.proofs.lemmas.whole.Takings.{takings_opened}
 
 -- the first pass has seen nothing, and made no call
 nothing_seen : (seat : ℕ) → HasSeen [] seat no_sight
-nothing_seen seat = record { part = ([], refl); began = λ b at. absurd (some_not_none at refl); mine = λ a has. absurd (has_none a has) }
+nothing_seen seat = record { part = ([], refl); began = λ b at. absurd (some_not_none at refl); looks = λ n at. absurd (some_not_none at refl); mine = λ a has. absurd (has_none a has) }
 
 first_seen : (v : View) (p : Period) → AllHaveSeen [] (record { tree = v; period = p; sight = no_sight } ∷ [])
 first_seen v p zero u at = subst (λ (x : Known). HasSeen [] 0 x.sight) (some-injective (record { tree = v; period = p; sight = no_sight }) u at) (nothing_seen 0)
 first_seen v p (suc j) u at = absurd (some-ne-none u (sym at))
 
-first_silent : (v : View) (p : Period) → AreSilent (record { tree = v; period = p; sight = no_sight } ∷ [])
-first_silent v p zero u at none = subst (λ (x : Known). x.sight.mine ≡ []) (some-injective (record { tree = v; period = p; sight = no_sight }) u at) refl
-first_silent v p (suc j) u at none = absurd (some-ne-none u (sym at))
+first_silent : (plan : TablePlan) (v : View) (p : Period) → AreSilent plan (record { tree = v; period = p; sight = no_sight } ∷ [])
+first_silent plan v p zero u at none = subst (λ (x : Known). x.sight.mine ≡ []) (some-injective (record { tree = v; period = p; sight = no_sight }) u at) refl
+first_silent plan v p (suc j) u at none = absurd (some-ne-none u (sym at))
 
 -- a table starts so
 pub whole_first : (plan : TablePlan) (may : MayStart plan) (cards words : List ℕ) → ((i : ℕ) → IsWord (get_or cards i 0)) → length cards ≡ table_size (last_slot plan) → words_of cards ≡ words_at_start plan.flat plan.start
@@ -56,8 +56,8 @@ whole_first plan may cards words small size are is = by plan.slots refl may.slot
           tree = opening cards [] (first_of plan);
           reached = reached_first plan cards may all are;
           seen = first_seen (first_of plan) (period_by plan.slots);
-          made = λ begin end op said c. absurd (some-ne-none _ (sym c.ends));
-          silent = first_silent (first_of plan) (period_by plan.slots);
+          made = λ a c. absurd (some-ne-none _ (sym c.ends));
+          silent = first_silent plan (first_of plan) (period_by plan.slots);
           apart = apart_first (first_known plan) refl;
           views = refl;
           homes = refl;
@@ -72,8 +72,8 @@ whole_first plan may cards words small size are is = by plan.slots refl may.slot
           tree = tree;
           reached = reached_opened plan s cards words may fit all are small opens;
           seen = first_seen (first_of plan) (period_by plan.slots);
-          made = λ begin end op said c. absurd (some-ne-none _ (sym c.ends));
-          silent = first_silent (first_of plan) (period_by plan.slots);
+          made = λ a c. absurd (some-ne-none _ (sym c.ends));
+          silent = first_silent plan (first_of plan) (period_by plan.slots);
           apart = apart_first (first_known plan) refl;
           views = refl;
           homes = refl;

@@ -19,6 +19,10 @@ use Rattle.ell_cards.specs.Shown.{shown, shown_call}
 use Rattle.ell_cards.specs.Starts.{SlotsFit}
 use Rattle.ell_cards.specs.Stepping.{MayTell}
 use Rattle.ell_cards.specs.Turns.{Makes, state_after, view_after}
+use Rattle.ell_cards.specs.Closed.{EndsHistory, HistoryEnds}
+use Rattle.ell_cards.specs.Linearizing.{ops_of}
+use Rattle.ell_ops.specs.Contents.{contents_of}
+use Rattle.ell_ops.specs.Meaning.{final}
 use Rattle.ell_cards.specs.Whole.{IsWhole}
 use Rattle.ell_cards.proofs.lemmas.runs.Reaching.{call_on}
 use Rattle.ell_cards.proofs.lemmas.seats.Opened.{allowed, of_table}
@@ -48,7 +52,7 @@ module _ (plan : TablePlan) (k : Known) (s : WholeState) (h : IsWhole plan s) (i
       let told = seen_all plan (state_after h.tree id k.tree c) (call_on plan h.tree h.reached id c k.tree there tt) (set s.views id now) (views_after plan s h id k here c tt tt k.period g)
       (seen_after plan s h id k here c tt tt k.period g sees) (made_after plan s h id k here c tt tt k.period g sees) (silent_after plan s h id k here c tt tt k.period g sees)
       (sees.apart now refl) id now (set_there s.views id now k here) in
-      let full = subst (λ (l : List Event). HasSeenAll plan now.tree (record k.sight { seen = l })) (history_snoc h.reached.turns (Makes id c)) told in (
+      let full = subst (λ (l : List Event). HasSeenAll plan now.tree (record k.sight { seen = l })) (history_snoc h.reached.turns (Makes id c)) told.all in (
         record { more = part_on k.sight.seen past (Quiet ∷ []) (h.seen id k here).part; mine = refl },
         record { linear = full.linear; calls = full.calls; apart = full.apart; all = full.all },
         refl,
@@ -68,10 +72,10 @@ next_goes : (plan : TablePlan) (k : Known) (told : ℕ → View → Type 0) → 
 next_goes plan k told unlost tells id s h homes here small =
     let there = tree_here plan s h id k here in
     goes_by plan k call.Next (λ n. n) told (λ n. k.period) tt tt (λ t some. tt) unlost (load_does plan call.Next refl) (λ some none. tt) (λ fill. absurd fill) tells
-    (λ n word. nothing refl tt (λ some d flags. absurd flags)) id s h here small (TellsAll plan (shown k.tree) k.sight)
+    (λ n word. nothing refl tt (λ some d flags. absurd flags)) id s h here small (λ v g. TellsAll plan (shown k.tree) k.sight g)
     (sees_all plan h.tree h.reached id k.tree there s.views k here refl h.seen h.made h.silent h.apart)
     (λ d may is. sighted_all plan h.tree h.reached id k.tree there s.views k here refl h.seen h.made h.silent h.apart d (next_calm plan k s h id here d is))
-    (told_all plan k s h id here) plan.slots refl
+    (λ d may is apart. told_all plan k s h id here d may is) plan.slots refl
 
 -- what the load owes, by what its caller says of the table and the pass
 module _ (t u : TableModel) (p q : PassModel) (same_table : t ≡ u) (same_pass : p ≡ q) (own : q.table ≡ u.id) (size : t.id.words ≡ whole_size t.plan) (fit : SlotsFit t.plan t.plan.slots) where
@@ -93,3 +97,21 @@ module _ (t u : TableModel) (p q : PassModel) (same_table : t ≡ u) (same_pass 
 -- what is told of the pass before it is so of the pass after it
 pub all_after : (plan : TablePlan) (v w : View) (g : Sight) (n : ℕ) → w ≡ after call.Next n v → HasSeenAll plan v g → HasSeenAll plan w g
 all_after plan v w g n is h = subst (λ (u : View). HasSeenAll plan u g) (sym is) (record { linear = h.linear; calls = h.calls; apart = h.apart; all = h.all })
+
+-- what a pass knows of the history of a table that it closes
+pub history_ends : (plan : TablePlan) (s : WholeState) (h : IsWhole plan s) (id : ℕ) (k : Known) → get_elem? s.views id ≡ some k → (p : PassModel) → p.view ≡ shown k.tree → p.sight ≡ k.sight
+    → (cards : ℕ) → HistoryEnds plan p (record { words = h.tree.words; last_card = cards })
+history_ends plan s h id k here p view sight cards =
+    let told = seen_all plan h.tree h.reached s.views h.views h.seen h.made h.silent h.apart id k here in
+    let past = history_of h.reached.turns in
+    let ends : EndsHistory plan (record p { view = shown k.tree; sight = k.sight }) (final (contents_of plan.start) (ops_of told.all.linear.order)) = record {
+      seen = past;
+      more = (h.seen id k here).part;
+      all = record { linear = told.all.linear; calls = told.all.calls; apart = told.all.apart; all = told.all.all };
+      leaves = refl;
+    } in
+    record {
+      left = final (contents_of plan.start) (ops_of told.all.linear.order);
+      is = told.leaves;
+      ends = subst (λ (q : PassModel). EndsHistory plan q (final (contents_of plan.start) (ops_of told.all.linear.order))) (λ i. record p { view = sym view i; sight = sym sight i }) ends;
+    }

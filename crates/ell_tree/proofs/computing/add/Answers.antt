@@ -21,5 +21,5 @@ returns-in-None-clause-replaces g c =
       untouched_trans first refused last left read,
       inl (concludes t (Find key) (found c.find.result) first refused last left c.find.ensures.answers),
       not_there t key c.args.value first refused said,
-      (let added = ap tries_in said.called in let found = ap tries_in c.find.ensures.answers.called in omega (arith, added, found)),
+      (let added = ap tries_in said.sees.mine in let found = ap tries_in c.find.ensures.answers.sees.mine in omega (arith, added, found)),
     )

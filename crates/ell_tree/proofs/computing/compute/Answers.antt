@@ -42,7 +42,7 @@ loop-round-init g c =
       hindered = λ owns. omega (arith, finds.quiet.hindered);
       milestones = λ owns. omega (arith, finds.quiet.milestones);
       tried = λ owns some. absurd (omega arith);
-      made = let same = ap tries_in finds.answers.called in omega (arith, same, finds.quiet.hindered);
+      made = let same = ap tries_in finds.answers.sees.mine in omega (arith, same, finds.quiet.hindered);
       cards = λ plain. record { least = omega (arith, finds.cards); most = omega (arith, finds.cards) };
       few = λ plain. omega (arith, finds.cards, finds.quiet.hindered);
     }
@@ -60,7 +60,7 @@ loop-round-preserved g c = elim c.match-replace.branch [
       let new = c.replace.new.pass in
       let there = c.match-replace.was in
       let lost : IsUntouched l.pass new × ReadsValue t key there l.pass new × (Owns l.pass key → present_in l.pass key ≢ l.was)
-      × (tries_in l.pass.view.answers < tries_in new.view.answers) = rw w.was-is (search rules) in
+      × (tries_in l.pass.sight.mine < tries_in new.sight.mine) = rw w.was-is (search rules) in
       let reads = reads_after t key there old l.pass new i.untouched lost.1 in
       let kept = untouched_trans old l.pass new i.untouched lost.0 in
       let apart : ¬ Owns old key = λ owns. lost.2 ((i.untouched.owned key).1 owns) (i.untouched.map key ∙ i.own owns) in
@@ -116,7 +116,7 @@ loop-round-preserved g c = elim c.match-replace.branch [
         hindered = λ owns. omega (arith, others.each, i.hindered owns);
         milestones = λ owns. omega (arith, others.milestones, i.milestones owns);
         tried = λ owns more. some;
-        made = let same = ap tries_in laid.called in omega (arith, same, others.each, i.made);
+        made = let same = ap tries_in laid.sees.mine in omega (arith, same, others.each, i.made);
         cards = λ plain. let some = (spends plain).most in let all = i.cards plain in
             record { least = omega (arith, some.least, all.least); most = omega (arith, some.most, all.most) };
         few = λ plain. let one = each plain in let all = i.few plain in omega (arith, one, all);

@@ -26,7 +26,7 @@ invariant-loop-round g l = record {
   milestones : Owns l.fn.pass l.fn.key
       → milestones_known l.fn.table.plan.last_card l.fn.pass.view + l._round ≤ milestones_known l.fn.table.plan.last_card l.pass.view;
   tried : Owns l.fn.pass l.fn.key → 1 ≤ l._round → l.made ≢ None;
-  made : l.fn.pass.view.hindered + tries_in l.fn.pass.view.answers + l._round ≤ l.pass.view.hindered + tries_in l.pass.view.answers;
+  made : l.fn.pass.view.hindered + tries_in l.fn.pass.sight.mine + l._round ≤ l.pass.view.hindered + tries_in l.pass.sight.mine;
   cards : l.fn.table.plan.slots ≡ None → TakesAtMost l._round l.fn.pass l.pass;
   few : l.fn.table.plan.slots ≡ None → TakesByHindered l.fn.pass l.pass;
 }

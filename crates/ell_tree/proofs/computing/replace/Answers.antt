@@ -32,5 +32,5 @@ returns-else-eq-clause-replaces g c =
       untouched_by t (Swap key was c.args.value) (found there) old new (swap_leaves t key was c.args.value there old new other said) (λ e. other (found_one there (Some was) e)) said,
       inr (was, c.args.value, other, concludes t (Swap key was c.args.value) (found there) old old new (untouched_self old c.requires.may.idle) said),
       λ owns same. other (found_one there _ (said.says owns) ∙ (same ∙ c.in-Some.is)),
-      (let more = ap tries_in said.called in omega (arith, more)),
+      (let more = ap tries_in said.sees.mine in omega (arith, more)),
     )

@@ -1,5 +1,6 @@
 use Rattle.std.proofs.Common.{◌+◌, ◌≡◌, ◌≢◌, Some, refl, ap, sym, subst, ◌∙◌, rules, arith}
 use Rattle.ell_ops.specs.declared.op.Op.TheVariants.{Delete}
+use Rattle.ell_ops.specs.declared.reply.Reply.TheVariants.{Yes}
 use Rattle.ell_word.specs.declared.update.State.TheVariants.{Clean}
 use Rattle.ell_core.specs.declared.view.Search.{Search}
 use Rattle.ell_cards.specs.Depths.{deepest}
@@ -13,7 +14,9 @@ use Rattle.ell_tree.specs.Helps.{help_steps}
 use Rattle.ell_tree.specs.Hindrances.{Meets, way_of}
 use Rattle.ell_tree.specs.Keeping.{KeepsAllButMet}
 use Rattle.ell_tree.specs.Searches.{seen_any, below}
-use Rattle.ell_tree.proofs.lemmas.Called.{answered_taking, takes_told}
+use Rattle.ell_cards.specs.Changes.{answered_so}
+use Rattle.ell_cards.specs.Guards.{TakesBy}
+use Rattle.ell_tree.proofs.lemmas.Sights.{ends_from}
 use Rattle.ell_tree.proofs.lemmas.Keeping.{inner_kept, share_trans}
 use Rattle.ell_tree.proofs.lemmas.LettingGo.{lets_none_go, lets_flagged_go}
 use Rattle.ell_tree.proofs.lemmas.Owning.{keeps_answers, keeps_in_answers, had_value, would_delete}
@@ -112,11 +115,31 @@ answer-requires-clause-noted g c =
     (λ some. met.keeps.slot ∙ (c.flag_delete.ensures.keeps.slot ∙ c.in-Card.ensures.claims.4 some))
     (λ s is. cut over (c.retire_deleted.ensures.cut s is) (c.retire_deleted.ensures.own s is))
 
--- once it is over, it is answered
+-- once it is over, it is answered, with the value of the card's leaf
 pub answer-requires-clause-may : goal.answer-requires-clause-may
 answer-requires-clause-may g c =
+    let a = c.args.pass.now in
+    let ends = c.requires.searched.ends in
+    let t = c.take_card.new.pass in
+    let f = c.flag_delete.new.pass in
+    let place = c.args.place in
+    let card = c.in-Card.card in
+    let leaf = told_leaf t.view f.view card place c.flag_delete.ensures.keeps.view c.args.key c.in-Some.above
+    (delete_card a.view t.view card (new_node c.args.table.now.plan 0) c.args.key place c.in-Some.above c.in-Some.is c.requires.searched.busy ends.at c.in-Card.ensures.claims.0) in
+    let value = c.flag_delete.ensures.keeps.view.told _ (c.take_card.ensures.keeps.view.told _ (ends.at.leaf (ends.outer c.requires.key))) in
+    let on = c.finish_own.ensures.keeps_but_met.keeps.view.told in
+    let takes : TakesBy c.finish_own.new.pass.view (Delete c.args.key) Yes place.value = record {
+      key = c.args.key;
+      card = card;
+      leaf = place.node;
+      deletes = refl;
+      says = refl;
+      holds = c.finish_own.ensures.keeps_but_met.card ∙ c.in_default-flag_delete.ensures.flags.card;
+      at_leaf = on _ leaf;
+      at_value = on _ value;
+    } in
     rw c.retire_deleted.ensures.same
-    (search rules)
+    (search (rules, takes))
 
 -- a flag or a mark stood at the grandparent
 pub returns-then-ne-clause-ends : goal.returns-then-ne-clause-ends
@@ -140,7 +163,6 @@ returns-then-ne-clause-ends g c =
         label = search rules;
         sight = search rules;
         ledger = search rules;
-        answers = search rules;
         share = met.keeps.view.share;
         meets = meets;
         in_try = met.keeps.view.earlier a.view.hindrances (searched_in_try c.args.table.now.plan (Delete c.args.key) place a.view c.requires.searched);
@@ -180,7 +202,6 @@ returns-then-ne-2-clause-ends g c =
         label = search rules;
         sight = search rules;
         ledger = search rules;
-        answers = search rules;
         share = met.keeps.view.share;
         meets = meets;
         in_try = met.keeps.view.earlier a.view.hindrances (searched_in_try c.args.table.now.plan (Delete c.args.key) place a.view c.requires.searched);
@@ -214,7 +235,6 @@ returns-in-NoneLeft-clause-ends g c =
         label = search rules;
         sight = search rules;
         ledger = search rules;
-        answers = search rules;
         share = c.take_card.ensures.keeps.view.share;
         meets = keeps_in_meets c.args.table.now.plan a new _ c.in-NoneLeft.ensures.keeps claims.2;
         in_try = c.take_card.ensures.keeps.view.earlier a.view.hindrances (searched_in_try c.args.table.now.plan (Delete c.args.key) place a.view c.requires.searched);
@@ -247,7 +267,6 @@ returns-in-Lost-clause-ends g c =
         label = search rules;
         sight = search rules;
         ledger = search rules;
-        answers = search rules;
         share = c.take_card.ensures.keeps.view.share;
         meets = claims.1;
         in_try = c.take_card.ensures.keeps.view.earlier a.view.hindrances (searched_in_try c.args.table.now.plan (Delete c.args.key) place a.view c.requires.searched);
@@ -284,7 +303,6 @@ returns-in-Err-clause-ends g c =
         label = search rules;
         sight = search rules;
         ledger = search rules;
-        answers = search rules;
         share = share_trans a.view f.view new.view (share_trans a.view t.view f.view c.take_card.ensures.keeps.view.share c.flag_delete.ensures.keeps.view.share)
             help.ensures.keeps_but_met.keeps.view.share;
         meets = meets_trans a.view t.view new.view taken lost.0;
@@ -336,17 +354,14 @@ returns-clause-took g c =
     let card = c.in-Card.card in
     let busy : Does m.view (Delete c.args.key) = search rules in
     let hand : m.view.worker.card ≡ Some card = met.card ∙ c.in_default-flag_delete.ensures.flags.card in
-    let leaf = told_leaf t.view f.view card place c.flag_delete.ensures.keeps.view c.args.key c.in-Some.above
-    (delete_card a.view t.view card (new_node c.args.table.now.plan 0) c.args.key place c.in-Some.above c.in-Some.is c.requires.searched.busy ends.at c.in-Card.ensures.claims.0) in
-    let value = c.flag_delete.ensures.keeps.view.told _ (c.take_card.ensures.keeps.view.told _ (ends.at.leaf (ends.outer c.requires.key))) in
-    let on = met.keeps.view.told in
-    let same = met.keeps.view.answers ∙ (c.flag_delete.ensures.keeps.view.answers ∙ c.take_card.ensures.keeps.view.answers) in (
+    let op = Delete c.args.key in
+    let said_so : new.view.answered ≡ Some (record { op = op; said = Yes; card = Some card; took = Some place.value }) =
+    said.ensures.last ∙ (ap (λ o. answered_so o m.view.worker.card Yes (Some place.value)) busy ∙ ap (λ o. answered_so (Some op) o Yes (Some place.value)) hand) in (
       record {
         mine = had_value c.args.table.now.plan a a refl place c.args.key ends c.requires.key;
-        took = deletes_take_what_they_tell c.args.table.now.plan new.view c.args.key (Some card) place.value
-            (said.ensures.last ∙ answered_taking m.view c.args.key card place.node place.value busy hand said.ensures.values (on _ leaf) (on _ value));
+        took = deletes_take_what_they_tell c.args.table.now.plan new.view c.args.key (Some card) place.value said_so;
       },
-      takes_told a m new c.args.key card place.node place.value same busy hand said.ensures.deeds said.ensures.values (on _ leaf) (on _ value),
+      ends_from op Yes (Some place.value) a.sight m.sight new.sight (met.keeps.sight ∙ (c.flag_delete.ensures.keeps.sight ∙ c.take_card.ensures.keeps.sight)) (said.ensures.ended op busy),
     )
 
 -- the cards of each

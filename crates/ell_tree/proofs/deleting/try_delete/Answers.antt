@@ -1,6 +1,7 @@
-use Rattle.std.proofs.Common.{◌∙◌, rules}
+use Rattle.std.proofs.Common.{None, ◌∙◌, rules}
 use Rattle.ell_ops.specs.declared.op.Op.TheVariants.{Delete}
-use Rattle.ell_tree.proofs.lemmas.Called.{takes_none}
+use Rattle.ell_ops.specs.declared.reply.Reply.TheVariants.{No}
+use Rattle.ell_tree.proofs.lemmas.Sights.{ends_from}
 use Rattle.ell_tree.proofs.lemmas.LettingGo.{lets_none_go}
 use Rattle.ell_tree.proofs.lemmas.Owning.{keeps_answers, had_none}
 use Rattle.ell_tree.proofs.lemmas.Meeting.{meets_trans}
@@ -39,8 +40,8 @@ returns-then-place-key-clause-took g c =
         mine = had_none c.args.table.now.plan c.args.pass.now s.new.pass s.ensures.keeps_but_search.keeps.view.ledger s.result c.args.key s.ensures.ends (search rules);
         took = tt;
       },
-      takes_none c.args.pass.now s.new.pass c.answer.new.pass c.args.key s.ensures.keeps_but_search.keeps.view.answers
-          (s.ensures.keeps_but_search.keeps.view.operation ∙ c.requires.root.busy) c.answer.ensures.deeds,
+      ends_from (Delete c.args.key) No None c.args.pass.now.sight s.new.pass.sight c.answer.new.pass.sight s.ensures.keeps_but_search.keeps.sight
+          (c.answer.ensures.ended (Delete c.args.key) (s.ensures.keeps_but_search.keeps.view.operation ∙ c.requires.root.busy)),
     )
 
 -- and otherwise what came after the search is what came of the try

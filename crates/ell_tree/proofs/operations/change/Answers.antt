@@ -1,7 +1,7 @@
-use Rattle.std.proofs.Common.{◌≡◌, ◌+◌, ◌*◌, ◌∙◌, sym, subst, ap, length, arith, rules, eq-eqb, eqb-true}
+use Rattle.std.proofs.Common.{◌≡◌, ◌+◌, ◌*◌, ◌∙◌, List, sym, subst, ap, length, arith, rules, eq-eqb, eqb-true}
 use Rattle.ell_cards.proofs.lemmas.runs.Tries.{more_tries}
 use Rattle.ell_cards.proofs.lemmas.runs.LayingDown.{laid_down_last_changes_nothing}
-use Rattle.ell_cards.specs.Accounts.{own_calls}
+use Rattle.ell_cards.specs.declared.view.Act.{Act}
 use Rattle.ell_cards.specs.Seeing.{SeesBegin}
 use Rattle.ell_tree.specs.Ends.{changes_by, try_steps_in}
 use Rattle.ell_tree.specs.Hindrances.{way_of}
@@ -42,7 +42,6 @@ loop-round-preserved g c =
       label = halts.label ∙ (begins.label ∙ i.label);
       sight = subst (SeesBegin op c.args.pass.now.sight) (sym (halts.sight ∙ c.restart.ensures.sight)) i.sight;
       ledger = halts.ledger ∙ (begins.ledger ∙ i.ledger);
-      answers = halts.answers ∙ (begins.answers ∙ i.answers);
       share = share_trans c.args.pass.now.view c.restart.new.pass.view c.try_once.new.pass.view
           (share_trans c.args.pass.now.view l.pass.view c.restart.new.pass.view i.share begins.share) halts.share;
       stops = halts.stops;
@@ -74,7 +73,6 @@ loop-round-init g c =
       label = search rules;
       sight = c.begin.ensures.sees;
       ledger = search rules;
-      answers = search rules;
       share = start.share;
       stops = search rules;
       noted = lets_none_go c.args.table.now.plan c.begin.new.pass start.root.no_card;
@@ -194,7 +192,7 @@ returns-in-Answered-clause-ends g c =
     let begins = c.restart.ensures.begins c.args.op i.stops.busy (λ none. i.root (eqb-true l.round 0 none)) in
     let begun = begun_meets (way_of c.args.op l.pass.view) a l.pass.view c.restart.new.pass.view i.meets i.way begins.hindrances begins.knows in (
       answers_begun c.args.table.now c.args.op _ c.args.pass.now l.pass c.restart.new.pass c.try_once.new.pass (begins.table ∙ i.table) (begins.label ∙ i.label)
-          (begins.ledger ∙ i.ledger) (begins.answers ∙ i.answers) (share_trans a l.pass.view c.restart.new.pass.view i.share begins.share) i.sight c.restart.ensures.sight c.in-Answered.ensures.ends.0,
+          (begins.ledger ∙ i.ledger) (share_trans a l.pass.view c.restart.new.pass.view i.share begins.share) i.sight c.restart.ensures.sight c.in-Answered.ensures.ends.0,
       meets_trans a c.restart.new.pass.view c.try_once.new.pass.view begun c.in-Answered.ensures.ends.1,
     )
 
@@ -210,20 +208,20 @@ returns-in-Spent-clause-ends g c =
     let lays = c.leave.ensures.lays op halts.stops.busy in
     let begun = begun_meets (way_of op l.pass.view) a l.pass.view c.restart.new.pass.view i.meets i.way begins.hindrances begins.knows in
     let met = meets_trans a c.restart.new.pass.view tried begun halts.meets in
-    let kept = share_trans a l.pass.view c.restart.new.pass.view i.share begins.share in (
+    let kept = share_trans a l.pass.view c.restart.new.pass.view i.share begins.share in
+    let sees = sees_none op c.args.pass.now.sight l.pass.sight c.leave.new.pass.sight i.sight (lays.sight ∙ (halts.sight ∙ c.restart.ensures.sight)) in (
       record {
         table = search rules;
         label = search rules;
         ledger = search rules;
-        answered = ap (λ l. length (own_calls l)) (lays.answers ∙ (halts.answers ∙ (begins.answers ∙ i.answers)));
-        called = lays.answers ∙ (halts.answers ∙ (begins.answers ∙ i.answers));
+        answered = ap (λ (l : List Act). length l) sees.mine;
         share = share_trans a tried c.leave.new.pass.view (share_trans a c.restart.new.pass.view tried kept halts.share) lays.share;
         would = would_before op c.args.pass.now c.restart.new.pass (begins.ledger ∙ i.ledger) halts.would;
         nothing = laid_down_last_changes_nothing c.args.table.now.plan c.leave.new.pass.view op lays.laid;
         idle = lays.idle;
         outside = lays.outside;
         no_card = lays.no_card;
-        sees = sees_none op c.args.pass.now.sight l.pass.sight c.leave.new.pass.sight i.sight (lays.sight ∙ (halts.sight ∙ c.restart.ensures.sight));
+        sees = sees;
       },
       still_none c.args.table.now.plan op c.try_once.new.pass c.leave.new.pass lays.next lays.sought lays.safe lays.took c.in-Spent.ensures.ends.1,
       begun_meets (way_of op tried) a tried c.leave.new.pass.view met halts.way lays.hindrances lays.knows,
@@ -237,20 +235,20 @@ returns-clause-ends g c =
     let op = c.args.op in
     let lays = c.leave-2.ensures.lays op i.stops.busy in
     let all : l.round ≡ c.args.tries = omega (arith, c.loop-round-test.false, l.auto.round-end) in
+    let sees = sees_none op c.args.pass.now.sight l.pass.sight c.leave-2.new.pass.sight i.sight lays.sight in
     let n = begun_count (way_of op l.pass.view) l.pass.view c.leave-2.new.pass.view lays.hindrances in (
       record {
         table = search rules;
         label = search rules;
         ledger = search rules;
-        answered = ap (λ l. length (own_calls l)) (lays.answers ∙ i.answers);
-        called = lays.answers ∙ i.answers;
+        answered = ap (λ (l : List Act). length l) sees.mine;
         share = share_trans a l.pass.view c.leave-2.new.pass.view i.share lays.share;
         would = i.would (omega (arith, all, c.requires.tries));
         nothing = laid_down_last_changes_nothing c.args.table.now.plan c.leave-2.new.pass.view op lays.laid;
         idle = lays.idle;
         outside = lays.outside;
         no_card = lays.no_card;
-        sees = sees_none op c.args.pass.now.sight l.pass.sight c.leave-2.new.pass.sight i.sight lays.sight;
+        sees = sees;
       },
       omega (arith, all, n, i.hindrances),
       begun_meets (way_of op l.pass.view) a l.pass.view c.leave-2.new.pass.view i.meets i.way lays.hindrances lays.knows,
@@ -262,7 +260,7 @@ returns-in-Answered-clause-takes g c =
     let l = c.loop-round in
     let i = l.invariant in
     let begins = c.restart.ensures.begins c.args.op i.stops.busy (λ none. i.root (eqb-true l.round 0 none)) in
-    takes_before_it c.args.table.now c.args.op c.in-Answered.had c.args.pass.now c.restart.new.pass c.try_once.new.pass (begins.ledger ∙ i.ledger) (begins.answers ∙ i.answers)
+    takes_before_it c.args.table.now c.args.op c.in-Answered.had c.args.pass.now l.pass c.restart.new.pass c.try_once.new.pass (begins.ledger ∙ i.ledger) i.sight c.restart.ensures.sight
     c.in-Answered.ensures.takes
 
 pub returns-in-Answered-clause-cards : goal.returns-in-Answered-clause-cards

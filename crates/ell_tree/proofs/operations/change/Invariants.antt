@@ -22,7 +22,6 @@ invariant-loop-round g l = record {
   label : l.pass.label ≡ l.fn.pass.label;
   sight : SeesBegin l.op l.fn.pass.sight l.pass.sight;
   ledger : l.pass.view.worker.ledger ≡ l.fn.pass.view.worker.ledger;
-  answers : l.pass.view.answers ≡ l.fn.pass.view.answers;
   share : SameShare l.fn.pass.view l.pass.view;
   stops : Stops l.op l.pass.view;
   noted : LetsGo l.table.plan l.pass;

@@ -3,8 +3,8 @@ use Rattle.ell_word.specs.Link.{linked}
 use Rattle.ell_word.specs.Node.{IsInternal}
 use Rattle.ell_layout.specs.Words.{IsLeaf}
 use Rattle.ell_cards.proofs.lemmas.views.Afters.{after_look, after_key_of, after_value_of}
-use Rattle.ell_tree.proofs.lemmas.Counts.{look_uncounted, uncounted_one, uncounted_trans}
-use Rattle.ell_tree.proofs.lemmas.Looks.{comes_alone, comes_first, met_still, may_down, comes_down, down_deeper, found_none, only_none, found_some, only_some, one_none, one_some, key_only, reads_mine}
+use Rattle.ell_tree.proofs.lemmas.Counts.{look_uncounted, uncounted_looked, uncounted_one, uncounted_trans}
+use Rattle.ell_tree.proofs.lemmas.Looks.{comes_alone, comes_first, met_still, may_down, comes_down, down_deeper, found_none, only_none, found_some, only_some, one_none, one_some, key_only, reads_mine, saw_none, saw_some}
 use Rattle.ell_tree.proofs.lemmas.Links.{node_same}
 use Rattle.ell_ops.specs.Meaning.{greatest_key}
 use Rattle.ell_cards.specs.declared.glance.Glance.{Glance}
@@ -36,26 +36,26 @@ loop-pass-init g c =
     record {
       comes = comes_alone c.args.table.now.plan c.args.pass.now f.new.pass c.args.key f.result.node 0 (greatest_key + 1) true
           (comes_first c.args.table.now.plan c.args.pass.now f.new.pass c.args.key (linked f.result) f.result.node
-          (node_same f.result f.ensures.word) c.requires.real f.ensures.step f.ensures.shallow f.ensures.there);
+          (node_same f.result f.ensures.word) c.requires.real f.ensures.step f.ensures.looks f.ensures.shallow f.ensures.there);
       uncounted = look_uncounted c.args.table.now.plan.slots c.args.pass.now f.new.pass (after_look (linked f.result) c.args.pass.now.view) f.ensures.step refl;
     }
 
-pub key_of-node_key-requires-clause-own : goal.key_of-node_key-requires-clause-own
-key_of-node_key-requires-clause-own g c = c.loop-pass.invariant.comes.only.table ∙ c.requires.may.0
+pub look_key-node_key-requires-clause-own : goal.look_key-node_key-requires-clause-own
+look_key-node_key-requires-clause-own g c = c.loop-pass.invariant.comes.only.table ∙ c.requires.may.0
 
-pub key_of-node_key-requires-clause-met : goal.key_of-node_key-requires-clause-met
-key_of-node_key-requires-clause-met g c = c.loop-pass.invariant.comes.met
+pub look_key-node_key-requires-clause-met : goal.look_key-node_key-requires-clause-met
+look_key-node_key-requires-clause-met g c = c.loop-pass.invariant.comes.met
 
 pub look_down-child-requires-clause-own : goal.look_down-child-requires-clause-own
 look_down-child-requires-clause-own g c =
     let l = c.loop-pass in
-    let k = c.key_of-node_key in
+    let k = c.look_key-node_key in
     (key_only l.pass k.new.pass l.node k.result k.ensures.step).table ∙ (l.invariant.comes.only.table ∙ c.requires.may.0)
 
 pub look_down-child-requires-clause-may : goal.look_down-child-requires-clause-may
 look_down-child-requires-clause-may g c =
     let l = c.loop-pass in
-    let k = c.key_of-node_key in
+    let k = c.look_key-node_key in
     let inner : IsInternal l.node = search rules in
     subst (λ h. MayLookDown (flat_from c.args.table.now.plan) k.new.pass.view h (alone c.args.key) (nat_le k.result c.args.key)) (sym c.at.ensures)
     (may_down c.args.table.now.plan c.args.pass.now l.pass k.new.pass c.args.key (glance l.node c.args.key) k.result l.invariant.comes k.ensures.step inner (alone c.args.key)
@@ -65,7 +65,7 @@ pub loop-pass-smaller : goal.loop-pass-smaller
 loop-pass-smaller g c =
     let d = c.look_down-child in
     let l = c.loop-pass in
-    let k = c.key_of-node_key in
+    let k = c.look_key-node_key in
     let inner : IsInternal l.node = search rules in
     let room = l.invariant.comes.shallow.inner inner in
     let says = node_same d.result d.ensures.word in
@@ -77,7 +77,7 @@ loop-pass-smaller g c =
 pub loop-pass-preserved : goal.loop-pass-preserved
 loop-pass-preserved g c =
     let l = c.loop-pass in
-    let k = c.key_of-node_key in
+    let k = c.look_key-node_key in
     let d = c.look_down-child in
     let inner : IsInternal l.node = search rules in
     record {
@@ -86,20 +86,20 @@ loop-pass-preserved g c =
           (subst (λ h. Sees k.new.pass d.new.pass (after_look_down h (alone c.args.key) (nat_le k.result c.args.key) (linked d.result) k.new.pass.view)) c.at.ensures d.ensures.step)
           inner d.ensures.shallow d.ensures.there (omega arith) (omega arith) (let real = c.requires.real in omega arith);
       uncounted = uncounted_trans c.args.pass.now l.pass d.new.pass l.steps 2 l.invariant.uncounted
-          (uncounted_trans l.pass k.new.pass d.new.pass 1 1 (uncounted_one l.pass k.new.pass (after_key_of l.node k.result l.pass.view) k.ensures.step refl)
+          (uncounted_trans l.pass k.new.pass d.new.pass 1 1 (uncounted_looked l.pass k.new.pass (after_key_of l.node k.result l.pass.view) k.ensures.step refl)
           (uncounted_one k.new.pass d.new.pass _ d.ensures.step refl));
     }
 
-pub key_of-leaf_key-requires-clause-own : goal.key_of-leaf_key-requires-clause-own
-key_of-leaf_key-requires-clause-own g c = c.loop-pass.invariant.comes.only.table ∙ c.requires.may.0
+pub look_key-leaf_key-requires-clause-own : goal.look_key-leaf_key-requires-clause-own
+look_key-leaf_key-requires-clause-own g c = c.loop-pass.invariant.comes.only.table ∙ c.requires.may.0
 
-pub key_of-leaf_key-requires-clause-met : goal.key_of-leaf_key-requires-clause-met
-key_of-leaf_key-requires-clause-met g c = c.loop-pass.invariant.comes.met
+pub look_key-leaf_key-requires-clause-met : goal.look_key-leaf_key-requires-clause-met
+look_key-leaf_key-requires-clause-met g c = c.loop-pass.invariant.comes.met
 
 pub returns-then-leaf_key-key-clause-found : goal.returns-then-leaf_key-key-clause-found
 returns-then-leaf_key-key-clause-found g c =
     let l = c.loop-pass in
-    let k = c.key_of-leaf_key in
+    let k = c.look_key-leaf_key in
     let outer : IsLeaf l.node = search rules in
     let other : k.result ≢ c.args.key = search rules in
     found_none c.args.table.now.plan c.args.pass.now l.pass k.new.pass c.args.key (glance l.node c.args.key) k.result l.invariant.comes k.ensures.step outer other
@@ -107,26 +107,26 @@ returns-then-leaf_key-key-clause-found g c =
 pub returns-then-leaf_key-key-clause-only : goal.returns-then-leaf_key-key-clause-only
 returns-then-leaf_key-key-clause-only g c =
     let l = c.loop-pass in
-    let k = c.key_of-leaf_key in
+    let k = c.look_key-leaf_key in
     only_none c.args.table.now.plan c.args.pass.now l.pass k.new.pass c.args.key (glance l.node c.args.key) k.result l.invariant.comes k.ensures.step
 
-pub value_of-requires-clause-own : goal.value_of-requires-clause-own
-value_of-requires-clause-own g c =
+pub look_value-requires-clause-own : goal.look_value-requires-clause-own
+look_value-requires-clause-own g c =
     let l = c.loop-pass in
-    let k = c.key_of-leaf_key in
+    let k = c.look_key-leaf_key in
     (key_only l.pass k.new.pass l.node k.result k.ensures.step).table ∙ (l.invariant.comes.only.table ∙ c.requires.may.0)
 
-pub value_of-requires-clause-met : goal.value_of-requires-clause-met
-value_of-requires-clause-met g c =
+pub look_value-requires-clause-met : goal.look_value-requires-clause-met
+look_value-requires-clause-met g c =
     let l = c.loop-pass in
-    let k = c.key_of-leaf_key in
+    let k = c.look_key-leaf_key in
     met_still c.args.table.now.plan c.args.pass.now l.pass k.new.pass c.args.key (glance l.node c.args.key) k.result l.invariant.comes k.ensures.step
 
 pub returns-clause-found : goal.returns-clause-found
 returns-clause-found g c =
     let l = c.loop-pass in
-    let k = c.key_of-leaf_key in
-    let v = c.value_of in
+    let k = c.look_key-leaf_key in
+    let v = c.look_value in
     let outer : IsLeaf l.node = search rules in
     let same : k.result ≡ c.args.key = search rules in
     found_some c.args.table.now.plan c.args.pass.now l.pass k.new.pass c.args.key (glance l.node c.args.key) k.result l.invariant.comes k.ensures.step
@@ -135,29 +135,43 @@ returns-clause-found g c =
 pub returns-clause-only : goal.returns-clause-only
 returns-clause-only g c =
     let l = c.loop-pass in
-    let k = c.key_of-leaf_key in
-    let v = c.value_of in
+    let k = c.look_key-leaf_key in
+    let v = c.look_value in
     only_some c.args.table.now.plan c.args.pass.now l.pass k.new.pass c.args.key (glance l.node c.args.key) k.result l.invariant.comes k.ensures.step
+    v.new.pass v.result v.ensures.step
+
+pub returns-then-leaf_key-key-clause-saw : goal.returns-then-leaf_key-key-clause-saw
+returns-then-leaf_key-key-clause-saw g c =
+    let l = c.loop-pass in
+    let k = c.look_key-leaf_key in
+    saw_none c.args.table.now.plan c.args.pass.now l.pass k.new.pass c.args.key (glance l.node c.args.key) k.result l.invariant.comes k.ensures.step
+
+pub returns-clause-saw : goal.returns-clause-saw
+returns-clause-saw g c =
+    let l = c.loop-pass in
+    let k = c.look_key-leaf_key in
+    let v = c.look_value in
+    saw_some c.args.table.now.plan c.args.pass.now l.pass k.new.pass c.args.key (glance l.node c.args.key) k.result l.invariant.comes k.ensures.step
     v.new.pass v.result v.ensures.step
 
 pub returns-then-leaf_key-key-clause-one : goal.returns-then-leaf_key-key-clause-one
 returns-then-leaf_key-key-clause-one g c =
     let l = c.loop-pass in
-    let k = c.key_of-leaf_key in
+    let k = c.look_key-leaf_key in
     one_none c.args.table.now.plan c.args.pass.now l.pass k.new.pass c.args.key (glance l.node c.args.key) k.result l.invariant.comes k.ensures.step
 
 pub returns-clause-one : goal.returns-clause-one
 returns-clause-one g c =
     let l = c.loop-pass in
-    let k = c.key_of-leaf_key in
-    let v = c.value_of in
+    let k = c.look_key-leaf_key in
+    let v = c.look_value in
     one_some c.args.table.now.plan c.args.pass.now l.pass k.new.pass c.args.key (glance l.node c.args.key) k.result l.invariant.comes k.ensures.step
     v.new.pass v.result v.ensures.step
 
 pub returns-then-leaf_key-key-clause-mine : goal.returns-then-leaf_key-key-clause-mine
 returns-then-leaf_key-key-clause-mine g c =
     let l = c.loop-pass in
-    let k = c.key_of-leaf_key in
+    let k = c.look_key-leaf_key in
     let outer : IsLeaf l.node = search rules in
     let other : k.result ≢ c.args.key = search rules in
     reads_mine c.args.pass.now k.new.pass c.args.key None k.ensures.looked
@@ -167,8 +181,8 @@ returns-then-leaf_key-key-clause-mine g c =
 pub returns-clause-mine : goal.returns-clause-mine
 returns-clause-mine g c =
     let l = c.loop-pass in
-    let k = c.key_of-leaf_key in
-    let v = c.value_of in
+    let k = c.look_key-leaf_key in
+    let v = c.look_value in
     let outer : IsLeaf l.node = search rules in
     let same : k.result ≡ c.args.key = search rules in
     reads_mine c.args.pass.now v.new.pass c.args.key (Some v.result) v.ensures.looked
@@ -180,18 +194,18 @@ returns-clause-mine g c =
 pub returns-then-leaf_key-key-clause-uncounted : goal.returns-then-leaf_key-key-clause-uncounted
 returns-then-leaf_key-key-clause-uncounted g c =
     let l = c.loop-pass in
-    let k = c.key_of-leaf_key in
+    let k = c.look_key-leaf_key in
     uncounted_trans c.args.pass.now l.pass k.new.pass l.steps 1 l.invariant.uncounted
-    (uncounted_one l.pass k.new.pass (after_key_of l.node k.result l.pass.view) k.ensures.step refl)
+    (uncounted_looked l.pass k.new.pass (after_key_of l.node k.result l.pass.view) k.ensures.step refl)
 
 pub returns-clause-uncounted : goal.returns-clause-uncounted
 returns-clause-uncounted g c =
     let l = c.loop-pass in
-    let k = c.key_of-leaf_key in
-    let v = c.value_of in
+    let k = c.look_key-leaf_key in
+    let v = c.look_value in
     uncounted_trans c.args.pass.now l.pass v.new.pass l.steps 2 l.invariant.uncounted
-    (uncounted_trans l.pass k.new.pass v.new.pass 1 1 (uncounted_one l.pass k.new.pass (after_key_of l.node k.result l.pass.view) k.ensures.step refl)
-    (uncounted_one k.new.pass v.new.pass (after_value_of l.node v.result k.new.pass.view) v.ensures.step refl))
+    (uncounted_trans l.pass k.new.pass v.new.pass 1 1 (uncounted_looked l.pass k.new.pass (after_key_of l.node k.result l.pass.view) k.ensures.step refl)
+    (uncounted_looked k.new.pass v.new.pass (after_value_of l.node v.result k.new.pass.view) v.ensures.step refl))
 
 pub overflow_add-result : goal.overflow_add-result
 overflow_add-result g c =

@@ -7,10 +7,11 @@ use Rattle.ell_cards.specs.declared.glance.Glance.{Glance}
 use Rattle.ell_cards.specs.Models.{flat_from}
 use Rattle.ell_cards.specs.Looking.{HasFoundBetween}
 use Rattle.ell_cards.proofs.lemmas.views.Afters.{after_look, after_key_of}
-use Rattle.ell_tree.proofs.lemmas.Counts.{look_uncounted, uncounted_one, uncounted_trans}
+use Rattle.ell_tree.proofs.lemmas.Counts.{look_uncounted, uncounted_looked, uncounted_one, uncounted_trans}
 use Rattle.ell_tree.proofs.lemmas.Links.{node_same}
 use Rattle.ell_tree.proofs.lemmas.Cursors.{come_on, found_between}
-use Rattle.ell_tree.proofs.lemmas.Looks.{Comes, comes_first, comes_down, found_beside, may_down, only_none}
+use Rattle.ell_tree.proofs.lemmas.Looks.{Comes, comes_first, comes_down, found_beside, may_down, only_none, saw_none}
+use Rattle.ell_tree.proofs.lemmas.LookPlaces.{saw_on}
 use Rattle.ell_tree.proofs.reading.walk_about.Goals as goal
 use Rattle.ell_tree.proofs.reading.walk_about.Goals.{else-has_block-via-then-has_block+else-not-is_in_block, else-has_block-via-else-has_block}
 
@@ -19,7 +20,7 @@ loop-pass-init g c =
     let f = c.look-first in
     record {
       comes = comes_first c.args.table.now.plan c.args.pass.now f.new.pass c.args.key (linked f.result) f.result.node
-          (node_same f.result f.ensures.word) c.requires.real f.ensures.step f.ensures.shallow f.ensures.there;
+          (node_same f.result f.ensures.word) c.requires.real f.ensures.step f.ensures.looks f.ensures.shallow f.ensures.there;
       whole = refl;
       uncounted = look_uncounted c.args.table.now.plan.slots c.args.pass.now f.new.pass (after_look (linked f.result) c.args.pass.now.view) f.ensures.step refl;
     }
@@ -28,7 +29,7 @@ pub returns-then-not-is_in_block-clause-found : goal.returns-then-not-is_in_bloc
 returns-then-not-is_in_block-clause-found g c =
     let plan = c.args.table.now.plan in
     let l = c.loop-pass in
-    let k = c.key_of-node_key in
+    let k = c.look_key-node_key in
     let b = c.beside_block in
     let inner : IsInternal l.here.node = search rules in
     let has : has_block (flat_from plan) l.here.node ≡ true = search rules in
@@ -39,13 +40,25 @@ returns-then-not-is_in_block-clause-found g c =
 pub returns-then-not-is_in_block-clause-only : goal.returns-then-not-is_in_block-clause-only
 returns-then-not-is_in_block-clause-only g c =
     let l = c.loop-pass in
-    let k = c.key_of-node_key in
+    let k = c.look_key-node_key in
     only_none c.args.table.now.plan c.args.pass.now l.pass k.new.pass c.args.key l.here k.result l.invariant.comes k.ensures.step
+
+pub returns-then-not-is_in_block-clause-saw : goal.returns-then-not-is_in_block-clause-saw
+returns-then-not-is_in_block-clause-saw g c =
+    let l = c.loop-pass in
+    let k = c.look_key-node_key in
+    saw_none c.args.table.now.plan c.args.pass.now l.pass k.new.pass c.args.key l.here k.result l.invariant.comes k.ensures.step
+
+pub returns-clause-saw : goal.returns-clause-saw
+returns-clause-saw g c =
+    let l = c.loop-pass in
+    let f = c.found_at-at_the_leaf in
+    saw_on c.args.pass.now.sight l.pass.sight f.new.pass.sight l.invariant.comes.saw f.ensures.on.sees
 
 pub look_down-child-requires-clause-may : goal.look_down-child-requires-clause-may
 look_down-child-requires-clause-may g c =
     let l = c.loop-pass in
-    let k = c.key_of-node_key in
+    let k = c.look_key-node_key in
     let inner : IsInternal l.here.node = search rules in
     may_down c.args.table.now.plan c.args.pass.now l.pass k.new.pass c.args.key l.here k.result l.invariant.comes k.ensures.step inner c.keys_below-keys.result
     (nat_le k.result c.args.key) (c.keys_below-keys.ensures.goes l.invariant.whole)
@@ -54,7 +67,7 @@ pub loop-pass-preserved : goal.loop-pass-preserved
 loop-pass-preserved g c =
     let plan = c.args.table.now.plan in
     let l = c.loop-pass in
-    let k = c.key_of-node_key in
+    let k = c.look_key-node_key in
     let d = c.look_down-child in
     let keys = c.keys_below-keys in
     let inner : IsInternal l.here.node = search rules in
@@ -71,7 +84,7 @@ loop-pass-preserved g c =
           within.0 within.1 (omega (arith, keys.ensures.high, real)));
       whole = ap (λ (h : Glance). h.whole) c.at-here.ensures ∙ keys.ensures.whole;
       uncounted = uncounted_trans c.args.pass.now l.pass d.new.pass l.steps 2 l.invariant.uncounted
-          (uncounted_trans l.pass k.new.pass d.new.pass 1 1 (uncounted_one l.pass k.new.pass (after_key_of l.here.node k.result l.pass.view) k.ensures.step refl)
+          (uncounted_trans l.pass k.new.pass d.new.pass 1 1 (uncounted_looked l.pass k.new.pass (after_key_of l.here.node k.result l.pass.view) k.ensures.step refl)
           (uncounted_one k.new.pass d.new.pass _ d.ensures.step refl));
     }
 

@@ -3,7 +3,7 @@ use Rattle.ell_ops.specs.declared.op.Op.TheVariants.{Delete, Find}
 use Rattle.ell_ops.specs.declared.reply.Reply.TheVariants.{Yes}
 use Rattle.ell_ops.specs.Meaning.{found}
 use Rattle.ell_cards.proofs.lemmas.runs.Tries.{more_tries}
-use Rattle.ell_tree.specs.Called.{IsTakeCalled}
+use Rattle.ell_tree.specs.Called.{SeesTake}
 use Rattle.ell_tree.specs.Computing.{Concludes, IsUntouched, round_steps_in}
 use Rattle.ell_tree.specs.Ends.{Answers, LaidDown, NoneIsLeft, TakesValue, find_steps}
 use Rattle.ell_tree.specs.Ledgers.{Owns, present_in}
@@ -128,7 +128,7 @@ returns-in-Ok-Done-clause-removes g c =
     let l = c.loop-round in
     let new = c.remove_or_read.new.pass in
     let that : l.there ≡ Some was = is_that was l.there (search rules) in
-    let done : Answers t (Delete key) Yes l.pass new × TakesValue t key l.pass new (Some was) × IsTakeCalled key l.pass new (Ok (Some was)) = search rules in
+    let done : Answers t (Delete key) Yes l.pass new × TakesValue t key l.pass new (Some was) × SeesTake key l.pass new (Ok (Some was)) = search rules in
     removes t key was l.there c.args.pass.now l.pass new that l.invariant.untouched done.0 done.1 done.2
 
 -- no card was left

@@ -3,11 +3,9 @@ use Rattle.ell_ops.specs.declared.op.Op.TheVariants.{Delete}
 use Rattle.ell_ops.specs.declared.reply.Reply.TheVariants.{Yes}
 use Rattle.ell_ops.specs.Meaning.{yes_if}
 use Rattle.ell_cards.proofs.lemmas.runs.Tries.{more_tries}
-use Rattle.ell_tree.specs.Called.{IsTakeCalled}
 use Rattle.ell_tree.specs.Ends.{AnswersAs, TakesValue, is_value}
 use Rattle.ell_tree.specs.Searches.{there_at}
 use Rattle.ell_tree.specs.declared.trying.Tried.TheVariants.{Hindered, Spent}
-use Rattle.ell_tree.proofs.lemmas.Called.{take_before}
 use Rattle.ell_tree.proofs.lemmas.Claiming.{still_none}
 use Rattle.ell_tree.proofs.lemmas.Computing.{untouched_still}
 use Rattle.ell_tree.proofs.lemmas.Hindrances.{halts_hindered, one_hindered}
@@ -18,7 +16,7 @@ use Rattle.ell_tree.proofs.lemmas.Owning.{answers_begun, keeps_answers, takes_be
 use Rattle.ell_tree.proofs.lemmas.Removing.{at_that, halts_laid, not_at}
 use Rattle.ell_tree.proofs.lemmas.Trying.{searched, ends_after}
 use Rattle.ell_cards.specs.Seeing.{SeesEnd}
-use Rattle.ell_tree.proofs.lemmas.Sights.{sees_none}
+use Rattle.ell_tree.proofs.lemmas.Sights.{sees_call, sees_none}
 use Rattle.ell_tree.proofs.removing.remove_once.Goals as goal
 
 pub delete_at-requires-clause-searched : goal.delete_at-requires-clause-searched
@@ -48,7 +46,7 @@ returns-then-not-is_value-clause-removes g c =
     let lays = c.leave.ensures.lays (Delete c.args.key) (keeps.view.operation ∙ begins.root.busy) in
     let other : is_value c.args.was (there_at s.result c.args.key) ≡ false = search rules in (
       untouched_still a new (lays.table ∙ (keeps.table ∙ begins.table)) (lays.label ∙ (keeps.label ∙ begins.label))
-          (lays.ledger ∙ (keeps.view.ledger ∙ begins.ledger)) (lays.answers ∙ (keeps.view.answers ∙ begins.answers))
+          (lays.ledger ∙ (keeps.view.ledger ∙ begins.ledger))
           (share_trans a.view s.new.pass.view new.view (share_trans a.view c.begin.new.pass.view s.new.pass.view begins.share keeps.view.share) lays.share) lays.idle lays.outside
           (sees_none (Delete c.args.key) a.sight c.begin.new.pass.sight new.sight c.begin.ensures.sees (lays.sight ∙ keeps.sight)),
       not_at c.args.table.now.plan a s.new.pass s.result c.args.key c.args.was (keeps.view.ledger ∙ begins.ledger) s.ensures.ends other,
@@ -101,11 +99,11 @@ returns-in-Answered-clause-removes g c =
     let that : is_value c.args.was (there_at s.result key) ≡ true = search rules in
     let had : c.in-Answered.field-0 ≡ Some c.args.was = c.in-Answered.ensures.value ∙ ap Some (at_that s.result key c.args.was that).1 in
     let yes : AnswersAs SeesEnd t op Yes s.new.pass d = subst (λ o. AnswersAs SeesEnd t op (yes_if (is_some o)) s.new.pass d) had c.in-Answered.ensures.ends.0 in
-    let took : TakesValue t key s.new.pass d (Some c.args.was) × IsTakeCalled key s.new.pass d (Ok (Some c.args.was)) =
-    subst (λ o. TakesValue t key s.new.pass d o × IsTakeCalled key s.new.pass d (Ok o)) had c.in-Answered.ensures.took in (
-      answers_begun t op Yes a b b d begins.table begins.label begins.ledger begins.answers begins.share c.begin.ensures.sees refl (keeps_answers t op Yes b s.new.pass d _ keeps yes),
+    let took : TakesValue t key s.new.pass d (Some c.args.was) × SeesEnd op Yes (Some c.args.was) s.new.pass.sight d.sight =
+    subst (λ o. TakesValue t key s.new.pass d o × SeesEnd op (yes_if (is_some o)) o s.new.pass.sight d.sight) had c.in-Answered.ensures.took in (
+      answers_begun t op Yes a b b d begins.table begins.label begins.ledger begins.share c.begin.ensures.sees refl (keeps_answers t op Yes b s.new.pass d _ keeps yes),
       takes_before t key (Some c.args.was) a s.new.pass d (keeps.view.ledger ∙ begins.ledger) took.0,
-      take_before key (Some c.args.was) a s.new.pass d (keeps.view.answers ∙ begins.answers) took.1,
+      sees_call op Yes (Some c.args.was) a.sight b.sight s.new.pass.sight d.sight c.begin.ensures.sees keeps.sight took.1,
     )
 
 -- no card was left, or something was in the way: so it was

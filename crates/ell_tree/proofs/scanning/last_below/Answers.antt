@@ -1,5 +1,6 @@
 use Rattle.std.proofs.Common.{arith, rules}
 use Rattle.ell_tree.proofs.lemmas.Scans.{descends_pair, descends_past, none_there, one_down, other_absent}
+use Rattle.ell_tree.proofs.lemmas.LookPlaces.{saw_on}
 use Rattle.ell_tree.proofs.lemmas.Stretching.{stretches_steps}
 use Rattle.ell_tree.proofs.scanning.last_below.Goals as goal
 use Rattle.ell_tree.proofs.scanning.last_below.Goals.{in_default-via-in-None-1, in_default-via-in-Some+else-key-below}
@@ -33,8 +34,17 @@ loop-below-preserved g c =
                 (λ same. let above = w.if-key-below.false in absurd (omega arith))
           ]);
       kept = about.ensures.kept;
+      places = λ some. about.ensures.places;
     }
 
 pub returns-clause-only : goal.returns-clause-only
 returns-clause-only g c =
     stretches_steps c.args.table.now.plan _ _ c.args.pass.now c.loop-below.pass c.loop-below.invariant.descends.stretches
+
+pub returns-in-loop-below-clause-saw : goal.returns-in-loop-below-clause-saw
+returns-in-loop-below-clause-saw g c =
+    let l = c.loop-below in
+    saw_on c.args.pass.now.sight l.pass.sight c.about-about.new.pass.sight l.invariant.descends.stretches.saw c.about-about.ensures.on.sees
+
+pub returns-clause-saw : goal.returns-clause-saw
+returns-clause-saw g c = c.loop-below.invariant.descends.stretches.saw

@@ -1,3 +1,5 @@
+use Rattle.std.proofs.Common.{◌<◌}
+use Rattle.ell_cards.specs.LookPlaces.{FindsHavePlaces}
 use Rattle.ell_tree.specs.Cursors.{AreKept}
 use Rattle.ell_tree.proofs.lemmas.Scans.{Descends}
 use Rattle.ell_tree.proofs.scanning.last_below.Given as goal
@@ -7,6 +9,7 @@ abbrev pub invariant-loop-below : goal.invariant-loop-below
 invariant-loop-below g l = record {
   descends : Descends l.table.plan l.fn.pass l.pass l.below l.upto;
   kept : AreKept l.table.plan.last_card l.pass.view l.cursor;
+  places : l.below < l.upto → FindsHavePlaces l.table.plan l.pass.view l.pass.sight;
 }
 
 -- it comes nearer to the first key

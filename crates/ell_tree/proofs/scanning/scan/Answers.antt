@@ -13,6 +13,7 @@ loop-at-preserved-then-key-upto g c =
           l.invariant.scans about.result c.loop-at-test.true c.requires.real about.ensures.found about.ensures.fixed about.ensures.on
           (record { key = c.in-Some.key; value = c.in-Some.value }) c.in-Some.is c.if-at-key.true c.if-key-upto.true c.if-count-room.true;
       kept = about.ensures.kept;
+      places = λ some. about.ensures.places;
     }
 
 pub loop-at-preserved : goal.loop-at-preserved
@@ -30,6 +31,7 @@ loop-at-preserved g c =
                 (λ same. let past = w.if-key-upto.false in absurd (omega arith))
           ]);
       kept = about.ensures.kept;
+      places = λ some. about.ensures.places;
     }
 
 pub returns-then-at-upto-clause-only : goal.returns-then-at-upto-clause-only
@@ -39,3 +41,9 @@ returns-then-at-upto-clause-only g c =
 pub returns-else-at-upto-clause-only : goal.returns-else-at-upto-clause-only
 returns-else-at-upto-clause-only g c =
     stretches_steps c.args.table.now.plan _ _ c.args.pass.now c.loop-at.pass c.loop-at.invariant.scans.stretches
+
+pub returns-then-at-upto-clause-saw : goal.returns-then-at-upto-clause-saw
+returns-then-at-upto-clause-saw g c = c.loop-at.invariant.scans.stretches.saw
+
+pub returns-else-at-upto-clause-saw : goal.returns-else-at-upto-clause-saw
+returns-else-at-upto-clause-saw g c = c.loop-at.invariant.scans.stretches.saw

@@ -1,4 +1,5 @@
-use Rattle.std.proofs.Common.{◌-◌}
+use Rattle.std.proofs.Common.{◌-◌, ◌<◌}
+use Rattle.ell_cards.specs.LookPlaces.{FindsHavePlaces}
 use Rattle.ell_tree.specs.Cursors.{AreKept}
 use Rattle.ell_tree.proofs.lemmas.Scans.{Scans}
 use Rattle.ell_tree.proofs.scanning.scan.Given as goal
@@ -8,6 +9,7 @@ abbrev pub invariant-loop-at : goal.invariant-loop-at
 invariant-loop-at g l = record {
   scans : Scans l.table.plan l.fn.pass l.pass l.from l.at l.upto l.count l.fn.room l.room;
   kept : AreKept l.table.plan.last_card l.pass.view l.cursor;
+  places : l.from < l.at → FindsHavePlaces l.table.plan l.pass.view l.pass.sight;
 }
 
 -- it comes nearer to the end of its range

@@ -9,7 +9,8 @@ use Rattle.ell_cards.specs.Memories.{SeatModel}
 use Rattle.ell_cards.specs.Shown.{shown}
 use Rattle.ell_cards.specs.Whole.{WordsAre}
 use Rattle.ell_cards.proofs.lemmas.whole.Calling.{tree_here}
-use Rattle.ell_cards.specs.Closed.{ClosedModel, TableEnds}
+use Rattle.ell_cards.proofs.lemmas.whole.Telling.{history_ends}
+use Rattle.ell_cards.specs.Closed.{ClosedModel, HistoryEnds, TableEnds}
 use Rattle.ell_cards.proofs.lemmas.runs.Ending.{ends}
 use Rattle.ell_cards.proofs.closed.CardTable+FixedMemory+A.close.Goals as goal
 
@@ -37,3 +38,18 @@ returns-clause-ends g c none =
     (subst (λ (p : PassModel). TableEnds plan p.view ended) c.pass.view_is
     (subst (λ (n : ℕ). TableEnds plan (shown v) (record { words = words; last_card = n })) number
     (subst (λ (l : List ℕ). TableEnds plan (shown v) (record { words = l; last_card = plan.last_card })) same there)))
+
+pub returns-clause-history : goal.returns-clause-history
+returns-clause-history g c none =
+    let plan = c.self.inside.table.table.shared.key in
+    let words = slots_items c.close_with.result.words in
+    let last = c.close_with.ensures.values.2 in
+    let whole_state = last.1.0 in
+    let none : plan.slots ≡ None = ap (λ (m : TableModel). m.plan.slots) c.self.view_is ∙ none in
+    let k = c.pass.inside.seat.me.0 in
+    let seat = subst (λ (m : SeatModel). get_elem? last.0.views m.id ≡ some m.me.0) c.seat.view_is last.1.1 in
+    let same : whole_state.tree.words ≡ words = sym (subst (λ o. WordsAre o last.0.words whole_state.tree.words) none whole_state.words) ∙ last.2 in
+    let there = history_ends plan last.0 whole_state c.pass.inside.seat.id k seat c.args.pass
+    (sym (ap (λ (p : PassModel). p.view) c.pass.view_is)) (sym (ap (λ (p : PassModel). p.sight) c.pass.view_is)) c.last_slot.result in
+    subst (λ (m : TableModel). HistoryEnds m.plan c.args.pass (record { words = words; last_card = c.last_slot.result })) c.self.view_is
+    (subst (λ (l : List ℕ). HistoryEnds plan c.args.pass (record { words = l; last_card = c.last_slot.result })) same there)

@@ -16,9 +16,6 @@ load_marked_as-found-requires-clause-keeps g c = taken_keeps c.args.self.now.pla
 pub returns-clause-tells : goal.returns-clause-tells
 returns-clause-tells g c = c.load_marked_as-found.ensures.told.tells
 
-pub returns-clause-values : goal.returns-clause-values
-returns-clause-values g c = c.load_marked_as-found.ensures.told.values
-
 pub returns-clause-step : goal.returns-clause-step
 returns-clause-step g c =
     c.count.ensures ∙ ap (λ (m : PassModel). record m { steps = some_more 1 m.steps }) (sees_on_by c.args.pass.now c.load_marked_as-found.new.pass _ c.load_marked_as-found.ensures.step c.load_marked_as-found.ensures.told.view)

@@ -21,9 +21,6 @@ returns-clause-looked g c = c.load_as.ensures.told.own
 pub returns-clause-fixed : goal.returns-clause-fixed
 returns-clause-fixed g c = c.load_as.ensures.told.fixed
 
-pub returns-clause-values : goal.returns-clause-values
-returns-clause-values g c = c.load_as.ensures.told.values
-
 pub returns-clause-named : goal.returns-clause-named
 returns-clause-named g c = c.load_as.ensures.told.named
 

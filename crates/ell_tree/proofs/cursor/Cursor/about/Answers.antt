@@ -7,8 +7,9 @@ use Rattle.ell_cards.specs.Models.{flat_from, PassModel}
 use Rattle.ell_cards.specs.declared.view.View.{View}
 use Rattle.ell_tree.specs.Cursors.{AreKept, FindsAbout}
 use Rattle.ell_tree.specs.Looks.{stretch_steps}
-use Rattle.ell_tree.proofs.lemmas.Counts.{counted_all, uncounted_none, uncounted_one, uncounted_trans}
+use Rattle.ell_tree.proofs.lemmas.Counts.{counted_all, uncounted_looked, uncounted_none, uncounted_one, uncounted_trans}
 use Rattle.ell_tree.proofs.lemmas.Cursors.{GoesDown, all_on, asked_shallow, finds_about, keeps_first, kept_on, goes_down, child_deeper, keeps_found, on_counted, key_on, kept_still, may_go_down, one_kept, stands_still}
+use Rattle.ell_tree.proofs.lemmas.LookPlaces.{places_counted}
 use Rattle.ell_tree.proofs.lemmas.Links.{node_same}
 use Rattle.ell_tree.proofs.cursor.Cursor.about.Goals as goal
 use Rattle.ell_tree.proofs.cursor.Cursor.about.Goals.{then-not-right, else-not-right}
@@ -26,7 +27,7 @@ loop-pass-init g c =
 pub look_down-child-requires-clause-may : goal.look_down-child-requires-clause-may
 look_down-child-requires-clause-may g c =
     let l = c.loop-pass in
-    let k = c.key_of-node_key in
+    let k = c.look_key-node_key in
     let inner : IsInternal l.here.node = search rules in
     let keys = c.on_side-keys in
     may_go_down c.args.table.now.plan.last_card c.args.pass.now l.pass k.new.pass c.args.key l.here l.self k.result l.invariant.keeps k.ensures.step
@@ -35,7 +36,7 @@ look_down-child-requires-clause-may g c =
 pub loop-pass-preserved : goal.loop-pass-preserved
 loop-pass-preserved g c =
     let l = c.loop-pass in
-    let k = c.key_of-node_key in
+    let k = c.look_key-node_key in
     let d = c.look_down-child in
     let cards = c.args.table.now.plan.last_card in
     let keys = c.on_side-keys in
@@ -54,14 +55,14 @@ loop-pass-preserved g c =
           (linked d.result) d.result.node c.if-not-right.self (node_same d.result d.ensures.word) d.ensures.step inner d.ensures.below d.ensures.there refl
           keys.ensures.low keys.ensures.high keys.ensures.apart kept);
       uncounted = uncounted_trans c.args.pass.now l.pass d.new.pass l.steps 2 l.invariant.uncounted
-          (uncounted_trans l.pass k.new.pass d.new.pass 1 1 (uncounted_one l.pass k.new.pass _ k.ensures.step refl) (uncounted_one k.new.pass d.new.pass _ d.ensures.step refl));
+          (uncounted_trans l.pass k.new.pass d.new.pass 1 1 (uncounted_looked l.pass k.new.pass _ k.ensures.step refl) (uncounted_one k.new.pass d.new.pass _ d.ensures.step refl));
     }
 
 pub loop-pass-smaller : goal.loop-pass-smaller
 loop-pass-smaller g c =
     let d = c.look_down-child in
     let l = c.loop-pass in
-    let k = c.key_of-node_key in
+    let k = c.look_key-node_key in
     let cards = c.args.table.now.plan.last_card in
     let inner : IsInternal l.here.node = search rules in
     let room = (asked_shallow (deepest c.args.table.now.plan) l.pass k.new.pass l.here.node k.result k.ensures.step (k.ensures.shallow l.here.node)).inner inner in
@@ -70,16 +71,16 @@ loop-pass-smaller g c =
     let is = ap (λ (h : Glance). depth_of d.new.pass.view h.node) c.at-here.ensures in
     omega arith
 
-pub key_of-node_key-requires-clause-own : goal.key_of-node_key-requires-clause-own
-key_of-node_key-requires-clause-own g c = c.loop-pass.invariant.keeps.on.only.table ∙ c.requires.own
+pub look_key-node_key-requires-clause-own : goal.look_key-node_key-requires-clause-own
+look_key-node_key-requires-clause-own g c = c.loop-pass.invariant.keeps.on.only.table ∙ c.requires.own
 
-pub key_of-node_key-requires-clause-met : goal.key_of-node_key-requires-clause-met
-key_of-node_key-requires-clause-met g c = c.loop-pass.invariant.keeps.stands.met
+pub look_key-node_key-requires-clause-met : goal.look_key-node_key-requires-clause-met
+look_key-node_key-requires-clause-met g c = c.loop-pass.invariant.keeps.stands.met
 
 pub look_down-child-requires-clause-own : goal.look_down-child-requires-clause-own
 look_down-child-requires-clause-own g c =
     let l = c.loop-pass in
-    let k = c.key_of-node_key in
+    let k = c.look_key-node_key in
     (key_on l.pass k.new.pass l.here.node k.result k.ensures.step).only.table ∙ (l.invariant.keeps.on.only.table ∙ c.requires.own)
 
 pub returns : goal.returns
@@ -97,6 +98,7 @@ returns g c =
       kept = subst (λ (v : View). AreKept cards v l.self) (sym view) (all_on cards l.pass f.new.pass 2 l.self f.ensures.on l.invariant.keeps.kept);
       fixed = subst KeysAreFixed (sym view) f.ensures.fixed;
       counted = counted_all c.args.pass.now f.new.pass c.count.new.self steps all c.count.ensures;
+      places = places_counted c.args.table.now.plan f.new.pass c.count.new.self steps c.count.ensures f.ensures.places;
       on = on_counted c.args.pass.now f.new.pass c.count.new.self (stretch_steps (deepest c.args.table.now.plan)) steps
           (keeps_found cards (deepest c.args.table.now.plan) c.args.pass.now l.pass f.new.pass c.args.key l.here l.self l.invariant.keeps f.ensures.shallow f.ensures.on) all c.count.ensures;
     }
@@ -111,7 +113,7 @@ pub overflow_add-steps : goal.overflow_add-steps
 overflow_add-steps g c =
     let l = c.loop-pass in
     let i = l.invariant in
-    let k = c.key_of-node_key in
+    let k = c.look_key-node_key in
     let room = c.facts_stay_inside.ensures.deep in
     let shallow = asked_shallow (deepest c.args.table.now.plan) l.pass k.new.pass l.here.node k.result k.ensures.step (k.ensures.shallow l.here.node) in
     omega (arith, i.uncounted.made, i.keeps.on.only.made, i.keeps.few, shallow.any, room)

@@ -10,7 +10,7 @@ use Rattle.ell_tree.proofs.cursor.Cursor.begin.Goals as goal
 
 pub returns-clause-begins : goal.returns-clause-begins
 returns-clause-begins g c =
-    begins_look c.args.table.now.plan.slots c.args.pass.now c.look-child.new.pass c.count.new.self (linked c.look-child.result) c.look-child.ensures.step c.count.ensures
+    begins_look c.args.table.now.plan.slots c.args.pass.now c.look-child.new.pass c.count.new.self (linked c.look-child.result) c.look-child.ensures.step c.look-child.ensures.looks c.count.ensures
 
 pub returns-clause-kept : goal.returns-clause-kept
 returns-clause-kept g c =

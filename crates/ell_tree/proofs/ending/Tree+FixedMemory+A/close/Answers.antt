@@ -1,8 +1,8 @@
 use Rattle.std.proofs.Common.{length, ap, ◌∙◌, subst, if◌then◌else◌, ◌+◌, ◌*◌}
-use Rattle.ell_cards.specs.Closed.{TableEnds}
+use Rattle.ell_cards.specs.Closed.{HistoryEnds, TableEnds}
 use Rattle.ell_cards.specs.Models.{last_slot_of}
 use Rattle.ell_tree.specs.Ledgers.{TreeModel}
-use Rattle.ell_tree.proofs.lemmas.Closing.{room_for, holds_keys, closes, of_thread}
+use Rattle.ell_tree.proofs.lemmas.Closing.{room_for, holds_keys, closes, of_history}
 use Rattle.ell_tree.proofs.ending.Tree+FixedMemory+A.close.Goals as goal
 
 pub pairs_of_tree-requires-clause-pairs_room : goal.pairs_of_tree-requires-clause-pairs_room
@@ -23,8 +23,9 @@ returns-clause-pairs g c =
     let cards = c.close-closed.ensures.cards ∙ (ap (λ o. last_slot_of o c.self.inside.table.plan.last_card) plain ∙ ap (λ (t : TreeModel). t.plan.last_card) c.self.view_is) in
     closes c.args.self c.args.pass c.close-closed.result ends c.requires.all c.pairs_of_tree.result.items c.pairs_of_tree.ensures cards
 
-pub returns-clause-thread : goal.returns-clause-thread
-returns-clause-thread g c =
+pub returns-clause-history : goal.returns-clause-history
+returns-clause-history g c =
     let plain = ap (λ (t : TreeModel). t.plan.slots) c.self.view_is ∙ c.requires.plain in
     let ends = subst (λ (t : TreeModel). TableEnds t.plan c.args.pass.view c.close-closed.result) c.self.view_is (c.close-closed.ensures.ends plain) in
-    of_thread c.args.self c.args.pass c.close-closed.result ends c.requires.all c.pairs_of_tree.result.items c.pairs_of_tree.ensures c.requires.may.1 c.requires.whole
+    let history = subst (λ (t : TreeModel). HistoryEnds t.plan c.args.pass c.close-closed.result) c.self.view_is (c.close-closed.ensures.history plain) in
+    of_history c.args.self c.args.pass c.close-closed.result ends c.requires.all c.pairs_of_tree.result.items c.pairs_of_tree.ensures history

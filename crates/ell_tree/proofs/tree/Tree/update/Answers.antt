@@ -1,10 +1,6 @@
 use Rattle.std.proofs.Common.{rules}
-use Rattle.ell_tree.proofs.lemmas.Computing.{updates_called, updates_seen}
+use Rattle.ell_tree.proofs.lemmas.Computing.{updates_seen}
 use Rattle.ell_tree.proofs.tree.Tree.update.Goals as goal
-
-pub returns-clause-called : goal.returns-clause-called
-returns-clause-called g c =
-    updates_called c.args.self.now c.args.key _ c.args.pass.now c.compute.new.pass c.in_ok-done.done.was (search rules)
 
 pub returns-clause-sees : goal.returns-clause-sees
 returns-clause-sees g c =

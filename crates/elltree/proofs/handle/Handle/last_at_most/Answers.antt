@@ -1,5 +1,9 @@
 use Rattle.std.proofs.Common.{◌≡◌, ◌+◌, ◌∙◌, ap, min, subst, arith, rules}
 use Rattle.ell_ops.specs.Meaning.{greatest_key}
+use Rattle.ell_ops.specs.Contents.{contents_of}
+use Rattle.ell_tree.specs.LookPlaces.{LastStands, SeesLast}
+use Rattle.elltree.specs.Handles.{tree_of}
+use Rattle.elltree.proofs.lemmas.Looking.{sees_ended}
 use Rattle.ell_tree.specs.Ledgers.{TreeModel}
 use Rattle.ell_tree.specs.Scans.{IsLastIn}
 use Rattle.elltree.specs.Calls.{real_end}
@@ -20,5 +24,9 @@ returns c =
       cards = said.ensures.cards;
       known = search rules;
       ends = search rules;
+      sees = sees_ended (LastStands (contents_of (tree_of c.args.self.now).plan.start) (real_end (c.args.key + 1)) said.result c.args.self.now.pass.sight) _ said.new.pass _ c.end_looks.ensures.ends
+          (subst (λ (t : TreeModel). SeesLast t (real_end (c.args.key + 1)) said.result c.args.self.now.pass said.new.pass) c.deref.ensures
+          (subst (λ e. SeesLast c.deref.result.now e said.result c.args.self.now.pass said.new.pass)
+          (ap (λ k. k + 1) c.min.ensures ∙ end) said.ensures.sees));
       tree = search rules;
     }

@@ -2,7 +2,11 @@ use Rattle.std.proofs.Common.{◌≡◌, ◌≤◌, ◌<◌, IfSome, length, sub
 use Rattle.ell_ops.specs.Contents.{contents_of}
 use Rattle.ell_tree.specs.Ledgers.{TreeModel}
 use Rattle.ell_tree.specs.Scans.{AreFoundIn, AreInOrder, end_of, written}
+use Rattle.ell_cards.specs.LookPlaces.{SeesEachFound}
+use Rattle.ell_tree.specs.LookPlaces.{SeesScan}
 use Rattle.elltree.specs.Calls.{real_end}
+use Rattle.elltree.specs.Handles.{tree_of}
+use Rattle.elltree.proofs.lemmas.Looking.{sees_ended}
 use Rattle.elltree.proofs.handle.Handle.scan.Goals as goal
 
 -- the scan ends at the end of the keys that there are
@@ -22,6 +26,9 @@ returns c =
         cards = said.ensures.cards;
         known = search rules;
         ends = search rules;
+        sees = λ some. sees_ended (SeesEachFound (contents_of (tree_of c.args.self.now).plan.start) from (end_of (real_end c.args.upto) said.result) (contents_of pairs) c.args.self.now.pass.sight) _ said.new.pass _ c.end_looks.ensures.ends
+            (subst (λ (t : TreeModel). SeesScan t from (end_of (real_end c.args.upto) said.result) (contents_of pairs) c.args.self.now.pass said.new.pass) c.deref.ensures
+            (subst (λ e. SeesScan c.deref.result.now from (end_of e said.result) (contents_of pairs) c.args.self.now.pass said.new.pass) end said.ensures.sees) some);
         tree = search rules;
       };
       ordered = subst (λ e. AreInOrder from (end_of e said.result) pairs) end said.ensures.ordered;
