@@ -5,10 +5,8 @@ use Rattle.ell_tree.specs.Models.{PassModel}
 use Rattle.ell_tree.specs.Ends.{Answers}
 use Rattle.ell_tree.specs.Ledgers.{TreeModel}
 
--- a pass has inserted a key with a value, and then a flag with it
-pub record Raises (t : TreeModel) (key flag value : ℕ) (old new : PassModel) : Type 0 where
-  pub added : Bool
-  pub raised : Bool
+-- a pass has inserted a key with a value, and then a flag with it, and was told this
+pub record Raises (t : TreeModel) (key flag value : ℕ) (added raised : Bool) (old new : PassModel) : Type 0 where
   pub between : PassModel
   pub first : Answers t (Insert key value) (yes_if added) old between
   pub second : Answers t (Insert flag value) (yes_if raised) between new

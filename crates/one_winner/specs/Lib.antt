@@ -1,4 +1,4 @@
--- a tree that starts empty and shares each key
+-- a tree that starts empty and shares each key, and what its passes were answered
 pub mod Sharing
 -- what a thread that tells does, and one that is told
 pub mod Telling

@@ -1,6 +1,7 @@
 //! What may hinder a race.
 
-use ell_tree::{CardFault, NoMemory, NotDone, SplitFault};
+use ell_tree::{CardFault, NoMemory, NotDone, Pass, SplitFault};
+use std::alloc::Global;
 use thiserror::Error;
 
 /// Why a race has no result.
@@ -19,3 +20,6 @@ pub enum RaceFault {
     #[error("{0}")]
     Memory(#[from] NoMemory),
 }
+
+/// A pass that comes back, with what has hindered it.
+pub type Lost = (Pass<Global>, RaceFault);

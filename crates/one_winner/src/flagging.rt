@@ -1,11 +1,15 @@
 //! One thread inserts a key, and then a flag, which is another key: who finds the flag finds the key.
-ghost use Rattle.std.specs.Prelude.{◌≡◌, ◌≢◌, ◌≤◌, IfOk, IfSome, Some};
-ghost use Rattle.ell_tree.specs.Meaning.{greatest_key};
+ghost use Rattle.std.specs.Prelude.{◌≡◌, ◌≢◌, ◌≤◌, ◌∷◌, [], IfErr, IfOk, IfSome, Some};
+ghost use Rattle.ell_tree.specs.Op.TheVariants.{Find, Insert};
+ghost use Rattle.ell_tree.specs.Reply.TheVariants.{Yes};
+ghost use Rattle.ell_tree.specs.Meaning.{found, greatest_key};
+ghost use Rattle.ell_tree.specs.Models.{whole_share};
 ghost use Rattle.ell_tree.specs.Promises.{MayDo};
 ghost use Rattle.one_winner.specs.Flagging.{Looks, Raises};
+ghost use Rattle.one_winner.specs.Sharing.{AreNew, Fails, answered};
 
-use crate::fault::RaceFault;
-use crate::sharing::{Kind, conclude, find, insert, open};
+use crate::fault::Lost;
+use crate::sharing::{conclude, find, insert, unite};
 use ell_tree::{Pass, Tree};
 use std::alloc::Global;
 use std::thread::{Threads, join};
@@ -19,21 +23,22 @@ pub struct Flagged {
     pub there: Option<u64>,
 }
 
-// The thread that inserts: the key with its value, and then the flag.
+// The thread that inserts: the key with its value, and then the flag. Returns its pass, and what it was told.
 fn raise(
     map: &Tree<Global>,
     pass: Pass<Global>,
     key: u64,
     flag: u64,
     value: u64,
-) -> Result<Pass<Global>, RaceFault>
+) -> Result<(Pass<Global>, (bool, bool)), Lost>
     requires may { MayDo map.now key pass }
     requires flag { MayDo map.now flag pass }
-    ensures { IfOk result (λ new. Raises map.now key flag value pass new) }
+    ensures raises { IfOk result (λ done. Raises map.now key flag value done.1.0 done.1.1 pass done.0) }
+    ensures why { IfErr result (λ lost. Fails map.now lost.0 lost.1) }
 {
-    let (pass, _added) = insert(map, pass, key, value)?;
-    let (pass, _raised) = insert(map, pass, flag, value)?;
-    Ok(pass)
+    let (pass, added) = insert(map, pass, key, value)?;
+    let (pass, raised) = insert(map, pass, flag, value)?;
+    Ok((pass, (added, raised)))
 }
 
 // The thread that looks: finds the flag, and then the key. Returns its pass, and what it found of both.
@@ -47,48 +52,50 @@ fn look(map: &Tree<Global>, pass: Pass<Global>, key: u64, flag: u64) -> (Pass<Gl
     (pass, Flagged { flag: seen, there })
 }
 
-/// One thread inserts a key with a value into an empty tree of a kind, and then a flag, while another looks for the flag and then
-/// for the key. The threads do not talk by other means. Returns what the other found. Conditions: the key and the flag are
-/// different, and at most `KEY_MAX`.
+/// One thread puts a value at a key of an empty tree, and then a flag, which is another key, both by inserts. Another
+/// looks for the flag and then for the key. Nothing else goes from one to the other. Returns what the other found, with
+/// the pass to which both were joined. Conditions: the key and the flag are different, and at most `KEY_MAX`.
 pub fn insert_and_flag<R: Threads>(
     rt: &R,
-    alloc: Global,
-    kind: Kind,
+    map: &Tree<Global>,
+    passes: (Pass<Global>, Pass<Global>),
     key: u64,
     flag: u64,
     value: u64,
-) -> Result<Flagged, RaceFault>
+) -> Result<(Pass<Global>, Flagged), Lost>
+    requires new { AreNew map.now passes.0 passes.1 }
     requires real { key ≤ greatest_key }
     requires flag { flag ≤ greatest_key }
     requires apart { key ≢ flag }
     // Who finds the flag finds the value.
-    ensures { IfOk result (λ seen. IfSome seen.flag (λ _. seen.there ≡ Some value)) }
+    ensures seen { IfOk result (λ done. IfSome done.1.flag (λ _. done.1.there ≡ Some value)) }
+    // The pass was answered these four calls, and no other: the finds of the one, and the inserts of the other.
+    ensures calls { IfOk result (λ done. answered done.0.sight.mine ≡ (Find key, found done.1.there)
+        ∷ (Find flag, found done.1.flag) ∷ (Insert flag value, Yes) ∷ (Insert key value, Yes) ∷ []) }
+    // It has the whole share: all passes were joined to it.
+    ensures whole { IfOk result (λ done. done.0.view.share ≡ whole_share) }
+    // An insert was not done, as the tree says; or the passes were not joined after the finds.
+    ensures why { IfErr result (λ lost. Fails map.now lost.0 lost.1) }
 {
-    let (map, pass) = open(alloc, kind)?;
-    let (first, second) = match map.split(pass, &[]) {
-        Ok(parts) => parts,
-        Err((_pass, fault)) => return Err(RaceFault::Split(fault)),
-    };
-    let shared = &map;
+    let (first, second) = passes;
     let (first, second) = join(
         rt,
         move || -> (Pass<Global>, Flagged)
-            requires key { MayDo shared.now key first }
-            requires flag { MayDo shared.now flag first }
-            ensures { Looks shared.entry.now key flag result.1.flag result.1.there first result.0 }
-        { look(shared, first, key, flag) },
-        move || -> Result<Pass<Global>, RaceFault>
-            requires key { MayDo shared.now key second }
-            requires flag { MayDo shared.now flag second }
-            ensures { IfOk result (λ new. Raises shared.entry.now key flag value second new) }
-        { raise(shared, second, key, flag, value) },
+            requires key { MayDo map.now key first }
+            requires flag { MayDo map.now flag first }
+            ensures { Looks map.entry.now key flag result.1.flag result.1.there first result.0 }
+        { look(map, first, key, flag) },
+        move || -> Result<(Pass<Global>, (bool, bool)), Lost>
+            requires key { MayDo map.now key second }
+            requires flag { MayDo map.now flag second }
+            ensures raises { IfOk result (λ done.
+                Raises map.entry.now key flag value done.1.0 done.1.1 second done.0) }
+            ensures why { IfErr result (λ lost. Fails map.entry.now lost.0 lost.1) }
+        { raise(map, second, key, flag, value) },
     );
     let (first, seen) = first;
-    let second = second?;
-    let both = match map.join(first, second) {
-        Ok(both) => both,
-        Err((_first, _second, fault)) => return Err(RaceFault::Memory(fault)),
-    };
-    conclude(&map, both);
-    Ok(seen)
+    let (second, _told) = second?;
+    let both = unite(map, first, second)?;
+    let pass = conclude(map, both);
+    Ok((pass, seen))
 }

@@ -1,8 +1,6 @@
--- lists of which each test counts as many have the same sums
-pub mod SameSums
--- calls that only swap add up
-pub mod Summing
--- what a call, a round, and the parts of a pass have added
+-- what a call adds, and two passes as one
 pub mod Additions
--- what the tree has in the end
+-- what a tree and its passes begin with
+pub mod Openings
+-- what is found once all was added
 pub mod Totals

@@ -1,2 +1,2 @@
--- what calls add to the value of a key
+-- what calls add to the counter
 pub mod Adding

@@ -1,6 +1,7 @@
 //! What may hinder a count.
 
-use ell_tree::{CardFault, NoMemory, NotDone, SplitFault};
+use ell_tree::{CardFault, NoMemory, NotDone, Pass, SplitFault};
+use std::alloc::Global;
 use thiserror::Error;
 
 /// Why a count has no result.
@@ -22,3 +23,6 @@ pub enum CountFault {
     #[error("{0}")]
     Memory(#[from] NoMemory),
 }
+
+/// A pass that comes back, with what has hindered it.
+pub type Lost = (Pass<Global>, CountFault);

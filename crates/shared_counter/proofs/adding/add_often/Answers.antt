@@ -1,24 +1,26 @@
-use Rattle.std.proofs.Common.{◌≡◌, ℕ, ◌+◌, ◌*◌, subst, arith}
+use Rattle.std.proofs.Common.{rules, ◌≡◌, ℕ, ◌+◌, ◌*◌, ◌^◌, ◌<◌, Some, refl, ◌∙◌, subst, arith}
+use Rattle.ell_tree.specs.Computing.{IsSum, UpdatesValue}
 use Rattle.shared_counter.specs.Adding.{HasAdded}
 use Rattle.shared_counter.specs.declared.adding.TheConstants.{COUNTER}
-use Rattle.shared_counter.proofs.lemmas.Additions.{added_both, added_none, may_after}
+use Rattle.shared_counter.proofs.lemmas.Additions.{added_once}
 use Rattle.shared_counter.proofs.adding.add_often.Goals as goal
 
 pub loop-round-init : goal.loop-round-init
 loop-round-init c =
     let none : 0 ≡ 0 * c.args.addend = omega arith in
-    subst (λ (n : ℕ). HasAdded COUNTER n c.args.pass c.args.pass) none (added_none c.args.tree.now COUNTER c.args.pass c.requires)
+    (subst (λ (n : ℕ). HasAdded c.args.tree.now 0 n c.args.pass) none c.requires, refl)
 
-pub add-requires : goal.add-requires
-add-requires c =
-    may_after c.args.tree.now COUNTER (c.loop-round._round * c.args.addend) c.args.pass c.loop-round.pass c.requires c.loop-round.invariant
-
+-- each round adds the addend
 pub loop-round-preserved : goal.loop-round-preserved
 loop-round-preserved c =
-    added_both COUNTER (c.loop-round._round * c.args.addend) c.args.addend ((c.loop-round._round + 1) * c.args.addend)
-    c.args.pass c.loop-round.pass c.add.new.pass (omega arith) c.loop-round.invariant c.in_ok-add.ensures
-
-pub returns : goal.returns
-returns c =
-    let all : c.loop-round._round ≡ c.args.rounds = omega arith in
-    subst (λ (n : ℕ). HasAdded COUNTER (n * c.args.addend) c.args.pass c.loop-round.pass) all c.loop-round.invariant
+    let t = c.args.tree.now in
+    let addend = c.args.addend in
+    let round = c.loop-round._round in
+    let was = c.in-Ok-Some._was in
+    let adds : UpdatesValue t COUNTER (IsSum addend) c.loop-round.pass c.fetch_add.new.pass (Some was) =
+    rw c.in-Ok-Some.field-0-is at c.in-Ok-Some.ensures.adds in
+    let few : was < 2 ^ 64 = search rules in
+    let fits : addend < 2 ^ 64 = omega arith in
+    let h = added_once t round (round * addend) was addend c.loop-round.pass c.fetch_add.new.pass few fits adds c.loop-round.invariant.0 in
+    let more : round * addend + addend ≡ (round + 1) * addend = omega arith in
+    (subst (λ (n : ℕ). HasAdded t (round + 1) n c.fetch_add.new.pass) more h, adds.2.share.share ∙ c.loop-round.invariant.1)
