@@ -14,14 +14,14 @@
        elltree_free(&second);
 
    elltree_open makes a tree and its first handle, and elltree_another a further handle of the tree, one for each thread. Any handle finds and
-   changes any key. All finds and changes of a tree together answer as if they were made one after the other, each at one moment between its
-   begin and its end. A change takes one of the cards of the tree, a change that another thread hinders may take some more, and no card is given
-   back: when all are given out, changes are refused with ELLTREE_SPENT. In a tree that elltree_open_reusing makes, cards come back while it is
-   open. No call on a handle waits for another thread: each of them ends after a bounded number of steps of its own. This is proved of the
-   functions of the library, whose names begin with elltree_slot, within two limits: the one order of finds and changes is a law of all that is
-   done with a tree, and in no contract of a function; and in a tree whose cards come back, no contract counts the steps that keep account of
-   which cards are free. The calls add the checks of this header, which are tested. What a thread did before it stored a value happened before
-   what another thread does after it has read that value. In a program with the thread sanitizer, the calls tell it so.
+   changes any key. All finds and changes of a tree answer as if made one after the other, each at one moment between its begin and its end. A
+   change takes one card of the tree, or some more if another thread hinders it, and no card is given back: when none is left, changes are
+   refused with ELLTREE_SPENT. In a tree of elltree_open_reusing, cards come back while it is open. No call on a handle waits for another thread:
+   each ends after a bounded number of own steps. This is proved of the library's functions, whose names begin with elltree_slot, but for two
+   things. The one order of finds and changes is a law, of which contracts say only that a call begins after the earlier ones of its handle, and
+   those that the handle which made it had made, and that what a look finds has a place in the order of what its handle has seen. And no contract
+   says that cards come back, or counts them there, or the steps for it. The calls add the checks of this header, which are tested. What a thread
+   did before it stored a value happened before what another does after it has read it; the calls tell a thread sanitizer so.
 
    A handle begins as all zeros and then holds nothing: struct elltree_handle h = ELLTREE_EMPTY. Calls on different handles may run at the
    same time. A handle is in one call at a time, and may go from one thread to another. Each call writes to its handle, so handles that

@@ -7,6 +7,7 @@ use Rattle.ell_ops.specs.Meaning.{found, greatest_key, key_of}
 use Rattle.ell_cards.specs.Looking.{IsKnownInRun}
 use Rattle.ell_cards.specs.Models.{PassModel}
 use Rattle.ell_cards.specs.declared.view.View.{View}
+use Rattle.ell_tree.specs.Called.{SeesAnswer, SeesDelete, SeesPut, SeesRemove, SeesTake, SeesUpdate}
 use Rattle.ell_tree.specs.CardsLeft.{AreLeftAtMost, ReadsCardsLeft}
 use Rattle.ell_tree.specs.CardsTaken.{TakesNoCard}
 use Rattle.ell_tree.specs.Computing.{AreTried, AreTriedOrRead, IsNotDone, IsSum, PutsValue, RemovesIf, UpdatesValue, update_steps_in, whether_put}
@@ -25,9 +26,11 @@ use Rattle.elltree.specs.declared.handle.Handle.{Handle}
 use Rattle.elltree.specs.declared.refusal.Refusal.{Refusal}
 use Rattle.elltree.specs.declared.refusal.Refusal.TheVariants.{BadKey, Busy, NoTries, Spent}
 
--- a find: the tree's, on its conditions; no key above the greatest is present
+-- a find: the tree's, on its conditions, which is a call of the tree's history, as the handle has seen it; no key above
+-- the greatest is present
 pub record Finds (key : ℕ) (old new : Handle) (there : Option ℕ) : Type 0 where
   pub answers : key ≤ greatest_key → Answers (tree_of old) (Find key) (found there) old.pass new.pass
+  pub sees : key ≤ greatest_key → SeesAnswer (Find key) old.pass new.pass (Ok (found there))
   pub quiet : IsQuiet (tree_of old) old.pass new.pass
   pub steps : Took old.pass new.pass (find_steps (deepest_of old))
   pub cards : TakesNoCard old.pass new.pass
@@ -100,10 +103,21 @@ pub record ReadsCards (old new : Handle) (left : ℕ) : Type 0 where
   pub cards : TakesNoCard old.pass new.pass
   pub tree : new.tree ≡ old.tree
 
--- an insert, a delete or a swap: the tree's, in so many tries; how many cards it takes is told where none comes back
+-- what a pass has seen of an insert that ended so
+abbrev pub SeesInsert : ℕ → ℕ → PassModel → PassModel → Result Bool NotDone → Type 0
+SeesInsert key value old new result = SeesAnswer (Insert key value) old new (replied result)
+
+-- and of a swap
+abbrev pub SeesSwap : ℕ → ℕ → ℕ → PassModel → PassModel → Result (Option ℕ) NotDone → Type 0
+SeesSwap key current value old new result = SeesAnswer (Swap key current value) old new (found_or_not_done result)
+
+-- an insert, a delete or a swap: the tree's, in so many tries, of which the handle has seen this; how many cards it
+-- takes is told where none comes back
 pub record Changes {A : Type 0} (op : Op) (tries : ℕ) (reply : Result A NotDone → Result Reply NotDone)
-    (made : Result A NotDone → Result Bool NotDone) (old new : Handle) (result : Result A NotDone) : Type 0 where
+    (made : Result A NotDone → Result Bool NotDone) (Sees : PassModel → PassModel → Result A NotDone → Type 0)
+    (old new : Handle) (result : Result A NotDone) : Type 0 where
   pub ends : Ends (tree_of old) tries op old.pass new.pass (reply result)
+  pub sees : Sees old.pass new.pass result
   pub others : result ≡ Err not_done.Busy → IsOthersDoing (tree_of old) tries old.pass new.pass
   pub steps : IsWithin (tree_of old) tries old.pass new.pass
   pub cards : IsPlain old → SpendsCards (key_of op) tries old.pass new.pass (made result)
@@ -111,25 +125,29 @@ pub record Changes {A : Type 0} (op : Op) (tries : ℕ) (reply : Result A NotDon
   pub tree : new.tree ≡ old.tree
 
 abbrev pub Inserts : ℕ → ℕ → ℕ → Handle → Handle → Result Bool NotDone → Type 0
-Inserts key value tries = Changes (Insert key value) tries replied (λ result. result)
+Inserts key value tries = Changes (Insert key value) tries replied (λ result. result) (SeesInsert key value)
 
 abbrev pub Deletes : ℕ → ℕ → Handle → Handle → Result Bool NotDone → Type 0
-Deletes key tries = Changes (Delete key) tries replied (λ result. result)
+Deletes key tries = Changes (Delete key) tries replied (λ result. result) (SeesDelete key)
 
 -- a delete that tells which value it took
 pub record Takes (key tries : ℕ) (old new : Handle) (result : Result (Option ℕ) NotDone) : Type 0 where
-  pub deletes : Changes (Delete key) tries (λ result. replied (whether result)) whether old new result
+  pub deletes : Changes (Delete key) tries (λ result. replied (whether result)) whether (SeesTake key) old new result
   pub took : IfOk result (TakesValue (tree_of old) key old.pass new.pass)
 
 -- a swap, which tells what the key had
 abbrev pub Swaps : ℕ → ℕ → ℕ → ℕ → Handle → Handle → Result (Option ℕ) NotDone → Type 0
 Swaps key current value tries = Changes (Swap key current value) tries found_or_not_done (whether_swapped current)
+    (SeesSwap key current value)
 
--- a call that reads a key, and then tries to change it by what it has read: the tree's, which makes so many tries; the
--- cards are told as above
-pub record Computes (key tries : ℕ) (Does : Handle → Handle → Option ℕ → Type 0) (AreMade : ℕ → PassModel → PassModel → Type 0)
-    (made : Result (Option ℕ) NotDone → Result Bool NotDone) (old new : Handle) (result : Result (Option ℕ) NotDone) : Type 0 where
+-- a call that reads a key, and then tries to change it by what it has read: the tree's, which makes so many tries, and
+-- of whose operations the handle has seen this; the cards are told as above
+pub record Computes (key tries : ℕ) (Does : Handle → Handle → Option ℕ → Type 0)
+    (AreMade : ℕ → PassModel → PassModel → Type 0) (made : Result (Option ℕ) NotDone → Result Bool NotDone)
+    (Sees : PassModel → PassModel → Result (Option ℕ) NotDone → Type 0)
+    (old new : Handle) (result : Result (Option ℕ) NotDone) : Type 0 where
   pub does : IfOk result (Does old new)
+  pub sees : Sees old.pass new.pass result
   pub unanswered : IfErr result (IsNotDone (tree_of old) key old.pass new.pass)
   pub tried : result ≡ Err not_done.Busy → AreMade tries old.pass new.pass
   pub steps : TookIn (tree_of old).plan old.pass new.pass (update_steps_in (tree_of old).plan tries)
@@ -138,13 +156,16 @@ pub record Computes (key tries : ℕ) (Does : Handle → Handle → Option ℕ �
   pub tree : new.tree ≡ old.tree
 
 abbrev pub Puts : ℕ → ℕ → ℕ → Handle → Handle → Result (Option ℕ) NotDone → Type 0
-Puts key value tries = Computes key tries (λ old new. PutsValue (tree_of old) key value old.pass new.pass) AreTried whether_put
+Puts key value tries = Computes key tries (λ old new. PutsValue (tree_of old) key value old.pass new.pass)
+    AreTried whether_put (SeesPut key value)
 
 abbrev pub Adds : ℕ → ℕ → ℕ → Handle → Handle → Result (Option ℕ) NotDone → Type 0
-Adds key addend tries = Computes key tries (λ old new. UpdatesValue (tree_of old) key (IsSum addend) old.pass new.pass) AreTried whether
+Adds key addend tries = Computes key tries (λ old new. UpdatesValue (tree_of old) key (IsSum addend) old.pass new.pass)
+    AreTried whether (SeesUpdate key (IsSum addend))
 
 abbrev pub Removes : ℕ → ℕ → ℕ → Handle → Handle → Result (Option ℕ) NotDone → Type 0
-Removes key current tries = Computes key tries (λ old new. RemovesIf (tree_of old) key current old.pass new.pass) AreTriedOrRead (whether_swapped current)
+Removes key current tries = Computes key tries (λ old new. RemovesIf (tree_of old) key current old.pass new.pass)
+    AreTriedOrRead (whether_swapped current) (SeesRemove key current)
 
 -- a key may be changed in so many tries
 pub record MayTry (key tries : ℕ) : Type 0 where

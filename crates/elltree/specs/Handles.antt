@@ -8,6 +8,7 @@ use Rattle.ell_core.specs.state.Opening.{last_card}
 use Rattle.ell_cards.specs.Depths.{deepest}
 use Rattle.ell_tree.specs.Node.{greatest_number, most_start}
 use Rattle.ell_cards.specs.Models.{IsCardCount, MayPart}
+use Rattle.ell_cards.specs.Sights.{given_sight, no_sight}
 use Rattle.ell_cards.specs.Starts.{most_places}
 use Rattle.ell_tree.specs.Ledgers.{TreeModel}
 use Rattle.ell_tree.specs.PassParts.{IsFirst, IsLeftPart, IsRightPart}
@@ -32,12 +33,17 @@ deepest_of h = deepest (arc_value h.tree).plan
 abbrev pub as_pairs : List Pair → List (ℕ × ℕ)
 as_pairs pairs = map (λ pair. (pair.key, pair.value)) pairs
 
+-- a handle has seen nothing of the history of its tree
+abbrev pub HasSeenNothing : Handle → Type 0
+HasSeenNothing h = h.pass.sight ≡ no_sight
+
 -- a handle is the first of a new flat tree in which every key is shared, with these start keys, and so many cards
 -- besides; it has the whole share of the tree
 pub record IsOpened (start : List (ℕ × ℕ)) (cards : ℕ) (h : Handle) : Type 0 where
   pub plan : (tree_of h).plan
       ≡ record { keys = []; start = start; last_card = last_card start cards; shared = true; flat = true; slots = None }
   pub first : IsFirst (tree_of h) h.pass
+  pub sees : HasSeenNothing h
 
 -- the number of handles that a tree is opened for where so many are asked for: the nearest that there may be
 abbrev pub handles_for : ℕ → ℕ
@@ -55,6 +61,7 @@ pub record IsOpenedReusing (start : List (ℕ × ℕ)) (cards handles : ℕ) (h 
     slots = Some (record { last = last_card start cards; places = handles });
   }
   pub first : IsFirst (tree_of h) h.pass
+  pub sees : HasSeenNothing h
 
 -- a tree may begin with these start keys
 pub record IsStart (start : List (ℕ × ℕ)) : Type 0 where
@@ -80,10 +87,11 @@ RefusesTree start cards NoMemory = MayOpen start cards
 RefusesTree start cards _ = ⊥
 
 -- there is another handle of a handle's tree: the handle goes on as it was but for its share, of which the other has a
--- piece
+-- piece; the other one has seen of the tree's history what the handle has, and has no calls
 pub record HasAnother (whole kept other : Handle) : Type 0 where
   pub goes_on : IsLeftPart [] whole.pass kept.pass
   pub piece : IsRightPart [] whole.pass other.pass
+  pub sees : (kept.pass.sight ≡ whole.pass.sight) × (other.pass.sight ≡ given_sight whole.pass.sight)
   pub tree : kept.tree ≡ whole.tree
   pub same : arc_value other.tree ≡ arc_value whole.tree
 

@@ -20,7 +20,9 @@ pub extern "C" fn elltree_slot_find(
     // `CLOSED` is returned exactly if the slot has no handle, and then nothing is written.
     ensures closed { (result ≡ said_closed) ↔ (handle_of slot.old.raw.inside ≡ None) }
     ensures kept { result ≡ said_closed → value.new ≡ value.old }
-    // The answer is that of the tree's `find`: yes, and the value is written, or no.
+    // The answer is that of the tree's `find`: yes, and the value is written, or no. It is the handle's last call in
+    // the tree's history, and began behind all that the handle had seen of that; a key above the greatest one adds no
+    // call.
     ensures tells { OfHandlesIfAny (SaysWith (Finds key) code_of_found value_found result value.old value.new)
         (handle_of slot.old.raw.inside) (handle_of slot.new.raw.inside) }
 {
@@ -42,7 +44,8 @@ pub extern "C" fn elltree_slot_look(
     // `CLOSED` is returned exactly if the slot has no handle, and then nothing is written.
     ensures closed { (result ≡ said_closed) ↔ (handle_of slot.old.raw.inside ≡ None) }
     ensures kept { result ≡ said_closed → value.new ≡ value.old }
-    // The answer is that of the tree's `look`: yes, and the value is written, or no.
+    // The answer is that of the tree's `look`: yes, and the value is written, or no. Each key up to the greatest of
+    // which it tells has a place in one order of the calls that the handle has seen by then.
     ensures tells { OfHandlesIfAny (SaysWith (LooksUp key) code_of_found value_found result value.old value.new)
         (handle_of slot.old.raw.inside) (handle_of slot.new.raw.inside) }
 {
@@ -63,8 +66,10 @@ pub extern "C" fn elltree_slot_insert(
 ) -> i32
     // `CLOSED` is returned exactly if the slot has no handle.
     ensures closed { (result ≡ said_closed) ↔ (handle_of slot.old.raw.inside ≡ None) }
-    // `NO_TRIES` is returned exactly if no try is allowed, then `BAD_KEY` exactly for a key above the greatest one, and
-    // both leave the handle as it was. Otherwise the answer is that of the tree's `insert`.
+    // `NO_TRIES` is returned exactly if no try is allowed, then `BAD_KEY` exactly for a key above the greatest one,
+    // and both leave the handle as it was. Otherwise the answer is that of the tree's `insert`. An answered call is
+    // the handle's last one in the tree's history, and began behind all that the handle had seen of that; any other
+    // adds none.
     ensures tells { OfHandlesIfAny (Says (Outcome key tries (Inserts key value tries)) code_of_whether result)
         (handle_of slot.old.raw.inside) (handle_of slot.new.raw.inside) }
 {
@@ -80,7 +85,8 @@ pub extern "C" fn elltree_slot_delete(alloc: Global, slot: &mut Slot, key: u64, 
     // `CLOSED` is returned exactly if the slot has no handle.
     ensures closed { (result ≡ said_closed) ↔ (handle_of slot.old.raw.inside ≡ None) }
     // `NO_TRIES` and `BAD_KEY` are returned as by `elltree_slot_insert`. Otherwise the answer is that of the tree's
-    // `delete`.
+    // `delete`. An answered call is the handle's last one in the tree's history, and began behind all that the handle
+    // had seen of that; any other adds none.
     ensures tells { OfHandlesIfAny (Says (Outcome key tries (Deletes key tries)) code_of_whether result)
         (handle_of slot.old.raw.inside) (handle_of slot.new.raw.inside) }
 {
@@ -103,7 +109,8 @@ pub extern "C" fn elltree_slot_take(
     ensures closed { (result ≡ said_closed) ↔ (handle_of slot.old.raw.inside ≡ None) }
     ensures kept { result ≡ said_closed → taken.new ≡ taken.old }
     // `NO_TRIES` and `BAD_KEY` are returned as by `elltree_slot_insert`. Otherwise the answer is that of the tree's
-    // `take`: the value is written with yes.
+    // `take`: the value is written with yes. An answered call is the handle's last one in the tree's history, in which
+    // it took what it tells, and began behind all that the handle had seen of that; any other adds none.
     ensures tells { OfHandlesIfAny
         (SaysWith (Outcome key tries (Takes key tries)) code_of_value value_of result taken.old taken.new)
         (handle_of slot.old.raw.inside) (handle_of slot.new.raw.inside) }

@@ -117,9 +117,10 @@ fn put_opened(slot: &mut Slot, opened: Result<Box<HandlePlace, Global>, Refusal>
 pub extern "C" fn elltree_slot_another(alloc: Global, from: &mut Slot, into: &mut Slot) -> i32
     // `OPEN` is returned exactly if the other slot is open.
     ensures busy { (result ≡ said_open) ↔ (into.old.is_open ≡ true) }
-    // With yes the other slot has a handle of the same tree, with a piece of the share, and this slot's handle goes on
-    // as it was, with the rest of that. `CLOSED` is returned exactly if the slot has no handle. Then, where no card comes
-    // back, `TOO_MANY_HANDLES` is returned exactly if the share is the least one, and otherwise only `NO_MEMORY`; where
+    // With yes the other slot has a handle of the same tree, with a piece of the share, which has seen of the tree's
+    // history what this slot's handle has, and has no calls; that handle goes on as it was, with the rest of the
+    // share. `CLOSED` is returned exactly if the slot has no handle. Then, where no card comes back,
+    // `TOO_MANY_HANDLES` is returned exactly if the share is the least one, and otherwise only `NO_MEMORY`; where
     // cards come back, it is returned in that case too, and may be in others.
     ensures tells { result ≢ said_open → TellsAnother result (handle_of from.old.raw.inside)
         (handle_of from.new.raw.inside) (handle_of into.new.raw.inside) }

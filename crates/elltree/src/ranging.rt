@@ -27,8 +27,9 @@ pub extern "C" fn elltree_slot_range(
     // `CLOSED` is returned exactly if the slot has no handle, and then nothing is written.
     ensures closed { (result ≡ said_closed) ↔ (handle_of slot.old.raw.inside ≡ None) }
     ensures kept { result ≡ said_closed → (out.new ≡ out.old) × ((count.new ≡ count.old) × (next.new ≡ next.old)) }
-    // The answer is that of the tree's `scan`, always with yes: the pairs, their number, and where to continue, which is
-    // the end of the range, or the array is full. The rest of the array is unchanged.
+    // The answer is that of the tree's `scan`, always with yes: the pairs, their number, and where to continue, which
+    // is the end of the range, or the array is full. The rest of the array is unchanged. Each key up to the greatest
+    // of which it tells has a place in one order of the calls that the handle has seen by then.
     ensures tells { OfHandlesIfAny (SaysRange from upto result count.new next.new out.old out.new)
         (handle_of slot.old.raw.inside) (handle_of slot.new.raw.inside) }
 {
@@ -73,7 +74,8 @@ pub extern "C" fn elltree_slot_next_at_least(
     // `CLOSED` is returned exactly if the slot has no handle, and then nothing is written.
     ensures closed { (result ≡ said_closed) ↔ (handle_of slot.old.raw.inside ≡ None) }
     ensures kept { result ≡ said_closed → (found.new ≡ found.old) × (value.new ≡ value.old) }
-    // The answer is that of the tree's call of this name: yes, and the key and its value are written, or no.
+    // The answer is that of the tree's call of this name: yes, and the key and its value are written, or no. Each key
+    // up to the greatest of which it tells has a place in one order of the calls that the handle has seen by then.
     ensures tells { OfHandlesIfAny
         (SaysWith (SeeksNext key) code_of_found pair_of result (found.old, value.old) (found.new, value.new))
         (handle_of slot.old.raw.inside) (handle_of slot.new.raw.inside) }
@@ -97,7 +99,8 @@ pub extern "C" fn elltree_slot_last_at_most(
     // `CLOSED` is returned exactly if the slot has no handle, and then nothing is written.
     ensures closed { (result ≡ said_closed) ↔ (handle_of slot.old.raw.inside ≡ None) }
     ensures kept { result ≡ said_closed → (found.new ≡ found.old) × (value.new ≡ value.old) }
-    // The answer is that of the tree's call of this name: yes, and the key and its value are written, or no.
+    // The answer is that of the tree's call of this name: yes, and the key and its value are written, or no. Each key
+    // up to the greatest of which it tells has a place in one order of the calls that the handle has seen by then.
     ensures tells { OfHandlesIfAny
         (SaysWith (SeeksLast key) code_of_found pair_of result (found.old, value.old) (found.new, value.new))
         (handle_of slot.old.raw.inside) (handle_of slot.new.raw.inside) }

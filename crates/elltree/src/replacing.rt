@@ -25,8 +25,9 @@ pub extern "C" fn elltree_slot_compare_exchange(
     ensures closed { (result ≡ said_closed) ↔ (handle_of slot.old.raw.inside ≡ None) }
     ensures kept { result ≡ said_closed → found.new ≡ found.old }
     // `NO_TRIES` and `BAD_KEY` are returned as by `elltree_slot_insert`. Otherwise the answer is that of the tree's
-    // `remove_if`, or `swap` for an exchange: yes if the key had the expected value, no if it is absent, and
-    // `OTHER_VALUE` if it has another one, which is written.
+    // `swap`: yes if the key had the expected value, no if it is absent, and `OTHER_VALUE` if it has another one,
+    // which is written. An answered call is the handle's last one in the tree's history, and began behind all that the
+    // handle had seen of that; any other adds none.
     ensures tells { OfHandlesIfAny
         (SaysWith (Outcome key tries (Swaps key current new tries)) (code_of_expected current) value_of result found.old found.new)
         (handle_of slot.old.raw.inside) (handle_of slot.new.raw.inside) }
@@ -55,8 +56,9 @@ pub extern "C" fn elltree_slot_remove_if(
     ensures closed { (result ≡ said_closed) ↔ (handle_of slot.old.raw.inside ≡ None) }
     ensures kept { result ≡ said_closed → found.new ≡ found.old }
     // `NO_TRIES` and `BAD_KEY` are returned as by `elltree_slot_insert`. Otherwise the answer is that of the tree's
-    // `remove_if`, or `swap` for an exchange: yes if the key had the expected value, no if it is absent, and
-    // `OTHER_VALUE` if it has another one, which is written.
+    // `remove_if`: yes if the key had the expected value, no if it is absent, and `OTHER_VALUE` if it has another one,
+    // which is written. Its operations are the handle's last calls in the tree's history, and each began behind all
+    // that the handle had seen of that before; only the last one of an answered call may have changed anything.
     ensures tells { OfHandlesIfAny
         (SaysWith (Outcome key tries (Removes key current tries)) (code_of_expected current) value_of result found.old found.new)
         (handle_of slot.old.raw.inside) (handle_of slot.new.raw.inside) }
@@ -82,7 +84,9 @@ pub extern "C" fn elltree_slot_put(
     ensures closed { (result ≡ said_closed) ↔ (handle_of slot.old.raw.inside ≡ None) }
     ensures kept { result ≡ said_closed → was.new ≡ was.old }
     // `NO_TRIES` and `BAD_KEY` are returned as by `elltree_slot_insert`. Otherwise the answer is that of the tree's
-    // call of this name: yes, and the old value is written, if the key was present, and otherwise no.
+    // call of this name: yes, and the old value is written, if the key was present, and otherwise no. Its operations
+    // are the handle's last calls in the tree's history, and each began behind all that the handle had seen of that
+    // before; only the last one of an answered call may have changed anything.
     ensures tells { OfHandlesIfAny
         (SaysWith (Outcome key tries (Puts key value tries)) code_of_value value_of result was.old was.new)
         (handle_of slot.old.raw.inside) (handle_of slot.new.raw.inside) }
@@ -108,7 +112,9 @@ pub extern "C" fn elltree_slot_fetch_add(
     ensures closed { (result ≡ said_closed) ↔ (handle_of slot.old.raw.inside ≡ None) }
     ensures kept { result ≡ said_closed → was.new ≡ was.old }
     // `NO_TRIES` and `BAD_KEY` are returned as by `elltree_slot_insert`. Otherwise the answer is that of the tree's
-    // call of this name: yes, and the old value is written, if the key was present, and otherwise no.
+    // call of this name: yes, and the old value is written, if the key was present, and otherwise no. Its operations
+    // are the handle's last calls in the tree's history, and each began behind all that the handle had seen of that
+    // before; only the last one of an answered call may have changed anything.
     ensures tells { OfHandlesIfAny
         (SaysWith (Outcome key tries (Adds key addend tries)) code_of_value value_of result was.old was.new)
         (handle_of slot.old.raw.inside) (handle_of slot.new.raw.inside) }

@@ -13,7 +13,8 @@ impl Handle {
     /// taken (`open_reusing`). An insert that adds its key takes a card, and at most one more for each try that
     /// something hindered; any other takes at most one for each of those.
     pub fn insert(&mut self, key: u64, value: u64, tries: u32) -> Result<bool, Refusal>
-        // The outcome is that of the tree's `insert`.
+        // The outcome is that of the tree's `insert`. An answered call is the handle's last one in the tree's history,
+        // and began behind all that the handle had seen of that; any other adds none.
         ensures { Outcome key tries (Inserts key value tries) self.old self.new result }
     {
         may_try(key, tries)?;
@@ -25,7 +26,8 @@ impl Handle {
 
     /// Deletes a key with its value. Returns whether the key was present. Refusals and cards are as for `insert`.
     pub fn delete(&mut self, key: u64, tries: u32) -> Result<bool, Refusal>
-        // The outcome is that of the tree's `delete`.
+        // The outcome is that of the tree's `delete`. An answered call is the handle's last one in the tree's history,
+        // and began behind all that the handle had seen of that; any other adds none.
         ensures { Outcome key tries (Deletes key tries) self.old self.new result }
     {
         may_try(key, tries)?;
@@ -35,7 +37,9 @@ impl Handle {
     /// Deletes a key, and returns the value that it took, if the key was present. No other call took that value.
     /// Refusals and cards are as for `insert`.
     pub fn take(&mut self, key: u64, tries: u32) -> Result<Option<u64>, Refusal>
-        // The outcome is that of the tree's `take`.
+        // The outcome is that of the tree's `take`. An answered call is the handle's last one in the tree's history,
+        // in which it took what it tells, and began behind all that the handle had seen of that; any other adds
+        // none.
         ensures { Outcome key tries (Takes key tries) self.old self.new result }
     {
         may_try(key, tries)?;
@@ -51,7 +55,8 @@ impl Handle {
         new: u64,
         tries: u32,
     ) -> Result<Option<u64>, Refusal>
-        // The outcome is that of the tree's `swap`.
+        // The outcome is that of the tree's `swap`. An answered call is the handle's last one in the tree's history,
+        // and began behind all that the handle had seen of that; any other adds none.
         ensures { Outcome key tries (Swaps key current new tries) self.old self.new result }
     {
         may_try(key, tries)?;
@@ -64,7 +69,9 @@ impl Handle {
     /// Removes a key if its value is `current`, in one atomic step. Returns the value that the key had, if it was
     /// present, so it was removed exactly if that is `current`. Refusals and cards are as for `put`.
     pub fn remove_if(&mut self, key: u64, current: u64, tries: u32) -> Result<Option<u64>, Refusal>
-        // The outcome is that of the tree's `remove_if`.
+        // The outcome is that of the tree's `remove_if`. Its operations are the handle's last calls in the tree's
+        // history, and each began behind all that the handle had seen of that before; only the last one of an answered
+        // call may have changed anything.
         ensures { Outcome key tries (Removes key current tries) self.old self.new result }
     {
         may_try(key, tries)?;
@@ -80,7 +87,9 @@ impl Handle {
     /// try finds no card, as for `insert`. A put takes a card, and at most one more for each try that something
     /// hindered.
     pub fn put(&mut self, key: u64, value: u64, tries: u32) -> Result<Option<u64>, Refusal>
-        // The outcome is that of the tree's `put`.
+        // The outcome is that of the tree's `put`. Its operations are the handle's last calls in the tree's history,
+        // and each began behind all that the handle had seen of that before; only the last one of an answered call may
+        // have changed anything.
         ensures { Outcome key tries (Puts key value tries) self.old self.new result }
     {
         may_try(key, tries)?;
@@ -90,7 +99,9 @@ impl Handle {
     /// Adds to the value of a key in one atomic step, and returns the value that it had. A sum above `u64::MAX` wraps
     /// around. A key that is absent stays absent. Refusals and cards are as for `put`.
     pub fn fetch_add(&mut self, key: u64, addend: u64, tries: u32) -> Result<Option<u64>, Refusal>
-        // The outcome is that of the tree's `fetch_add`.
+        // The outcome is that of the tree's `fetch_add`. Its operations are the handle's last calls in the tree's
+        // history, and each began behind all that the handle had seen of that before; only the last one of an answered
+        // call may have changed anything.
         ensures { Outcome key tries (Adds key addend tries) self.old self.new result }
     {
         may_try(key, tries)?;

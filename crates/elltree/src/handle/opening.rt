@@ -23,8 +23,8 @@ impl Handle {
     /// then `BadKey` if a start key is above `KEY_MAX`, then `BadCards` if the number of cards is not 1 to 1,000,000,
     /// and only then `NoMemory` if an allocation fails.
     pub fn open(alloc: Global, start: &[Pair], cards: u64) -> Result<Handle, Refusal>
-        // The handle is the first of a new flat tree with the start pairs and the cards asked for, and has the whole
-        // share.
+        // The handle is the first of a new flat tree with the start pairs and the cards asked for, has the whole
+        // share, and has seen nothing of the tree's history.
         ensures opened { IfOk result (IsOpened (as_pairs start.now) cards) }
         // `BadStart` is returned exactly if the start keys do not strictly ascend or there are more than 1,000,000,
         // then `BadKey` exactly for a key above the greatest one, then `BadCards` exactly if the number of cards is not
@@ -59,7 +59,7 @@ impl Handle {
     ) -> Result<Handle, Refusal>
         // The handle is the first of a new flat tree with the start pairs whose cards come back, with slots for the
         // cards asked for and places for the handles asked for, or the nearest number that there may be. It has the
-        // whole share.
+        // whole share, and has seen nothing of the tree's history.
         ensures opened { IfOk result (IsOpenedReusing (as_pairs start.now) cards (handles_for handles)) }
         // `BadStart` is returned exactly if the start keys do not strictly ascend or there are more than 1,000,000,
         // then `BadKey` exactly for a key above the greatest one, then `BadCards` exactly if the number of cards is not
@@ -80,7 +80,8 @@ impl Handle {
     /// allocation fails. After either error the handle comes back as it was.
     #[tactic(auto, using(crate::proofs::lemmas::Parting::split_refused))]
     pub fn another(self) -> Result<(Handle, Handle), (Handle, Refusal)>
-        // The handle goes on as it was, but for its share, and the other one has a piece of that.
+        // The handle goes on as it was, but for its share, and the other one has a piece of that. The other one has
+        // seen of the tree's history what the handle has, and has no calls.
         ensures another { IfOk result (λ both. HasAnother self both.0 both.1) }
         // Where no card comes back, `TooManyHandles` is returned exactly if the share is the least one, and otherwise
         // only `NoMemory`. Where cards come back, it is returned in that case too, and may be in others. After either

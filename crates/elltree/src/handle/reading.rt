@@ -8,7 +8,9 @@ use ell_tree::{KEY_MAX, NoGate, Pair, Scanned};
 impl Handle {
     /// Returns the value of a key, if the key is present. No key above `KEY_MAX` is.
     pub fn find(&mut self, key: u64) -> Option<u64>
-        // The answer is that of the tree's `find`, which nothing is in the way of, and which takes no card.
+        // The answer is that of the tree's `find`, which nothing is in the way of, and which takes no card. It is the
+        // handle's last call in the tree's history, and began behind all that the handle had seen of that; a key above
+        // the greatest one adds no call.
         ensures { Finds key self.old self.new result }
     {
         if key > KEY_MAX {
@@ -21,6 +23,8 @@ impl Handle {
     /// first step of the look and its last. It waits for no other call. No key above `KEY_MAX` is present.
     pub fn look(&mut self, key: u64) -> Option<u64>
         // The answer is that of the tree's `look`: what the tree had for the key in one state since the look began.
+        // Each key up to the greatest of which it tells has a place in one order of the calls that the handle has seen
+        // by then.
         ensures { LooksUp key self.old self.new result }
     {
         if key > KEY_MAX {
@@ -36,7 +40,8 @@ impl Handle {
     /// continue. The rest of `room` is left as it is. No key is above `KEY_MAX`, so an `upto` above `KEY_MAX + 1` means
     /// `KEY_MAX + 1`, and a range that ends where it begins, or before, has no keys.
     pub fn scan(&mut self, from: u64, upto: u64, room: &mut [Pair]) -> Scanned
-        // Each key of the range, as far as the scan got, is answered as by a look at it.
+        // Each key of the range, as far as the scan got, is answered as by a look at it. Each key up to the greatest
+        // of which it tells has a place in one order of the calls that the handle has seen by then.
         ensures { Scans from upto room.old room.new self.old self.new result }
     {
         let end = upto.min(KEY_MAX + 1);
@@ -48,7 +53,8 @@ impl Handle {
     /// Returns the least present key that is at least `key`, with its value: it was present in one state of the tree
     /// during the call, and each key before it was absent in one. Returns `None` for a key above `KEY_MAX`.
     pub fn next_at_least(&mut self, key: u64) -> Option<(u64, u64)>
-        // The answer is that of the tree's call. No key above the greatest one is present.
+        // The answer is that of the tree's call. No key above the greatest one is present. Each key up to the greatest
+        // of which it tells has a place in one order of the calls that the handle has seen by then.
         ensures { SeeksNext key self.old self.new result }
     {
         if key > KEY_MAX {
@@ -62,7 +68,8 @@ impl Handle {
     /// Returns the greatest present key that is at most `key`, with its value: it was present in one state of the tree
     /// during the call, and each key after it was absent in one.
     pub fn last_at_most(&mut self, key: u64) -> Option<(u64, u64)>
-        // The answer is that of the tree's call. No key above the greatest one is present.
+        // The answer is that of the tree's call. No key above the greatest one is present. Each key up to the greatest
+        // of which it tells has a place in one order of the calls that the handle has seen by then.
         ensures { SeeksLast key self.old self.new result }
     {
         let there = self
