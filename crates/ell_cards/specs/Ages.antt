@@ -93,7 +93,7 @@ abbrev pub RetiredStaysNoted : (plan : TablePlan) (s : Slots) (tree : TableState
     (machine : HasMachine plan tree) → HasUses (machine_of_table plan tree machine) → (ℕ → ℕ) → Type 0
 RetiredStaysNoted plan s tree t machine uses lie =
     (seat c : ℕ) (k : Known) → get_elem? t.views seat ≡ some k → k.period.slot ≡ Some c → k.tree.worker.card ≡ Some c
-    → AreRetired machine.words c k.period.sought.retired
+    → AreRetired machine.words c k.period.retired
     (λ x. IsOut plan tree machine uses x × IsNotedThere s t.words lie x)
 
 -- The periods of a table are sound, by which cards lie in its slots, which are dead in its tree, what the clock was

@@ -2,10 +2,8 @@
 pub mod Depths
 -- what the words of slots say
 pub mod SlotWords
--- what a search for a slot has read
-pub mod Seeking
-pub mod Searches
-pub mod Takings
+-- what a pass notes of the nodes that its card in hand made dead
+pub mod Retiring
 -- what a pass knows of its table's history
 pub mod Sights
 -- what contracts see of a memory and of a seat

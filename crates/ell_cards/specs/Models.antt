@@ -18,11 +18,11 @@ use Rattle.ell_cards.specs.declared.fault.SplitFault.TheVariants as split_fault
 use Rattle.ell_cards.specs.declared.glance.Glance.{Glance}
 use Rattle.ell_cards.specs.declared.view.Told.{Told}
 use Rattle.ell_cards.specs.declared.view.View.{View}
-use Rattle.ell_cards.specs.declared.view.Seek.{Seek}
+use Rattle.ell_cards.specs.declared.view.Retired.{Retired}
 use Rattle.ell_cards.specs.declared.view.Sight.{Sight}
 use Rattle.ell_cards.specs.declared.view.Survey.{Survey}
 use Rattle.ell_cards.specs.declared.view.Slots.{Slots}
-use Rattle.ell_cards.specs.Seeking.{begun_seek, no_seek, no_survey}
+use Rattle.ell_cards.specs.Retiring.{none_retired}
 use Rattle.ell_cards.specs.Sights.{given_sight}
 use Rattle.ell_cards.specs.declared.call.NewNode.{NewNode}
 
@@ -61,7 +61,8 @@ pub record TableModel : Type 0 where
 -- the table that a pass belongs to, what is shown of what it knows, the atomic steps made through it, its label,
 -- its safe number: every pass that is in a period began it when the clock was that at least; and, if the table has
 -- places, whether it is in a period itself, what it saw when it looked at all places last, the card whose slot it has
--- taken last, and what it has read in its last search for one; and what it knows of the table's history
+-- taken last, and what it has noted since of the nodes that this card made dead; and what it knows of the table's
+-- history
 pub record PassModel : Type 0 where
   pub table : TableId
   pub view : View
@@ -71,7 +72,7 @@ pub record PassModel : Type 0 where
   pub inside : Bool
   pub surveyed : Survey
   pub slot : Option ℕ
-  pub sought : Seek
+  pub retired : Retired
   pub sight : Sight
 
 -- the ledger of a pass: each key of its own with whether it is present, and with which value
@@ -123,15 +124,10 @@ abbrev pub StepsOn : PassModel → PassModel → View → Type 0
 StepsOn old new v = new ≡ record old { view = v; steps = one_more old.steps; sight = new.sight }
 
 -- the pass made one step by which it began an operation, and knows this now, and more of the history; if there are
--- places, it is in a period, and slots that it could not take are counted anew
+-- places, it is in a period
 abbrev pub BeginsBy : Option Slots → PassModel → PassModel → View → Type 0
-BeginsBy slots old new v = new ≡ record old {
-  view = v;
-  steps = one_more old.steps;
-  inside = is_some slots;
-  sought = begun_seek old.sought;
-  sight = new.sight;
-}
+BeginsBy slots old new v =
+    new ≡ record old { view = v; steps = one_more old.steps; inside = is_some slots; sight = new.sight }
 
 -- or by which it began a look, and did not count the step: it knows more of the history
 abbrev pub LooksBy : Option Slots → PassModel → PassModel → View → Type 0
@@ -146,8 +142,12 @@ abbrev pub AnswersBy : PassModel → PassModel → View → Type 0
 AnswersBy old new v =
     new ≡ record old { view = v; steps = one_more old.steps; inside = false; sight = new.sight }
 
+-- a pass that has not looked at the places has seen nothing: the clock is never less than 0
+abbrev pub no_survey : Survey
+no_survey = record { clock = 0; least = 0 }
+
 -- the pass came from another one by a step that both count, and knows this; it is in no period, has looked at no place
--- yet, has taken and sought no slot, and has seen of the history what the other one has
+-- yet, has taken no slot, and has seen of the history what the other one has
 abbrev pub StepsOut : PassModel → PassModel → View → Type 0
 StepsOut old new v =
     new ≡ record {
@@ -159,7 +159,7 @@ StepsOut old new v =
       inside = false;
       surveyed = no_survey;
       slot = None;
-      sought = no_seek;
+      retired = none_retired;
       sight = given_sight old.sight;
     }
 

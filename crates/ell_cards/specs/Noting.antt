@@ -2,7 +2,7 @@
 use Rattle.std.specs.Prelude.{◌≡◌, ◌≢◌, ℕ, ◌+◌, ◌*◌, ◌%◌, ◌<◌, if◌then◌else◌, Bool, true, false, Some}
 use Rattle.ell_word.specs.Node.{card}
 use Rattle.ell_cards.specs.declared.card_nodes.CardNodes.{CardNodes}
-use Rattle.ell_cards.specs.declared.view.Seek.{Seek}
+use Rattle.ell_cards.specs.declared.view.Retired.{Retired}
 use Rattle.ell_cards.specs.declared.view.Slots.{Slots}
 use Rattle.ell_cards.specs.declared.view.Told.TheVariants.{Met}
 use Rattle.ell_cards.specs.declared.view.View.{View}
@@ -10,7 +10,7 @@ use Rattle.ell_cards.specs.Ages.{KnowsDeadNode}
 use Rattle.ell_cards.specs.CardNodes.{has_node}
 use Rattle.ell_cards.specs.Dead.{HasTakenOut, KnowsNeverComes}
 use Rattle.ell_cards.specs.Models.{PassModel, IsTold}
-use Rattle.ell_cards.specs.Seeking.{how_many_noted, is_done, retires}
+use Rattle.ell_cards.specs.Retiring.{how_many_noted, is_done, with_retired}
 use Rattle.ell_cards.specs.SlotWords.{card_by, has_slot_in, slot_of, turn_in, turn_of}
 
 -- this is so of each of these nodes of a card
@@ -53,9 +53,9 @@ MayNoteNext v taken_out c nodes word found =
     → MayNote v taken_out c nodes found × (how_many_noted word < how_many_noted found)
 
 -- what a pass has noted for its card in hand after it has noted these nodes of a card, if that has a slot
-abbrev pub retires_in : Slots → Bool → ℕ → CardNodes → Seek → Seek
-retires_in s taken_out c nodes k = if has_slot_in s.last c then retires taken_out nodes k else k
+abbrev pub retires_in : Slots → Bool → ℕ → CardNodes → Retired → Retired
+retires_in s taken_out c nodes r = if has_slot_in s.last c then with_retired taken_out nodes r else r
 
 -- all that contracts see of a pass is as it was, but what it has noted for its card in hand
 abbrev pub HasNoted : PassModel → PassModel → Type 0
-HasNoted old new = new ≡ record old { sought = record (old.sought) { retired = new.sought.retired } }
+HasNoted old new = new ≡ record old { retired = new.retired }

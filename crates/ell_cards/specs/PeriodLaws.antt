@@ -1,9 +1,8 @@
-use Rattle.std.specs.Prelude.{◌≡◌, ◌≢◌, ℕ, ◌⊎◌, ◌+◌, ◌-◌, ◌*◌, ◌%◌, ◌<◌, ◌≤◌, ◌==◌, if◌then◌else◌, Bool, true, Some, None, List, length, slice_index, Contains}
+use Rattle.std.specs.Prelude.{◌≡◌, ◌≢◌, ℕ, ◌⊎◌, ◌+◌, ◌*◌, ◌%◌, ◌<◌, ◌≤◌, ◌==◌, true, Some, None, List, length, slice_index, Contains}
 use Rattle.std.specs.List.{IsDistinct, AllByRecursion}
 use mathlib.Core.Option.{some}
 use lib.ListN.{get_elem?}
 use Rattle.ell_cards.specs.declared.view.Known.{Known}
-use Rattle.ell_cards.specs.declared.view.Seek.{Seek}
 use Rattle.ell_cards.specs.declared.view.Slots.{Slots}
 use Rattle.ell_cards.specs.declared.view.Told.TheVariants.{Info}
 use Rattle.ell_word.specs.Node.{card}
@@ -58,7 +57,7 @@ abbrev pub FreeSlotsAreUntouched : Type 0
 FreeSlotsAreUntouched = (plan : TablePlan) (s : Slots) (t : WholeState) → plan.slots ≡ Some s
     → IsWhole plan t → (slot : ℕ) → IsSafelyFree s t slot
     → (seat : ℕ) (k : Known) → get_elem? t.views seat ≡ some k → (c : Call) → May plan c k.tree
-    → MayInMemory s k.period.slot k.period.sought.retired k.tree c
+    → MayInMemory s k.period.slot k.period.retired k.tree c
     → (d : ℕ) → slot_of d ≡ slot → (f : Field) → word_of c ≢ address d f
 
 -- If by the word of its slot, which is in use, the card of a node lies there, the word notes the node.
@@ -71,9 +70,9 @@ IsNotedInSlot s t x =
 -- so it is of what a pass has noted for a card: of the parent and the leaf of the card, as the pass was told of them,
 -- and of nodes of the card itself
 pub record RetiredIsNoted (s : Slots) (t : WholeState) (k : Known) (c : ℕ) : Type 0 where
-  pub parent : (x : ℕ) → IsTold k.tree (Info c field.P x) → k.period.sought.retired.parent ≡ true → IsNotedInSlot s t x
-  pub leaf : (x : ℕ) → IsTold k.tree (Info c field.L x) → k.period.sought.retired.leaf ≡ true → IsNotedInSlot s t x
-  pub own : (i : ℕ) → has_node k.period.sought.retired.own i ≡ true → IsNotedInSlot s t (4 * c + i)
+  pub parent : (x : ℕ) → IsTold k.tree (Info c field.P x) → k.period.retired.parent ≡ true → IsNotedInSlot s t x
+  pub leaf : (x : ℕ) → IsTold k.tree (Info c field.L x) → k.period.retired.leaf ≡ true → IsNotedInSlot s t x
+  pub own : (i : ℕ) → has_node k.period.retired.own i ≡ true → IsNotedInSlot s t (4 * c + i)
 
 -- and so it is of each pass for its card in hand, whose slot it has taken, wherever steps have led a table with places
 abbrev pub RetiredNodesAreNoted : Type 0
@@ -112,28 +111,3 @@ SlotsInUseAreFew = (plan : TablePlan) (s : Slots) (t : WholeState) → plan.slot
     → ((seat : ℕ) (k : Known) → get_elem? t.views seat ≡ some k → IsBusy k → Contains busy seat)
     → (slots : List ℕ) → IsDistinct (λ a b. a == b) slots → AllByRecursion (IsInUse s t) slots
     → length slots ≤ length plan.start + (2 * length pairs + 3) + 3 * length busy
-
--- a slot is free, with a stamp no less than this number
-abbrev pub IsYoung : Slots → WholeState → ℕ → ℕ → Type 0
-IsYoung s t safe slot =
-    (slot ≤ s.last) × (slice_index t.words (slot_word s slot) % 8 ≡ 0)
-    × (safe ≤ stamp_in (slice_index t.words (slot_word s slot)))
-
--- how many slots are for a delete, or for another change
-abbrev pub slots_for : Slots → Bool → ℕ
-slots_for s for_delete = if for_delete then s.last + 1 else s.last - 1
-
--- Wherever steps have led a table while some pass knows this of its search: the slots for its change are at most as
--- many as the start keys, two for each key of the tree and three more, and three for each place; and those that were
--- set free too lately, as their stamps say, for its least safe number when it read them.
-abbrev pub IsFullFor : TablePlan → Slots → Seek → Type 0
-IsFullFor plan s k = (t : WholeState) (h : IsWhole plan t)
-    → (pairs : List (ℕ × ℕ)) → ListsTreePairs (own_words h.tree) pairs
-    → (seat : ℕ) (u : Known) → get_elem? t.views seat ≡ some u → u.period.sought ≡ k
-    → (young : List ℕ) → ((slot : ℕ) → IsYoung s t k.safe slot → Contains young slot)
-    → slots_for s k.for_delete ≤ length plan.start + (2 * length pairs + 3) + 3 * s.places + length young
-
--- so it is where the pass has read the words of all slots in a row, and could have taken none of them for its change
-abbrev pub SoughtInVainMeansFull : Type 0
-SoughtInVainMeansFull = (plan : TablePlan) (s : Slots) → plan.slots ≡ Some s → plan.flat ≡ true
-    → (k : Seek) → k.read ≡ s.last + 1 → k.takeable ≡ 0 → IsFullFor plan s k

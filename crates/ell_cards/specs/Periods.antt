@@ -16,8 +16,8 @@ use Rattle.ell_cards.specs.declared.view.Survey.{Survey}
 use Rattle.ell_cards.specs.declared.view.Told.{Told}
 use Rattle.ell_cards.specs.declared.view.Told.TheVariants.{Met, Key}
 use Rattle.ell_cards.specs.declared.view.View.{View}
-use Rattle.ell_cards.specs.Models.{TablePlan, IsFree, IsTold}
-use Rattle.ell_cards.specs.Seeking.{could_have, could_take, found_again, is_done, missed_none, missed_one, no_seek, no_survey, retires, retires_if, sought_on}
+use Rattle.ell_cards.specs.Models.{TablePlan, IsFree, IsTold, no_survey}
+use Rattle.ell_cards.specs.Retiring.{is_done, none_retired, retires_if, with_retired}
 use Rattle.ell_cards.specs.SlotWords.{slot_of, card_by, free_word, freed_by, has_slot_in, taken_word}
 
 -- the state of a table, with all that its passes know
@@ -156,8 +156,8 @@ no_period = record {
   read = None;
   stamp = None;
   slot = None;
+  retired = none_retired;
   lost = None;
-  sought = no_seek;
 }
 
 -- the first pass of a table has the first place, if there is one
@@ -214,35 +214,19 @@ pub record StandsAs (old new : Period) : Type 0 where
 abbrev pub after_read : ℕ → ℕ → Period → Period
 after_read slot n p = record p { read = Some (record { slot = slot; word = n }) }
 
--- the word of a card's slot was read by a search for a slot to take, which begins with it or goes on
-abbrev pub after_seek : Slots → Bool → Bool → ℕ → ℕ → ℕ → Period → Period
-after_seek s begins for_delete c made n p = record (after_read (slot_of c) n p) {
-  sought = sought_on s begins for_delete c made n (could_have s for_delete c n p.safe) p.safe p.sought;
-}
-
 -- the word of a card's slot was read by a pass that is to note nodes of the card there, and none of them may be left
 abbrev pub after_noting_read : Bool → ℕ → CardNodes → ℕ → Period → Period
 after_noting_read taken_out c nodes n p =
-    record (after_read (slot_of c) n p) { sought = retires_if (is_done taken_out c nodes n) taken_out nodes p.sought }
+    record (after_read (slot_of c) n p) { retired = retires_if (is_done taken_out c nodes n) taken_out nodes p.retired }
 
 -- it exchanged that word for one that notes them too; or it found another one, by which it goes on
 abbrev pub after_noting : Bool → Bool → ℕ → CardNodes → ℕ → Period → Period
-after_noting true taken_out c nodes n p = record p { sought = retires taken_out nodes p.sought }
+after_noting true taken_out c nodes n p = record p { retired = with_retired taken_out nodes p.retired }
 after_noting false taken_out c nodes n p = after_noting_read taken_out c nodes n p
 
--- the slot of a card was taken
+-- the slot of a card was taken, for which nothing was noted yet
 abbrev pub after_taking : ℕ → Period → Period
-after_taking c p = record p { read = None; slot = Some c; sought = missed_none p.sought }
-
--- or its word was found to be another one, and it could not be taken
-abbrev pub after_missing : ℕ → ℕ → Period → Period
-after_missing c n p = record (after_read (slot_of c) n p) { sought = missed_one (slot_of c) p.sought }
-
--- the word of a card's slot was read, which could be taken, or could not
-abbrev pub after_own : ℕ → ℕ → Period → Period
-after_own c n p =
-    if could_take n p.safe then record (after_read (slot_of c) n p) { sought = found_again (slot_of c) n p.sought }
-    else after_missing c n p
+after_taking c p = record p { read = None; slot = Some c; retired = none_retired }
 
 -- the clock was read for a card whose nodes are dead
 abbrev pub after_stamp : ℕ → ℕ → Period → Period
@@ -310,7 +294,7 @@ PlaceHas s words q announced = (q < s.places) × (slice_index words (place_word 
 
 -- What a pass knows of periods is so: its places are among those of the table, two if it has another one, and their
 -- words say what it knows to be announced there; the clock has been as it was read; a pass that announces nothing is at
--- rest; and one that has lost a flag has no card in hand, and is in a period, until it has set the slot free.
+-- rest; and one that has lost a flag has no card in hand until it has set the slot free.
 pub record PeriodHolds (s : Slots) (words : List ℕ) (k : Known) : Type 0 where
   pub place : (q : ℕ) → k.period.place ≡ Some q → PlaceHas s words q k.period.announced
   pub other : (q : ℕ) → k.period.other ≡ Some q → PlaceHas s words q k.period.other_says
@@ -320,7 +304,6 @@ pub record PeriodHolds (s : Slots) (words : List ℕ) (k : Known) : Type 0 where
   pub surveyed : k.period.surveyed.clock ≤ slice_index words (clock_word s)
   pub rests : k.period.announced ≡ None → IsAtRest k.tree
   pub idle : (c : ℕ) → k.period.lost ≡ Some c → k.tree.worker.card ≡ None
-  pub stays : (c : ℕ) → k.period.lost ≡ Some c → k.period.announced ≢ None
 
 -- what the pass in a seat knows of periods: nothing, if there is none
 abbrev pub period_of : Maybe Known → Period

@@ -1,4 +1,4 @@
-use Rattle.std.specs.Prelude.{ℕ, zero, suc, ◌+◌, ◌*◌, ◌/◌, ◌%◌, ◌==◌, ◌&&◌, ◌||◌, nat_le, not, if◌then◌else◌, Bool, false, Option, Some, None}
+use Rattle.std.specs.Prelude.{ℕ, zero, suc, ◌+◌, ◌*◌, ◌/◌, ◌%◌, ◌==◌, ◌&&◌, ◌||◌, nat_le, nat_lt, not, if◌then◌else◌, Bool, false, Option, Some, None}
 use Rattle.ell_word.specs.Node.{turn_size}
 
 -- The slot in which a card lies, and its turn there: of the card numbers of a turn each slot has one.
@@ -53,3 +53,8 @@ card_by slot n = turn_size * turn_in n + slot
 -- the stamp with which a word sets its slot free, if it does
 abbrev pub freed_by : ℕ → Option ℕ
 freed_by n = if n % 8 == 0 then Some (stamp_in n) else None
+
+-- whether a pass with a safe number could take a slot, by the slot's word: that was set free with a stamp below the
+-- safe number
+abbrev pub could_take : ℕ → ℕ → Bool
+could_take n safe = n % 8 == 0 && nat_lt (stamp_in n) safe

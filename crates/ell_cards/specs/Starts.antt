@@ -15,8 +15,8 @@ use Rattle.ell_core.specs.soundness.Sound.{IsSound}
 use Rattle.ell_core.specs.acts.Wins.{InOrder}
 use Rattle.ell_cards.specs.declared.call.Call.TheVariants as call
 use Rattle.ell_cards.specs.declared.view.Slots.{Slots}
-use Rattle.ell_cards.specs.Models.{TablePlan, TableModel, PassModel}
-use Rattle.ell_cards.specs.Seeking.{no_seek, no_survey}
+use Rattle.ell_cards.specs.Models.{TablePlan, TableModel, PassModel, no_survey}
+use Rattle.ell_cards.specs.Retiring.{none_retired}
 use Rattle.ell_cards.specs.Sights.{no_sight}
 use Rattle.ell_cards.specs.Changes.{first_of}
 use Rattle.ell_cards.specs.States.{TableState}
@@ -79,7 +79,7 @@ pub record OpensBy (plan : TablePlan) (made : TableModel × PassModel) : Type 0 
         inside = false;
         surveyed = no_survey;
         slot = None;
-        sought = no_seek;
+        retired = none_retired;
         sight = no_sight;
       }
 

@@ -8,7 +8,6 @@ use Rattle.ell_cards.specs.declared.call.Call.{Call}
 use Rattle.ell_cards.specs.declared.call.Call.TheVariants as call
 use Rattle.ell_cards.specs.declared.view.Known.{Known}
 use Rattle.ell_cards.specs.declared.view.Period.{Period}
-use Rattle.ell_cards.specs.declared.view.Seek.{Seek}
 use Rattle.ell_cards.specs.declared.view.Slots.{Slots}
 use Rattle.ell_cards.specs.declared.view.View.{View}
 use Rattle.ell_cards.specs.Models.{Steps, flat_from, last_slot, TablePlan, PassModel, IsFree, MayPart, one_more, given_share}
@@ -18,7 +17,6 @@ use Rattle.ell_cards.specs.Naming.{IsNamed, IsPlaced}
 use Rattle.ell_cards.specs.Calls.{Exchange, atomic_of, after, May, Tells}
 use Rattle.ell_cards.specs.Apart.{IsApart}
 use Rattle.ell_cards.specs.Seeing.{Marks}
-use Rattle.ell_cards.specs.Seeking.{begun_seek}
 use Rattle.ell_cards.specs.Shown.{cut_word, cut_by, shown, shown_call, CanBeShown}
 use Rattle.ell_cards.specs.States.{TableState}
 use Rattle.ell_cards.specs.LettingGo.{MayLetGo}
@@ -52,21 +50,6 @@ abbrev pub IsQuiet : Call → Type 0
 IsQuiet (call.Begin op) = ⊥
 IsQuiet call.Look = ⊥
 IsQuiet _ = Unit {0}
-
--- a step call that begins no operation
-abbrev pub BeginsNone : Call → Type 0
-BeginsNone (call.Begin op) = ⊥
-BeginsNone _ = Unit {0}
-
--- what a pass has sought after a step call: the same, but slots that it could not take are counted anew where the call
--- begins an operation
-abbrev pub entered_seek : Call → Seek → Seek
-entered_seek (call.Begin op) k = begun_seek k
-entered_seek _ k = k
-
--- and what it knows of periods
-abbrev pub after_entering : Call → Period → Period
-after_entering c p = record p { sought = entered_seek c p.sought }
 
 -- whatever the table is when a word of its periods becomes another one, this holds of the word found and of what the
 -- pass knows of periods after, and what it knows of the tree and of the history is as it was
@@ -107,11 +90,11 @@ IsWholeIn p c said = (p.slot ≡ Some c) × HasStoredAll p.view said
 
 -- a call asks this of the slots, if the table has places
 abbrev pub MayInTable : TablePlan → PassModel → Call → Type 0
-MayInTable plan p c = (s : Slots) → plan.slots ≡ Some s → MayInMemory s p.slot p.sought.retired p.view c
+MayInTable plan p c = (s : Slots) → plan.slots ≡ Some s → MayInMemory s p.slot p.retired p.view c
 
 -- so it does of one by which the pass lets its card in hand go
 abbrev pub LetsGo : TablePlan → PassModel → Type 0
-LetsGo plan p = (s : Slots) → plan.slots ≡ Some s → MayLetGo s p.slot p.sought.retired p.view
+LetsGo plan p = (s : Slots) → plan.slots ≡ Some s → MayLetGo s p.slot p.retired p.view
 
 -- what a step tells says that the pass owns the keys and has the share that it did, and names what is in the table
 abbrev pub KeepsPass : TablePlan → View → (ℕ → View → Type 0) → Type 0
@@ -120,7 +103,7 @@ KeepsPass plan v then =
     × IsInside plan w
 
 -- a pass made one step that it has not counted yet: its table, its label, its safe number, whether it is in a period,
--- what it saw at the places, its slot and its search for one are as they were, and so is what it knows of the history
+-- what it saw at the places, its slot and what it has noted are as they were, and so is what it knows of the history
 pub record SeesBy (old new : PassModel) : Type 0 where
   pub table : new.table ≡ old.table
   pub steps : new.steps ≡ old.steps
@@ -129,7 +112,7 @@ pub record SeesBy (old new : PassModel) : Type 0 where
   pub inside : new.inside ≡ old.inside
   pub surveyed : new.surveyed ≡ old.surveyed
   pub slot : new.slot ≡ old.slot
-  pub sought : new.sought ≡ old.sought
+  pub retired : new.retired ≡ old.retired
   pub sight : new.sight ≡ old.sight
 
 -- so it is after one by which it may know more of the history, but for that
@@ -141,10 +124,10 @@ pub record SeesOnBy (old new : PassModel) : Type 0 where
   pub inside : new.inside ≡ old.inside
   pub surveyed : new.surveyed ≡ old.surveyed
   pub slot : new.slot ≡ old.slot
-  pub sought : new.sought ≡ old.sought
+  pub retired : new.retired ≡ old.retired
 
--- and after one that begins an operation or a look, but that it is in a period if there are places, for the count of
--- slots that it could not take, and that it knows more of the history if it begins an operation
+-- and after one that begins an operation or a look, but that it is in a period if there are places, and knows more of
+-- the history if it begins an operation
 pub record EntersBy (slots : Option Slots) (c : Call) (old new : PassModel) : Type 0 where
   pub table : new.table ≡ old.table
   pub steps : new.steps ≡ old.steps
@@ -153,16 +136,15 @@ pub record EntersBy (slots : Option Slots) (c : Call) (old new : PassModel) : Ty
   pub inside : new.inside ≡ is_some slots
   pub surveyed : new.surveyed ≡ old.surveyed
   pub slot : new.slot ≡ old.slot
-  pub sought : new.sought ≡ entered_seek c old.sought
+  pub retired : new.retired ≡ old.retired
   pub marks : Marks c old.view old.sight new.sight
 
 -- the pass made one step that it has not counted yet, by a call that begins an operation or a look, and knows this now
-abbrev pub Enters : Option Slots → Call → PassModel → PassModel → View → Type 0
-Enters slots c old new v =
-    new ≡ record old { view = v; inside = is_some slots; sought = entered_seek c old.sought; sight = new.sight }
+abbrev pub Enters : Option Slots → PassModel → PassModel → View → Type 0
+Enters slots old new v = new ≡ record old { view = v; inside = is_some slots; sight = new.sight }
 
 -- a pass made one step: its table, its label, its safe number, whether it is in a period, what it saw at the places,
--- its slot and its search for one are as they were, and so is what it knows of the history
+-- its slot and what it has noted are as they were, and so is what it knows of the history
 pub record StepsBy (old new : PassModel) : Type 0 where
   pub table : new.table ≡ old.table
   pub steps : new.steps ≡ one_more old.steps
@@ -171,7 +153,7 @@ pub record StepsBy (old new : PassModel) : Type 0 where
   pub inside : new.inside ≡ old.inside
   pub surveyed : new.surveyed ≡ old.surveyed
   pub slot : new.slot ≡ old.slot
-  pub sought : new.sought ≡ old.sought
+  pub retired : new.retired ≡ old.retired
   pub sight : new.sight ≡ old.sight
 
 -- a pass made one step by a call, and knows what the call tells by some word that it found

@@ -74,7 +74,7 @@ CallsKeepTies = (plan : TablePlan) (s : Slots) (tree : TableState) (t : WholeSta
     → IsTiedByAges plan s tree t lie dead was_dead
     → (id : ℕ) (k : Known) → get_elem? t.views id ≡ some k → get_elem? tree.views id ≡ some k.tree
     → IsAtRest k.tree ⊎ IsInPeriod t id k → (c : Call) → May plan c k.tree
-    → MayInMemory s k.period.slot k.period.sought.retired k.tree c
+    → MayInMemory s k.period.slot k.period.retired k.tree c
     → TouchesTied s lie t.words tree c
     × ((homes : List (Maybe (Unit {0})))
     → IsTiedByAges plan s (state_after tree id k.tree c) (memory_after tree t homes id k c) lie dead was_dead)

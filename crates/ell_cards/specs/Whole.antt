@@ -12,8 +12,6 @@ use Rattle.ell_cards.specs.Changes.{first_of, joined_view, spent_view}
 use Rattle.ell_cards.specs.Periods.{WholeState, slots_size, no_period, first_period, joined_period}
 use Rattle.ell_cards.specs.Ages.{HasPeriods}
 use Rattle.ell_cards.specs.Leaks.{NothingLeaks}
-use Rattle.ell_cards.specs.Searches.{SearchesAreSound}
-use Rattle.ell_cards.specs.Takings.{TakingsAreSound}
 use Rattle.ell_cards.specs.Shown.{shown_word, FieldIsWhole, StoresAreWhole}
 use Rattle.ell_cards.specs.Histories.{history_of}
 use Rattle.ell_cards.specs.Seeing.{AllHaveSeen, AreAllApart, AreMade, AreSilent}
@@ -51,13 +49,11 @@ abbrev pub WordsAre : Option Slots → List ℕ → List ℕ → Type 0
 WordsAre None words tree = words ≡ tree
 WordsAre (Some s) words tree = (length words ≡ slots_size s) × FieldsAreWhole tree
 
--- its periods are sound, and its memory is tied to its tree, if there are places; no slot stays in use for nothing, and
--- what passes have read in their searches for slots is so still; and slots that they missed were taken meanwhile
+-- its periods are sound, and its memory is tied to its tree, if there are places; and no slot stays in use for nothing
 abbrev pub PeriodsAre : (plan : TablePlan) → Option Slots → TableState → WholeState → Type 0
 PeriodsAre plan None tree t = Unit {0}
 PeriodsAre plan (Some s) tree t = (h : HasPeriods plan s tree t)
-    × NothingLeaks s t tree.views h.ages.now.machine.words h.ages.now.machine.stages h.lie × SearchesAreSound s t
-    × TakingsAreSound s t h.lie
+    × NothingLeaks s t tree.views h.ages.now.machine.words h.ages.now.machine.stages h.lie
 
 -- without places nothing that is planned is cut
 abbrev pub PlansFit : Option Slots → View → Type 0

@@ -29,7 +29,7 @@ ghost use Rattle.ell_cards.specs.Tellings.{NoGreaterNext, NoGreaterUpdate, NoOth
 ghost use Rattle.ell_cards.specs.Laws.{StepsAreEvents, SplitsAreHandovers, JoinsAreHandovers, MachineIsSound, MachineHasOwnWords};
 ghost use Rattle.ell_cards.specs.Runs.{RunsAreLawful, RunsAreSchedules};
 ghost use Rattle.ell_cards.specs.RunLaws.{TableWinsAreInOrder, StartsAreKept, ReachedHasMachine};
-ghost use Rattle.ell_cards.specs.PeriodLaws.{SafeNumbersAreSafe, FreeSlotsAreUntouched, NoSlotLeaks, RetiredNodesAreNoted, SlotsInUseAreFew, SoughtInVainMeansFull};
+ghost use Rattle.ell_cards.specs.PeriodLaws.{SafeNumbersAreSafe, FreeSlotsAreUntouched, NoSlotLeaks, RetiredNodesAreNoted, SlotsInUseAreFew};
 ghost use Rattle.ell_cards.specs.Ties.{CallsKeepTies, SplitsKeepTies, JoinsKeepTies, PeriodsKeepTies, TakesKeepTies, OpeningsAreTied, CardsInSlotsAreFew, ExchangesAreNear, PassesTellApart, ChildrenAreApart};
 ghost use Rattle.ell_cards.specs.ShownTakings.{TakingsAreShown};
 ghost use Rattle.ell_cards.specs.Shown.{StepsAreShown, CallsCanBeShown, GuardsAreLifted, ClaimsAreShown, StoresStayWhole, TellingsAreShown, CallsActAlike, HandoversAreShown};
@@ -370,9 +370,6 @@ pub fn safe_numbers_are_safe()
     // So different slots in use are at most as many as the start keys, two for each key of the tree, three, and three
     // for each pass that has a card in hand or has lost a flag.
     ensures few { SlotsInUseAreFew }
-    // Where a pass has read the words of all slots in vain, those for its change are at most as many as these, with
-    // three for each place, and those that were set free too lately for its safe number.
-    ensures full { SoughtInVainMeansFull }
 {}
 
 /// How a table with places uses slots anew. Its memory, which has words for slots alone, in each of which a card

@@ -93,7 +93,7 @@ impl<M: Memory> Model for Pass<M> {
       inside = is_some p.seat.me.0.period.announced;
       surveyed = p.seat.me.0.period.surveyed;
       slot = p.seat.me.0.period.slot;
-      sought = p.seat.me.0.period.sought;
+      retired = p.seat.me.0.period.retired;
       sight = p.seat.me.0.sight;
     } };
 

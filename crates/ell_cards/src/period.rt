@@ -206,7 +206,6 @@ impl<M: Memory> CardTable<M> {
         requires slots { self.now.plan.slots ≡ Some slots }
         requires place { seat.old.me.0.period.place ≡ Some place }
         requires rest { IsAtRest (shown seat.old.me.0.tree) }
-        requires unlost { seat.old.me.0.period.lost ≡ None }
         ensures announced { seat.new.me.0.period ≡ after_retract seat.old.me.0.period }
         ensures tree { seat.new.me.0.tree ≡ seat.old.me.0.tree }
         ensures sight { seat.new.me.0.sight ≡ seat.old.me.0.sight }
@@ -226,7 +225,7 @@ impl<M: Memory> CardTable<M> {
         ensures safe { seat.new.me.0.period.safe ≡ seat.old.me.0.period.safe }
         ensures surveyed { seat.new.me.0.period.surveyed ≡ seat.old.me.0.period.surveyed }
         ensures slot { seat.new.me.0.period.slot ≡ seat.old.me.0.period.slot }
-        ensures sought { seat.new.me.0.period.sought ≡ seat.old.me.0.period.sought }
+        ensures retired { seat.new.me.0.period.retired ≡ seat.old.me.0.period.retired }
         ensures lost { seat.new.me.0.period.lost ≡ seat.old.me.0.period.lost }
         ensures tree { seat.new.me.0.tree ≡ seat.old.me.0.tree }
         ensures sight { seat.new.me.0.sight ≡ seat.old.me.0.sight }
@@ -360,7 +359,7 @@ impl<M: Memory> CardTable<M> {
         ensures safe { seat.new.me.0.period.safe ≡ seat.old.me.0.period.safe }
         ensures surveyed { seat.new.me.0.period.surveyed ≡ seat.old.me.0.period.surveyed }
         ensures slot { seat.new.me.0.period.slot ≡ seat.old.me.0.period.slot }
-        ensures sought { seat.new.me.0.period.sought ≡ seat.old.me.0.period.sought }
+        ensures retired { seat.new.me.0.period.retired ≡ seat.old.me.0.period.retired }
         ensures lost { seat.new.me.0.period.lost ≡ seat.old.me.0.period.lost }
         ensures tree { seat.new.me.0.tree ≡ seat.old.me.0.tree }
         ensures sight { seat.new.me.0.sight ≡ seat.old.me.0.sight }
@@ -400,7 +399,7 @@ impl<M: Memory> CardTable<M> {
         ensures low { seat.new.me.0.period.surveyed.clock ≤ last_reading }
         ensures stands { StandsAs seat.old.me.0.period seat.new.me.0.period }
         ensures slot { seat.new.me.0.period.slot ≡ seat.old.me.0.period.slot }
-        ensures sought { seat.new.me.0.period.sought ≡ seat.old.me.0.period.sought }
+        ensures retired { seat.new.me.0.period.retired ≡ seat.old.me.0.period.retired }
         ensures lost { seat.new.me.0.period.lost ≡ seat.old.me.0.period.lost }
         ensures tree { seat.new.me.0.tree ≡ seat.old.me.0.tree }
         ensures sight { seat.new.me.0.sight ≡ seat.old.me.0.sight }

@@ -76,17 +76,14 @@ impl<J: Noting> Play<(), Known> for Noted<J> {
         × (new.0.period ≡ J.notes found old.0.period) × (new.1 ≡ old.1) × (new.0.sight ≡ old.0.sight) };
 }
 
-/// What a step tells, as `Noting`, and the step call that it is, by which the pass may see more of the history. The caller of
-/// the step picks all three.
+/// What a step tells, as `Telling`, and the step call that it is, by which the pass may see more of the history. The caller of
+/// the step picks both.
 pub(crate) trait Marking {
     ghost use Rattle.std.specs.Prelude.{ℕ};
     ghost use Rattle.ell_cards.specs.declared.call.Call.{Call};
-    ghost use Rattle.ell_cards.specs.declared.view.Period.{Period};
     ghost use Rattle.ell_cards.specs.declared.view.View.{View};
 
     ghost then: { ℕ → View → Type 0 };
-
-    ghost notes: { ℕ → Period → Period };
 
     ghost call: { Call };
 }
@@ -97,13 +94,11 @@ impl Marking for Brand {
 
     ghost then = { λ found v. ⊤ };
 
-    ghost notes = { λ found p. p };
-
     ghost call = { call.Look };
 }
 
-/// A step that tells and notes what its caller picked, by which the pass sees what the step call tells of the history, and
-/// that takes no slot.
+/// A step that tells what its caller picked, by which the pass sees what the step call tells of the history, and that leaves
+/// what the pass knows of periods, and takes no slot.
 pub(crate) struct Marked<J> {
     told: PhantomData<J>,
 }
@@ -114,7 +109,7 @@ impl<J: Marking> Play<(), Known> for Marked<J> {
     ghost use Rattle.ell_cards.specs.Shown.{shown};
 
     ghost then = { λ step old found new. J.then found (shown new.0.tree)
-        × (new.0.period ≡ J.notes found old.0.period) × (new.1 ≡ old.1)
+        × (new.0.period ≡ old.0.period) × (new.1 ≡ old.1)
         × Marks J.call (shown old.0.tree) old.0.sight new.0.sight };
 }
 

@@ -3,8 +3,8 @@
 ghost use Rattle.std.specs.Prelude.{◌==◌, ◌≡◌, ◌+◌, ◌*◌, ◌<◌, ◌≤◌, ◌%◌, ◌||◌, nat_le, ℕ, true};
 ghost use Rattle.ell_word.specs.Node.{card, greatest_card, greatest_number, turn_size};
 ghost use Rattle.ell_cards.specs.Periods.{clock_word, has_slot, slot_word, spread};
-ghost use Rattle.ell_cards.specs.Seeking.{could_take, is_done};
-ghost use Rattle.ell_cards.specs.SlotWords.{has_slot_in, has_slots, slot_of, stamp_in, turn_in, turn_of};
+ghost use Rattle.ell_cards.specs.Retiring.{is_done};
+ghost use Rattle.ell_cards.specs.SlotWords.{could_take, has_slot_in, has_slots, slot_of, stamp_in, turn_in, turn_of};
 
 use crate::card_nodes::CardNodes;
 use crate::view::Slots;

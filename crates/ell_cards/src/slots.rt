@@ -9,8 +9,8 @@ ghost use Rattle.ell_cards.specs.Ages.{MayStamp};
 ghost use Rattle.ell_cards.specs.CardNodes.{NotesToo, has_node, node_alone};
 ghost use Rattle.ell_cards.specs.Dead.{HasTakenOut};
 ghost use Rattle.ell_cards.specs.Guards.{MayFill};
-ghost use Rattle.ell_cards.specs.Periods.{clock_word, LooksAnew, StandsAs, LostIs, after_freeing, after_missing, after_noting, after_noting_read, after_own, after_read, after_seek, after_stamp, after_taking, has_slot, last_reading, slot_word};
-ghost use Rattle.ell_cards.specs.Seeking.{could_take, is_found, FindsNone, FindsNoneIn, FindsOneFor, may_have, is_done, missed_none, missed_one, retires, retires_if, sought_on};
+ghost use Rattle.ell_cards.specs.Periods.{clock_word, StandsAs, LostIs, after_freeing, after_noting, after_noting_read, after_read, after_stamp, after_taking, has_slot, last_reading, slot_word};
+ghost use Rattle.ell_cards.specs.Retiring.{is_done, none_retired, retires_if, with_retired};
 ghost use Rattle.ell_cards.specs.Noting.{AreTakenOut, HasNoted, MayNote, MayNoteNext, MayRetire, NeverCome, retires_in};
 ghost use Rattle.ell_cards.specs.SlotWords.{card_by, has_slot_in, is_noted, slot_of, stamp_in, turn_of};
 ghost use Rattle.ell_cards.specs.Stepping.{MayGoOn};
@@ -41,6 +41,7 @@ impl<M: Memory> CardTable<M> {
     }
 
     // Reads the word of a slot.
+    #[inline(always)]
     fn read_slot(&self, seat: &mut Seat<M>, slots: Slots, slot: u64) -> u64
         requires own { seat.old.table_id ≡ self.now.id }
         requires empty { seat.old.me.1 ≡ [] }
@@ -77,8 +78,7 @@ impl<M: Memory> CardTable<M> {
     }
 
     // Reads the clock for the card that lies in a slot by this word: whose nodes the pass knows to be dead, or which it
-    // has laid aside. A card whose slot the pass has taken has a slot of the table. A pass that is in a period reads no
-    // less than the clock was when it began that.
+    // has laid aside. A card whose slot the pass has taken has a slot of the table.
     fn stamp(&self, seat: &mut Seat<M>, slots: Slots, slot: u64, word: u64) -> u64
         requires own { seat.old.table_id ≡ self.now.id }
         requires empty { seat.old.me.1 ≡ [] }
@@ -87,7 +87,6 @@ impl<M: Memory> CardTable<M> {
         ensures stamp { seat.new.me.0.period ≡ after_stamp (card_by slot word) result seat.old.me.0.period }
         ensures low { result ≤ last_reading }
         ensures inside { (c : ℕ) → seat.old.me.0.period.slot ≡ Some c → slot_of c ≤ slots.last }
-        ensures late { seat.old.me.0.period.announced ≢ None → seat.old.me.0.period.began ≤ result }
         ensures tree { seat.new.me.0.tree ≡ seat.old.me.0.tree }
         ensures sight { seat.new.me.0.sight ≡ seat.old.me.0.sight }
         ensures seat { (seat.new.table_id ≡ seat.old.table_id) × (seat.new.me.1 ≡ []) }
@@ -256,9 +255,9 @@ impl<M: Memory> CardTable<M> {
         ensures stands { StandsAs seat.old.me.0.period seat.new.me.0.period }
         ensures slot { seat.new.me.0.period.slot ≡ seat.old.me.0.period.slot }
         ensures lost { seat.new.me.0.period.lost ≡ seat.old.me.0.period.lost }
-        ensures sought { seat.new.me.0.period.sought ≡
+        ensures retired { seat.new.me.0.period.retired ≡
             retires_if (result == word || is_done taken_out card nodes result) taken_out nodes
-            seat.old.me.0.period.sought }
+            seat.old.me.0.period.retired }
         ensures read { result ≢ word →
             seat.new.me.0.period.read ≡ Some (record { slot = slot_of card; word = result }) }
         ensures next { MayNoteNext seat.old.me.0.tree taken_out card nodes word result }
@@ -295,7 +294,7 @@ impl<M: Memory> CardTable<M> {
         ensures stands { StandsAs seat.old.me.0.period seat.new.me.0.period }
         ensures slot { seat.new.me.0.period.slot ≡ seat.old.me.0.period.slot }
         ensures lost { seat.new.me.0.period.lost ≡ seat.old.me.0.period.lost }
-        ensures sought { seat.new.me.0.period.sought ≡ retires taken_out nodes seat.old.me.0.period.sought }
+        ensures retired { seat.new.me.0.period.retired ≡ with_retired taken_out nodes seat.old.me.0.period.retired }
         ensures safe { seat.new.me.0.period.safe ≡ seat.old.me.0.period.safe }
         ensures surveyed { seat.new.me.0.period.surveyed ≡ seat.old.me.0.period.surveyed }
         ensures tree { seat.new.me.0.tree ≡ seat.old.me.0.tree }
@@ -345,7 +344,7 @@ impl<M: Memory> CardTable<M> {
         ensures stands { StandsAs seat.old.me.0.period seat.new.me.0.period }
         ensures slot { seat.new.me.0.period.slot ≡ seat.old.me.0.period.slot }
         ensures lost { seat.new.me.0.period.lost ≡ None }
-        ensures sought { seat.new.me.0.period.sought ≡ seat.old.me.0.period.sought }
+        ensures retired { seat.new.me.0.period.retired ≡ seat.old.me.0.period.retired }
         ensures safe { seat.new.me.0.period.safe ≡ seat.old.me.0.period.safe }
         ensures surveyed { seat.new.me.0.period.surveyed ≡ seat.old.me.0.period.surveyed }
         ensures tree { seat.new.me.0.tree ≡ seat.old.me.0.tree }
@@ -368,8 +367,8 @@ impl<M: Memory> CardTable<M> {
         // What the pass knows of the tree is as it was, and it has made no step that is counted.
         ensures same { HasNoted pass.old pass.new }
         // The node is noted, as what the card has taken out: its parent if it is an internal node, else its leaf.
-        ensures noted { IfSome self.now.plan.slots (λ s. pass.new.sought ≡
-            retires_in s true (card node) (node_alone (node % 4)) pass.old.sought) }
+        ensures noted { IfSome self.now.plan.slots (λ s. pass.new.retired ≡
+            retires_in s true (card node) (node_alone (node % 4)) pass.old.retired) }
         // A table without places has no slots that become free.
         ensures none { self.now.plan.slots ≡ None → (result ≡ false) × (pass.new ≡ pass.old) }
     {
@@ -388,8 +387,8 @@ impl<M: Memory> CardTable<M> {
         ensures same { HasNoted pass.old pass.new }
         // They are noted, as what the card in hand has taken out: an internal node as its parent, another one as its
         // leaf.
-        ensures noted { IfSome self.now.plan.slots (λ s. pass.new.sought ≡
-            retires_in s true card nodes pass.old.sought) }
+        ensures noted { IfSome self.now.plan.slots (λ s. pass.new.retired ≡
+            retires_in s true card nodes pass.old.retired) }
         // A table without places has no slots that become free.
         ensures none { self.now.plan.slots ≡ None → (result ≡ false) × (pass.new ≡ pass.old) }
     {
@@ -413,8 +412,8 @@ impl<M: Memory> CardTable<M> {
         // What the pass knows of the tree is as it was, and it has made no step that is counted.
         ensures same { HasNoted pass.old pass.new }
         // They are noted, as nodes of that card.
-        ensures noted { IfSome self.now.plan.slots (λ s. pass.new.sought ≡
-            retires_in s false card nodes pass.old.sought) }
+        ensures noted { IfSome self.now.plan.slots (λ s. pass.new.retired ≡
+            retires_in s false card nodes pass.old.retired) }
         // A table without places has no slots that become free.
         ensures none { self.now.plan.slots ≡ None → (result ≡ false) × (pass.new ≡ pass.old) }
     {
@@ -425,23 +424,6 @@ impl<M: Memory> CardTable<M> {
             return false;
         }
         self.note_dead(&mut pass.seat, slots, card, nodes, false)
-    }
-
-    // Reads the word of the slot of a card in hand, and counts a miss if the pass could not take the slot.
-    fn own_slot(&self, seat: &mut Seat<M>, slots: Slots, card: u64) -> u64
-        requires own { seat.old.table_id ≡ self.now.id }
-        requires empty { seat.old.me.1 ≡ [] }
-        requires slots { self.now.plan.slots ≡ Some slots }
-        requires slot { has_slot_in slots.last card ≡ true }
-        requires hand { HoldsWaiting seat.old.me.0.tree card }
-        ensures read { seat.new.me.0.period ≡ after_own card result seat.old.me.0.period }
-        ensures few { could_take result seat.old.me.0.period.safe ≡ false →
-            seat.new.me.0.period.sought.missed ≤ slots.last + 1 }
-        ensures tree { seat.new.me.0.tree ≡ seat.old.me.0.tree }
-        ensures sight { seat.new.me.0.sight ≡ seat.old.me.0.sight }
-        ensures seat { (seat.new.table_id ≡ seat.old.table_id) × (seat.new.me.1 ≡ []) }
-    {
-        self.period_load::<Brand>(seat, self.slot_address(slots, slot_of(card)))
     }
 
     // Takes the slot of a card in hand that was set free with a stamp below the pass's safe number, if the slot's
@@ -456,12 +438,9 @@ impl<M: Memory> CardTable<M> {
         requires free { word % 8 ≡ 0 }
         requires safe { stamp_in word < seat.old.me.0.period.safe }
         requires unlost { seat.old.me.0.period.lost ≡ None }
-        requires found { (r : SlotRead) → seat.old.me.0.period.sought.found ≡ Some r → r.slot ≡ slot_of card
-            → r.word ≡ word }
         ensures taken { result ≡ true → seat.new.me.0.period ≡ after_taking card seat.old.me.0.period }
         ensures lost { result ≡ false →
-            (n : ℕ) × (seat.new.me.0.period ≡ after_missing card n seat.old.me.0.period) }
-        ensures few { result ≡ false → seat.new.me.0.period.sought.missed ≤ slots.last + 1 }
+            (n : ℕ) × (seat.new.me.0.period ≡ after_read (slot_of card) n seat.old.me.0.period) }
         ensures tree { seat.new.me.0.tree ≡ seat.old.me.0.tree }
         ensures sight { seat.new.me.0.sight ≡ seat.old.me.0.sight }
         ensures seat { (seat.new.table_id ≡ seat.old.table_id) × (seat.new.me.1 ≡ []) }
@@ -489,74 +468,16 @@ impl<M: Memory> CardTable<M> {
         self.safe_number(pass);
     }
 
-    // Loads the word of the slot of a card for a search, and tells what its caller picked.
-    #[inline(always)]
-    fn load_sought<J: PeriodTelling>(
-        &self,
-        seat: &mut Seat<M>,
-        slots: Slots,
-        card: u64,
-        begins: bool,
-        for_delete: bool,
-    ) -> u64
-        requires own { seat.old.table_id ≡ self.now.id }
-        requires empty { seat.old.me.1 ≡ [] }
-        requires slots { self.now.plan.slots ≡ Some slots }
-        requires slot { slot_of card ≤ slots.last }
-        requires rule { MayGoOn self.now.plan seat.old.me.0 (slot_word slots (slot_of card)) (λ n. n) J.then }
-        ensures told { J.then result seat.new.me.0.period }
-        ensures tree { seat.new.me.0.tree ≡ seat.old.me.0.tree }
-        ensures sight { seat.new.me.0.sight ≡ seat.old.me.0.sight }
-        ensures seat { (seat.new.table_id ≡ seat.old.table_id) × (seat.new.me.1 ≡ []) }
-    {
-        let _ = (begins, for_delete);
-        self.period_load::<J>(seat, self.slot_address(slots, slot_of(card)))
-    }
-
-    // Reads the word of the slot of a card by a search, which begins with it or goes on, for a delete or another
-    // change.
-    #[inline(always)]
-    fn seek_slot(
-        &self,
-        seat: &mut Seat<M>,
-        slots: Slots,
-        card: u64,
-        begins: bool,
-        for_delete: bool,
-    ) -> u64
-        requires own { seat.old.table_id ≡ self.now.id }
-        requires empty { seat.old.me.1 ≡ [] }
-        requires slots { self.now.plan.slots ≡ Some slots }
-        requires slot { slot_of card ≤ slots.last }
-        ensures read { seat.new.me.0.period ≡ after_seek slots begins for_delete card
-            seat.old.me.0.tree.made result seat.old.me.0.period }
-        ensures tree { seat.new.me.0.tree ≡ seat.old.me.0.tree }
-        ensures sight { seat.new.me.0.sight ≡ seat.old.me.0.sight }
-        ensures seat { (seat.new.table_id ≡ seat.old.table_id) × (seat.new.me.1 ≡ []) }
-    {
-        self.load_sought::<Brand>(seat, slots, card, begins, for_delete)
-    }
-
-    // Reads the word of the slot of a card by a search, which begins with it or goes on, for a delete or another
-    // change. Returns `true` if the pass could take the slot for that change: it was set free with a stamp below the
-    // pass's safe number, and it is for deletes alone only if the change is one.
-    fn is_takeable(
-        &self,
-        pass: &mut Pass<M>,
-        slots: Slots,
-        card: u64,
-        begins: bool,
-        for_delete: bool,
-    ) -> bool
+    // Reads the word of the slot of a card by a search for a delete or another change. Returns `true` if the pass could
+    // take the slot for that change: it was set free with a stamp below the pass's safe number, and it is for deletes
+    // alone only if the change is one.
+    fn is_takeable(&self, pass: &mut Pass<M>, slots: Slots, card: u64, for_delete: bool) -> bool
         requires own { pass.old.table ≡ self.now.id }
         requires slots { self.now.plan.slots ≡ Some slots }
         requires slot { has_slot_in slots.last card ≡ true }
-        ensures same { (n : ℕ) × (pass.new ≡ record (pass.old) {
-          sought = sought_on slots begins for_delete card pass.old.view.made n result pass.old.safe pass.old.sought;
-        }) }
-        ensures has { result ≡ true → may_have slots for_delete card ≡ true }
+        ensures same { pass.new ≡ pass.old }
     {
-        let word = self.seek_slot(&mut pass.seat, slots, card, begins, for_delete);
+        let word = self.read_slot(&mut pass.seat, slots, slot_of(card));
         is_free_before(word, pass.standing.safe) && (for_delete || slots.is_for_all(slot_of(card)))
     }
 
@@ -572,13 +493,8 @@ impl<M: Memory> CardTable<M> {
         requires own { pass.old.table ≡ self.now.id }
         requires slots { self.now.plan.slots ≡ Some slots }
         requires room { card ≤ self.now.plan.last_card }
-        ensures same { pass.new ≡ record (pass.old) { sought = pass.new.sought } }
+        ensures same { pass.new ≡ pass.old }
         ensures found { IfSome result (λ c. (card ≤ c) × (c ≤ self.now.plan.last_card) × (has_slot_in slots.last c ≡ true)) }
-        ensures has { IfSome result (λ c. may_have slots for_delete c ≡ true) }
-        ensures sought { IfSome result (λ c. is_found pass.new.sought.found (slot_of c) ≡ true) }
-        ensures none { result ≡ None → FindsNone slots self.now.plan.last_card card for_delete pass.old.view.made
-            pass.old.safe pass.new.sought }
-        ensures missed { pass.new.sought.missed ≡ pass.old.sought.missed }
     {
         let _ = &self.table;
         let mut next = slots.next_with_slot(card);
@@ -586,7 +502,7 @@ impl<M: Memory> CardTable<M> {
             if self.last_card < next {
                 return None;
             }
-            if self.is_takeable(pass, slots, next, read == 0, for_delete) {
+            if self.is_takeable(pass, slots, next, for_delete) {
                 pass.standing.numbers = pass.standing.numbers.saturating_add(read);
                 return Some(next);
             }
@@ -604,24 +520,7 @@ impl<M: Memory> CardTable<M> {
         requires own { pass.old.table ≡ self.now.id }
         requires room { card ≤ self.now.plan.last_card }
         // What the pass knows of the tree is as it was, and it has made no step that is counted.
-        ensures same { pass.new ≡
-            record (pass.old) { safe = pass.new.safe; surveyed = pass.new.surveyed; sought = pass.new.sought } }
-        // If there is none, then no number of the table from this card on has a slot; or the pass has read the words
-        // of all slots in a row, or of all that are left to numbers of the table, and could have taken none of them
-        // for its change, by a safe number no less than that which it has now. It has made no step call since it began
-        // that row.
-        ensures none { result ≡ None → FindsNoneIn self.now.plan.slots self.now.plan.last_card card for_delete
-            pass.old.view.made pass.new.safe pass.new.sought }
-        // It has then looked at all places, if there are some, in this call.
-        ensures looked { result ≡ None → self.now.plan.slots ≢ None →
-            LooksAnew pass.old.surveyed pass.new.surveyed }
-        // No slot of a card in hand was missed by that.
-        ensures missed { pass.new.sought.missed ≡ pass.old.sought.missed }
-        // Only a delete gets one of the last two slots.
-        ensures has { IfSome result (FindsOneFor self.now.plan.slots for_delete) }
-        // The slot is the one that the pass has found.
-        ensures sought { self.now.plan.slots ≢ None →
-            IfSome result (λ c. is_found pass.new.sought.found (slot_of c) ≡ true) }
+        ensures same { pass.new ≡ record (pass.old) { safe = pass.new.safe; surveyed = pass.new.surveyed } }
         // It is a card of the table that has a slot, and none before the one from which it was sought.
         ensures found { IfSome result (λ c. (card ≤ c) × (c ≤ self.now.plan.last_card) × (has_slot self.now.plan.slots c ≡ true)) }
         // A table without places has no slots to be read.
@@ -652,18 +551,12 @@ impl<M: Memory> CardTable<M> {
         ensures took { result ≡ true → self.now.plan.slots ≢ None → pass.new.slot ≡ Some card }
         // What the pass knows of the tree is as it was, and it has made no step that is counted.
         ensures same { pass.new ≡
-            record (pass.old) { slot = pass.new.slot; safe = pass.new.safe; surveyed = pass.new.surveyed; sought = pass.new.sought } }
+            record (pass.old) { slot = pass.new.slot; safe = pass.new.safe; surveyed = pass.new.surveyed; retired = pass.new.retired } }
         // If it did not take the slot, it has the slot that it had.
         ensures kept { result ≡ false →
-            pass.new ≡ record (pass.old) { safe = pass.new.safe; surveyed = pass.new.surveyed; sought = pass.new.sought } }
-        // Slots that the pass has found, and that could not be taken, are counted, from the last one on that was taken,
-        // or from where its operation began: they are no more than all slots.
-        ensures missed { result ≡ false → has_slot self.now.plan.slots card ≡ true →
-            pass.new.sought ≡ missed_one (slot_of card) pass.old.sought }
-        ensures few { result ≡ false → has_slot self.now.plan.slots card ≡ true →
-            IfSome self.now.plan.slots (λ s. pass.new.sought.missed ≤ s.last + 1) }
-        ensures anew { result ≡ true → self.now.plan.slots ≢ None →
-            pass.new.sought ≡ missed_none pass.old.sought }
+            pass.new ≡ record (pass.old) { safe = pass.new.safe; surveyed = pass.new.surveyed } }
+        // If it did, it has noted nothing for the card yet.
+        ensures anew { result ≡ true → self.now.plan.slots ≢ None → pass.new.retired ≡ none_retired }
         // A table without places has no slots to be taken.
         ensures none { self.now.plan.slots ≡ None → (result ≡ true) × (pass.new ≡ pass.old) }
     {
@@ -674,7 +567,7 @@ impl<M: Memory> CardTable<M> {
             return false;
         }
         self.look_now_and_then(pass, slots, card);
-        let word = self.own_slot(&mut pass.seat, slots, card);
+        let word = self.read_slot(&mut pass.seat, slots, slot_of(card));
         let safe = pass.standing.safe;
         is_free_before(word, safe) && self.take_free(&mut pass.seat, slots, card, word)
     }

@@ -23,7 +23,7 @@ ghost use Rattle.ell_cards.specs.Starts.{SlotsFit};
 ghost use Rattle.ell_cards.specs.Shown.{IsNoClaim, StoresWord, cut_word, shown_word};
 ghost use Rattle.ell_cards.specs.Skipping.{MayStepOn};
 ghost use Rattle.ell_cards.specs.SlotWords.{slot_of};
-ghost use Rattle.ell_cards.specs.Stepping.{Enters, EntersBy, Exchanges, IsQuiet, MayInTable, MayTell, KeepsPass, SeesBy, SeesOnBy, StepsBy, after_entering};
+ghost use Rattle.ell_cards.specs.Stepping.{Enters, EntersBy, Exchanges, IsQuiet, MayInTable, MayTell, KeepsPass, SeesBy, SeesOnBy, StepsBy};
 
 use crate::call::Call;
 use crate::memory::Memory;
@@ -195,7 +195,6 @@ impl<M: Memory> CardTable<M> {
         requires atomic { atomic_of call ≡ Load }
         requires tells { MayTell self.now.plan call pass.old.view J.then }
         requires keeps { KeepsPass self.now.plan pass.old.view J.then }
-        requires notes { (n : ℕ) (p : Period) → J.notes n p ≡ p }
         requires marks { J.call ≡ call }
         ensures told { J.then result pass.new.view }
         ensures step { SeesOnBy pass.old pass.new }
@@ -248,7 +247,6 @@ impl<M: Memory> CardTable<M> {
         requires atomic { atomic_of call ≡ Load }
         requires tells { MayTell self.now.plan call pass.old.view J.then }
         requires keeps { KeepsPass self.now.plan pass.old.view J.then }
-        requires notes { (n : ℕ) (p : Period) → J.notes n p ≡ after_entering call p }
         requires marks { J.call ≡ call }
         ensures told { J.then result pass.new.view }
         ensures step { EntersBy self.now.plan.slots call pass.old pass.new }
@@ -267,7 +265,7 @@ impl<M: Memory> CardTable<M> {
         requires word { word ≡ place_of call }
         requires kept { MayInTable self.now.plan pass.old call }
         requires atomic { atomic_of call ≡ Load }
-        ensures step { Enters self.now.plan.slots call pass.old pass.new (after call result pass.old.view) }
+        ensures step { Enters self.now.plan.slots pass.old pass.new (after call result pass.old.view) }
         ensures marks { Marks call pass.old.view pass.old.sight pass.new.sight }
         ensures tells { Tells self.now.plan call pass.old.view result }
         ensures shallow { (x : ℕ) → IsShallow (deepest self.now.plan) pass.new.view x }

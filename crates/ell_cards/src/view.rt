@@ -160,10 +160,10 @@ pub struct Period {
     pub stamp: Option<Stamp>,
     /// The card whose slot it has taken last.
     pub slot: Option<u64>,
+    /// What it has noted since of the nodes that this card made dead.
+    pub retired: Retired,
     /// The card whose flag it lost last, which was laid aside.
     pub lost: Option<u64>,
-    /// What it has read in its last search for a slot to take.
-    pub sought: Seek,
 }
 
 /// What a pass saw when it looked at all places last.
@@ -173,30 +173,6 @@ pub struct Survey {
     pub clock: u64,
     /// The least of that and of all readings that it saw announced.
     pub least: u64,
-}
-
-/// What a pass knows of the words of slots: what it has read in its last search for a slot, a row of numbers that have slots,
-/// one after the other; and what it has noted for the card whose slot it took last.
-#[derive(Clone, Copy)]
-pub struct Seek {
-    /// Whether it sought one for a delete.
-    pub for_delete: bool,
-    /// The first number of the row.
-    pub from: u64,
-    /// Of so many numbers in a row, from that one on, it has read the words of their slots.
-    pub read: u64,
-    /// So many of these slots it could have taken for its change, by its safe number then.
-    pub takeable: u64,
-    /// The least of its safe numbers when it read them.
-    pub safe: u64,
-    /// How many step calls it had made when it began the row.
-    pub made: u64,
-    /// The slot that it could take, if the last word that it read by a search was of such a slot, with that word.
-    pub found: Option<SlotRead>,
-    /// So many slots that it found so it could not take, since it took a slot last or began its operation.
-    pub missed: u64,
-    /// What it has noted since of the nodes that this card made dead.
-    pub retired: Retired,
 }
 
 /// What a pass has noted of the nodes that its card in hand made dead, once that is over.

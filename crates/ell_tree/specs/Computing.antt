@@ -99,15 +99,15 @@ pub record LastChangesNothing (t : TreeModel) (key : ℕ) (v : View) : Type 0 wh
 
 -- why a call of several operations has no answer, of which this was the last one: all its tries were made, or the last
 -- one got no card
-abbrev pub RanOut : TablePlan → Op → PassModel → NotDone → Type 0
-RanOut plan op new Busy = Unit {0}
-RanOut plan op new Spent = NoneIsLeft plan op 1 new
+abbrev pub RanOut : TablePlan → PassModel → NotDone → Type 0
+RanOut plan new Busy = Unit {0}
+RanOut plan new Spent = NoneIsLeft plan new
 
 -- a call of several operations on a key has ended without an answer, and has changed nothing
 pub record IsNotDone (t : TreeModel) (key : ℕ) (old new : PassModel) (not_done : NotDone) : Type 0 where
   pub untouched : IsUntouched old new
   pub last : LastChangesNothing t key new.view
-  pub why : RanOut t.plan last.op new not_done
+  pub why : RanOut t.plan new not_done
 
 -- what comes of one try to put a value in the place of what was found of a key
 abbrev pub Replaces : TreeModel → ℕ → Option ℕ → ℕ → PassModel → PassModel → Result Replaced NotDone → Type 0
@@ -117,14 +117,14 @@ Replaces t key was value old new (Ok (Lost there)) =
     IsUntouched old new × ReadsValue t key there old new × (Owns old key → present_in old key ≢ was)
     × (tries_in old.sight.mine < tries_in new.sight.mine)
 Replaces t key was value old new (Err why) =
-    LaidDown t (put_by key value was) old new × RanOut t.plan (put_by key value was) new why
+    LaidDown t (put_by key value was) old new × RanOut t.plan new why
 
 -- what comes of one try to remove a key that has a value
 abbrev pub RemovesOnce : TreeModel → ℕ → ℕ → PassModel → PassModel → Result Bool NotDone → Type 0
 RemovesOnce t key was old new (Ok true) =
     Answers t (Delete key) Yes old new × TakesValue t key old new (Some was) × SeesTake key old new (Ok (Some was))
 RemovesOnce t key was old new (Ok false) = IsUntouched old new × (Owns old key → present_in old key ≢ Some was)
-RemovesOnce t key was old new (Err why) = LaidDown t (Delete key) old new × RanOut t.plan (Delete key) new why
+RemovesOnce t key was old new (Err why) = LaidDown t (Delete key) old new × RanOut t.plan new why
 
 -- and what the key was found to have, if that was another value
 abbrev pub RemovesOrReads : TreeModel → ℕ → ℕ → PassModel → PassModel → Result Replaced NotDone → Type 0
@@ -132,7 +132,7 @@ RemovesOrReads t key was old new (Ok Done) =
     Answers t (Delete key) Yes old new × TakesValue t key old new (Some was) × SeesTake key old new (Ok (Some was))
 RemovesOrReads t key was old new (Ok (Lost there)) =
     IsUntouched old new × Concludes t (Find key) (found there) old new × (Owns old key → present_in old key ≢ Some was)
-RemovesOrReads t key was old new (Err why) = LaidDown t (Delete key) old new × RanOut t.plan (Delete key) new why
+RemovesOrReads t key was old new (Err why) = LaidDown t (Delete key) old new × RanOut t.plan new why
 
 -- so many tries were made: each was hindered, or was answered by what another pass had changed
 abbrev pub AreTried : ℕ → PassModel → PassModel → Type 0

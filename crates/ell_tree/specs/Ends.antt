@@ -11,9 +11,7 @@ use Rattle.ell_cards.specs.declared.view.Sight.{Sight}
 use Rattle.ell_cards.specs.declared.view.Slots.{Slots}
 use Rattle.ell_cards.specs.Depths.{deepest}
 use Rattle.ell_cards.specs.Models.{PassModel, TablePlan}
-use Rattle.ell_cards.specs.PeriodLaws.{IsFullFor}
 use Rattle.ell_cards.specs.Seeing.{HasSeenMore, SeesCall}
-use Rattle.ell_cards.specs.Seeking.{FindsNone}
 use Rattle.ell_cards.specs.Stepping.{SameShare}
 use Rattle.ell_tree.specs.declared.operations.NotDone.{NotDone}
 use Rattle.ell_tree.specs.declared.operations.NotDone.TheVariants.{Busy, Spent}
@@ -65,30 +63,15 @@ abbrev pub is_delete : Op → Bool
 is_delete (Delete key) = true
 is_delete _ = false
 
--- A pass has sought a slot for an operation from the claim word on, as it read that last, and found none. The numbers
--- of the table are at an end there; or it has read the words of all slots in a row, and by its safe number then, which
--- is no less than that which it has now, it could have taken none of them for the operation: the last two are for
--- deletes alone. It has made so many step calls at most since it began that row.
-pub record HasSoughtInVain (s : Slots) (last : ℕ) (op : Op) (steps : ℕ) (p : PassModel) : Type 0 where
-  pub from : ℕ
-  pub made : ℕ
-  pub next : p.view.next ≡ Some from
-  pub none : FindsNone s last from (is_delete op) made p.safe p.sought
-  pub since : p.view.made ≤ made + steps
-
--- No card is left to an operation: the claim word, as the pass read it last, says that all cards are given out. Where
--- cards lie in slots, the pass found no slot to take, and has made so many step calls at most since; and if it read the
--- words of all slots in vain, they are full, in each state of the tree in which it knows this.
-pub record NoneIsLeft (plan : TablePlan) (op : Op) (steps : ℕ) (p : PassModel) : Type 0 where
-  pub given_out : plan.slots ≡ None → p.view.next ≡ Some (plan.last_card + 1)
-  pub no_slot : (s : Slots) → plan.slots ≡ Some s → HasSoughtInVain s plan.last_card op steps p
-  pub full : (s : Slots) → plan.slots ≡ Some s → plan.flat ≡ true
-      → p.sought.read ≡ s.last + 1 → p.sought.takeable ≡ 0 → IsFullFor plan s p.sought
+-- No card is left, if each has words of its own: the claim word, as the pass read it last, says that all are given out.
+-- Where cards lie in slots, it says nothing of when a pass found none to take.
+abbrev pub NoneIsLeft : TablePlan → PassModel → Type 0
+NoneIsLeft plan p = plan.slots ≡ None → p.view.next ≡ Some (plan.last_card + 1)
 
 -- why: something was in its way at each try; or its last try got no card, and was laid down by the next step call
-abbrev pub NotDoneFor : TablePlan → ℕ → Op → PassModel → PassModel → NotDone → Type 0
-NotDoneFor plan tries op old new Busy = hindrances old + tries ≤ hindrances new
-NotDoneFor plan tries op old new Spent = NoneIsLeft plan op 1 new
+abbrev pub NotDoneFor : TablePlan → ℕ → PassModel → PassModel → NotDone → Type 0
+NotDoneFor plan tries old new Busy = hindrances old + tries ≤ hindrances new
+NotDoneFor plan tries old new Spent = NoneIsLeft plan new
 
 -- of so many tries at most, those that something hindered which was over by then are counted
 pub record CountsTries (tries : ℕ) (old new : PassModel) : Type 0 where
@@ -156,7 +139,7 @@ TakesIfDelete t (Swap key was value) old new there = Unit {0}
 abbrev pub Ends : TreeModel → ℕ → Op → PassModel → PassModel → Result Reply NotDone → Type 0
 Ends t tries op old new (Ok said) = Answers t op said old new × Meets old.view new.view
 Ends t tries op old new (Err why) =
-    LaidDown t op old new × NotDoneFor t.plan tries op old new why × Meets old.view new.view
+    LaidDown t op old new × NotDoneFor t.plan tries old new why × Meets old.view new.view
 
 -- the most steps of a find, where no internal node is below more internal nodes than this
 abbrev pub find_steps : ℕ → ℕ

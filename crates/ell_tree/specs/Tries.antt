@@ -13,7 +13,6 @@ use Rattle.ell_word.specs.declared.update.Update.{Update}
 use Rattle.ell_core.specs.declared.fact.Fact.{Fact}
 use Rattle.ell_core.specs.declared.fact.Fact.TheVariants as fact
 use Rattle.ell_layout.specs.declared.field.Field.{Field}
-use Rattle.ell_cards.specs.declared.view.Slots.{Slots}
 use Rattle.ell_cards.specs.declared.view.Told.{Told}
 use Rattle.ell_cards.specs.declared.view.Told.TheVariants.{Expects}
 use Rattle.ell_cards.specs.declared.view.Hindrance.{Hindrance}
@@ -82,8 +81,6 @@ pub record Lays (op : Op) (old new : PassModel) : Type 0 where
   pub hindered : new.view.hindered ≡ tries_hindered old.view
   pub knows : StillKnows old.view new.view
   pub next : new.view.next ≡ old.view.next
-  pub sought : new.sought ≡ old.sought
-  pub safe : new.safe ≡ old.safe
   pub facts : new.view.worker.knows ≡ old.view.worker.knows
   pub least : new.view.next_at_least ≡ old.view.next_at_least
   pub idle : IsIdle new
@@ -111,7 +108,7 @@ abbrev pub TryEnds : TreeModel → Op → PassModel → PassModel → Tried → 
 TryEnds t op old new (tried.Answered had) =
     AnswersAs SeesEnd t op (reply_by op had) old new × Meets old.view new.view
     × (new.view.next_at_least ≤ t.plan.last_card + 1)
-TryEnds t op old new tried.Spent = Halts op old new × NoneIsLeft t.plan op 0 new × LetsGo t.plan new
+TryEnds t op old new tried.Spent = Halts op old new × NoneIsLeft t.plan new × LetsGo t.plan new
 TryEnds t op old new tried.Hindered =
     Halts op old new × (length old.view.hindrances + 1 ≤ length (way_of op new.view) + length new.view.hindrances)
     × SeesMilestone t.plan.last_card old.view new.view × LetsGo t.plan new
@@ -186,7 +183,7 @@ Claims plan op place node_key old new (claimed.Card c) =
     HasCard op place (expected_tag old.view) (filling_of c (new_node plan node_key) old.view) new.view c × (c ≤ plan.last_card)
     × (new.view.hindrances ≡ old.view.hindrances) × GivesOut plan.last_card old.view new.view × HasSlotOf plan c new
 Claims plan op place node_key old new claimed.NoneLeft =
-    HasNone old new × NoneIsLeft plan op 0 new × (new.view.hindrances ≡ old.view.hindrances) × LetsGo plan new
+    HasNone old new × NoneIsLeft plan new × (new.view.hindrances ≡ old.view.hindrances) × LetsGo plan new
 Claims plan op place node_key old new claimed.Lost =
     HasNone old new × Meets old.view new.view × (length old.view.hindrances + 1 ≤ length new.view.hindrances)
     × GivesOut plan.last_card old.view new.view × LetsGo plan new
@@ -199,7 +196,7 @@ pub record HoldsAside (plan : TablePlan) (p : PassModel) : Type 0 where
   pub aside : plan.slots ≢ None → (c : ℕ) → p.view.worker.card ≡ Some c → p.slot ≢ Some c
 
 -- a card was claimed in vain, whose slot could not be taken: the pass stands where it stood, and would fill a card with
--- what it would have filled it; and it has missed no more slots than there are
+-- what it would have filled it
 pub record ClaimsInVain (plan : TablePlan) (old new : PassModel) : Type 0 where
   pub slots : plan.slots ≢ None
   pub hand : HoldsAside plan new
@@ -207,8 +204,6 @@ pub record ClaimsInVain (plan : TablePlan) (old new : PassModel) : Type 0 where
   pub here : new.view.here ≡ old.view.here
   pub values : value_told new.view.told ≡ value_told old.view.told
   pub hindrances : new.view.hindrances ≡ old.view.hindrances
-  pub missed : new.sought.missed ≡ old.sought.missed + 1
-  pub few : (s : Slots) → plan.slots ≡ Some s → new.sought.missed ≤ s.last + 1
 
 -- what comes of claiming the next card
 abbrev pub ClaimsNext : TablePlan → Op → Place → ℕ → PassModel → PassModel → Next → Type 0

@@ -176,11 +176,12 @@ impl<A: Allocator + Copy> Tree<FixedMemory<A>> {
     /// free for another card. A slot is held back while a call that began before it became free goes on, and behind a
     /// look or a scan until `end_looks`.
     ///
-    /// A change returns `Spent` if it can take no slot, and may be made again. If more than `2 * n + 3 * p + 4 + y`
-    /// cards were asked for, where the tree has `n` keys, there may be `p` passes, and `y` slots were set free too
-    /// lately for the pass, then it returns `Spent` only if numbers are at an end: a slot serves 2^36 cards at most,
-    /// one after the other, or is passed over instead. Only deletes take the last two slots, so in a tree that keys
-    /// fill they can be taken away. That, and that slots and places come back, is tested, and no clause says it.
+    /// `Spent` means that a change was not made and found no slot, and it may be made again. If more than
+    /// `2 * n + 3 * p + 4 + y` cards were asked for, where the tree has `n` keys, there may be `p` passes, and `y`
+    /// slots were set free too lately for the pass, then it returns `Spent` only if numbers are at an end: a slot
+    /// serves 2^36 cards at most, one after the other, or is passed over instead. Only deletes take the last two slots,
+    /// so in a tree that keys fill they can be taken away. All this, and that slots and places come back, is tested,
+    /// and no clause says it.
     ///
     /// Each try of a change makes at most `2 * s + 2` steps more than in another flat tree, if `s` is the number of
     /// the last slot, and beside these some that are not counted, by which slots are looked for, set free and taken

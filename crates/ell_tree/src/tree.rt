@@ -399,11 +399,8 @@ impl<M: Memory> Tree<M> {
     /// then: a card that another pass took first, or a change of a neighbor, which was helped to its end if no other
     /// call had ended it.
     ///
-    /// A call finds no card if all are given out. Where cards come back, it finds none if no number with a slot is
-    /// left, or if it has read the words of all slots that are left to numbers, in a row, and could have taken none of
-    /// them for the change. If these are all slots, then all but the two that are left to deletes are at most as many
-    /// as the start keys, two for each key of the tree, three, three for each place, and those that were set free too
-    /// lately: with a stamp no less than the safe number by which the pass read the words.
+    /// A call finds no card if all are given out. Where cards come back, it finds none if it found no slot to take; when
+    /// that may be is tested, and no clause says it.
     ///
     /// A call takes at most `tries * (7 * depth + 27) + 1` steps. Each try that ends without an answer shows the pass
     /// a card given out, or come to its end, that it did not know of, and no card does either twice: so with more
@@ -426,11 +423,8 @@ impl<M: Memory> Tree<M> {
         // On a key of the pass, it answers as a map that has the pass's keys, which becomes the map after the call. On
         // any key, the answer is that of one thread at one point of the call, in every run. A call without an answer
         // changes nothing in any run: `Busy` is returned only after as many hindrances as tries, and `Spent` only if no
-        // card is left: the claim word says so; or, where cards come back, no number with a slot is left, or the pass
-        // has read the words of all slots that are left to numbers, in a row, and could have taken none for the change.
-        // If it has read the words of all slots, those for the change (all for a delete, and all but two for another
-        // one) are at most as many as the start keys, two for each key of the tree, three, three for each place, and
-        // those set free too lately. What was in its way is over.
+        // card is left, as the claim word says, or, where cards come back, no slot was found. What was in its way is
+        // over.
         ensures ends { Ends self.now tries (Insert key value) pass.old pass.new (replied result) }
         // The call began behind all that the pass had seen of the tree's history, it is a call of what the pass has seen
         // now, and it is the last one of the pass's calls. A call that has no answer adds none.
@@ -636,11 +630,8 @@ impl<M: Memory> Tree<M> {
         // On a key of the pass, it answers as a map that has the pass's keys, which becomes the map after the call. On
         // any key, the answer is that of one thread at one point of the call, in every run. A call without an answer
         // changes nothing in any run: `Busy` is returned only after as many hindrances as tries, and `Spent` only if no
-        // card is left: the claim word says so; or, where cards come back, no number with a slot is left, or the pass
-        // has read the words of all slots that are left to numbers, in a row, and could have taken none for the change.
-        // If it has read the words of all slots, those for the change (all for a delete, and all but two for another
-        // one) are at most as many as the start keys, two for each key of the tree, three, three for each place, and
-        // those set free too lately. What was in its way is over.
+        // card is left, as the claim word says, or, where cards come back, no slot was found. What was in its way is
+        // over.
         ensures ends { Ends self.now tries (Delete key) pass.old pass.new (replied result) }
         // The call began behind all that the pass had seen of the tree's history, it is a call of what the pass has seen
         // now, and it is the last one of the pass's calls. It took a value exactly if it says so. A call that has no
@@ -676,11 +667,8 @@ impl<M: Memory> Tree<M> {
         // On a key of the pass, it answers as a map that has the pass's keys, which becomes the map after the call. On
         // any key, the answer is that of one thread at one point of the call, in every run. A call without an answer
         // changes nothing in any run: `Busy` is returned only after as many hindrances as tries, and `Spent` only if no
-        // card is left: the claim word says so; or, where cards come back, no number with a slot is left, or the pass
-        // has read the words of all slots that are left to numbers, in a row, and could have taken none for the change.
-        // If it has read the words of all slots, those for the change (all for a delete, and all but two for another
-        // one) are at most as many as the start keys, two for each key of the tree, three, three for each place, and
-        // those set free too lately. What was in its way is over.
+        // card is left, as the claim word says, or, where cards come back, no slot was found. What was in its way is
+        // over.
         ensures ends { Ends self.now tries (Delete key) pass.old pass.new (replied (whether result)) }
         // The call began behind all that the pass had seen of the tree's history, it is a call of what the pass has seen
         // now, and it is the last one of the pass's calls. It took the value that it returns. A call that has no answer

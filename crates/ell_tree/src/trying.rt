@@ -86,7 +86,7 @@ pub(crate) fn take_card<M: Memory, G: StepGate>(
             Next::InUse => {}
         }
     }
-    // Never so: others took each of these slots first, and an operation misses no slot twice.
+    // Others took each of these slots first.
     Claimed::NoneLeft
 }
 

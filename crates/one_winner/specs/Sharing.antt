@@ -36,7 +36,7 @@ answered (a ∷ mine) = (a.op, a.said) ∷ answered mine
 -- why threads have no result, by the pass that comes back: its insert was not done, as the tree says; or it was not
 -- split, or not joined to another one, after its call
 abbrev pub Fails : TreeModel → PassModel → RaceFault → Type 0
-Fails t p (Insert why) = (op : Op) × (old : PassModel) × NotDoneFor t.plan TRIES op old p why
+Fails t p (Insert why) = (old : PassModel) × NotDoneFor t.plan TRIES old p why
 Fails t p (Split fault) = SplitRefuses t.plan.slots p.view fault × (p.sight.mine ≢ [])
 Fails t p (Memory no_memory) = p.sight.mine ≢ []
 Fails t p _ = ⊥

@@ -33,10 +33,6 @@ pub mod Leaks
 pub mod Duties
 pub mod LeaksOfCalls
 pub mod LeaksOfHandovers
--- what passes have read in their searches for slots
-pub mod Searches
--- what was taken since their periods began
-pub mod Takings
 -- these steps as those of a whole table
 pub mod Going
 -- and those on the words of slots
@@ -55,12 +51,8 @@ pub mod Losing
 pub mod TakingSlots
 -- rows of numbers that a pass takes at once
 pub mod Skipping
--- the row of numbers whose slots a search reads
-pub mod Seeking
 -- how many slots are in use
 pub mod InUse
--- and where no slot was found
-pub mod InVain
 -- what passes have seen of the history
 pub mod Seeing
 -- each call stands once in the calls of passes

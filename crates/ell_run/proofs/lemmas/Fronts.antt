@@ -99,7 +99,7 @@ front_all plan tries items i before after piece all h =
 
 -- the next operation is not done
 pub front_not_done : (tree : TreeModel) (tries : ℕ) (items : List (ℕ × Op)) (i : ℕ) (d : ℕ × Op) (before mid after : PassModel) (piece : List (ℕ × Reply)) (why : NotDone) →
-    i < length items → OwnsKeysOf before items → IsFrontDone items i before mid piece → LaidDown tree (get_or items i d).1 mid after → NotDoneFor tree.plan tries (get_or items i d).1 mid after why →
+    i < length items → OwnsKeysOf before items → IsFrontDone items i before mid piece → LaidDown tree (get_or items i d).1 mid after → NotDoneFor tree.plan tries mid after why →
     IsWorkedOff tree.plan tries items before after piece
 front_not_done tree tries items i d before mid after piece why below owned h l not_done_for =
     let few = h.few in
@@ -127,7 +127,7 @@ front_not_done tree tries items i d before mid after piece why below owned h l n
       answers = omega arith;
       not_done =
           let short : length piece < length items = omega arith in
-          once_not_done tree.plan tries (one_not_done items piece) (get_or items i d).1 before mid after why
+          once_not_done tree.plan tries (one_not_done items piece) before mid after why
           (cond-true (nat_lt (length piece) (length items)) 1 0 (lt-ltb (length piece) (length items) short)) h.grows not_done_for;
     }
 

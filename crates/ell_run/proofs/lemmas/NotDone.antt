@@ -12,7 +12,6 @@ use Rattle.ell_tree.specs.Hindrances.{Meets}
 use Rattle.ell_tree.specs.Ledgers.{PassModel, hindrances}
 use Rattle.ell_run.specs.Pieces.{ArePieces, all_not_done, one_not_done}
 use Rattle.ell_run.specs.Work.{AreNotDone, HasNoCards}
-use Rattle.ell_ops.specs.declared.op.Op.{Op}
 use Rattle.ell_ops.specs.declared.reply.Reply.{Reply}
 use Rattle.ell_ops.specs.Contents.{Contents}
 
@@ -29,12 +28,12 @@ none_not_done plan tries count before after none grows =
     inr (subst (λ n. hindrances before + tries * n ≤ hindrances after) (sym none) (omega (arith, mul-zero tries)))
 
 -- one was not done, after others
-pub once_not_done : (plan : TablePlan) (tries count : ℕ) (op : Op) (before mid after : PassModel) (why : NotDone) → count ≡ 1 → hindrances before ≤ hindrances mid →
-    NotDoneFor plan tries op mid after why → AreNotDone plan tries count before after
-once_not_done plan tries count op before mid after Busy one grows h =
+pub once_not_done : (plan : TablePlan) (tries count : ℕ) (before mid after : PassModel) (why : NotDone) → count ≡ 1 → hindrances before ≤ hindrances mid →
+    NotDoneFor plan tries mid after why → AreNotDone plan tries count before after
+once_not_done plan tries count before mid after Busy one grows h =
     inr (subst (λ n. hindrances before + tries * n ≤ hindrances after) (sym one) (omega (arith, mul-one tries)))
-once_not_done plan tries count op before mid after Spent one grows h =
-    inl (λ plain. record { next = plan.last_card + 1; read = h.given_out plain; past = omega arith })
+once_not_done plan tries count before mid after Spent one grows h =
+    inl (λ plain. record { next = plan.last_card + 1; read = h plain; past = omega arith })
 
 later_left : (cards n : ℕ) (other : Option ℕ) (both : PassModel) → cards < n → both.view.next ≡ later_reading (Some n) other → HasNoCards cards both
 later_left cards n None both past e = record { next = n; read = e; past = past }

@@ -1,4 +1,4 @@
-use Rattle.std.proofs.Common.{IfSome, ◌≡◌, ◌≢◌, ℕ, ◌+◌, ◌-◌, ◌*◌, ◌<◌, ◌≤◌, ◌++◌, Bool, true, false, Option, Some, None, List, [], ◌∷◌, length, inl, inr, refl, sym, ◌∙◌, ap, subst, unwrap_or, arith, nat_lt}
+use Rattle.std.proofs.Common.{◌≡◌, ◌≢◌, ℕ, ◌+◌, ◌-◌, ◌*◌, ◌<◌, ◌≤◌, ◌++◌, Bool, true, false, Option, Some, None, List, [], ◌∷◌, length, inl, inr, refl, sym, ◌∙◌, ap, subst, unwrap_or, arith, nat_lt}
 use Rattle.std.proofs.lemmas.Option.{same_Some}
 use Rattle.ell_ops.specs.declared.op.Op.{Op}
 use Rattle.ell_word.specs.declared.update.State.TheVariants as state
@@ -9,15 +9,12 @@ use Rattle.ell_core.specs.state.Facts.{known_of}
 use Rattle.ell_core.proofs.lemmas.outcomes.Decide.{some_not_none}
 use Rattle.ell_cards.specs.declared.view.Hindrance.{Hindrance}
 use Rattle.ell_cards.specs.declared.view.Hindrance.TheVariants.{Claim}
-use Rattle.ell_cards.specs.declared.view.Seek.{Seek}
 use Rattle.ell_cards.specs.declared.view.Slots.{Slots}
 use Rattle.ell_cards.specs.declared.view.View.{View}
 use Rattle.ell_cards.specs.Models.{TablePlan, PassModel, Steps, flat_from, new_node, latest, earlier, Does}
 use Rattle.ell_cards.specs.Changes.{expected_tag, filling_for, filling_of, tag_of_claim, value_told}
 use Rattle.ell_cards.specs.Guards.{MayClaim, MayFill, Wants}
 use Rattle.ell_cards.specs.Periods.{most_claims}
-use Rattle.ell_cards.specs.SlotWords.{slot_of}
-use Rattle.ell_cards.specs.Seeking.{FindsNone, FindsNoneIn, is_found, missed_one, one_if}
 use Rattle.ell_cards.specs.Shown.{cut_planned}
 use Rattle.ell_cards.specs.Skipping.{after_claimed_row, after_row, IsAfterRow, IsFresh}
 use Rattle.ell_cards.specs.Stepping.{LetsGo, MayInTable}
@@ -27,15 +24,13 @@ use Rattle.ell_cards.proofs.lemmas.views.Afters.{after_next}
 use Rattle.ell_cards.proofs.lemmas.views.Rows.{rows_keep, wants_same}
 use Rattle.ell_cards.proofs.lemmas.views.Searches.{may_claim}
 use Rattle.ell_cards.proofs.lemmas.views.Steps.{view_after}
-use Rattle.ell_cards.proofs.lemmas.whole.InVain.{sought_in_vain_means_full}
 use Rattle.ell_cards.proofs.lemmas.whole.Skipping.{from_some}
 use Rattle.ell_cards.proofs.lemmas.words.Updates.{clean_word}
 use Rattle.ell_tree.specs.declared.searching.Place.{Place}
 use Rattle.ell_tree.specs.declared.trying.Claimed.{Claimed}
 use Rattle.ell_tree.specs.declared.trying.Claimed.TheVariants as claimed
 use Rattle.ell_tree.specs.CardsTaken.{AskTakes, TakesNoCard}
-use Rattle.ell_tree.specs.Counts.{Took}
-use Rattle.ell_tree.specs.Ends.{claim_steps, is_delete, NoneIsLeft}
+use Rattle.ell_tree.specs.Ends.{claim_steps}
 use Rattle.ell_tree.specs.Hindrances.{Meets}
 use Rattle.ell_tree.specs.Keeping.{LosesNothing, KeepsIn}
 use Rattle.ell_tree.specs.Searches.{seen, IsAt}
@@ -72,7 +67,7 @@ may_claim_at plan old new c node op place s busy hand low at calm wants shape =
     (ap (λ (r : Search). r.node) at.search) at.told (ap (λ (r : Search). r.parent) at.search) (clean_word place.parent.update.state place.parent.update.card calm) wants shape
 
 -- a pass that takes a slot after its steps, or finds it in use, keeps what it kept
-pub keeps_slot : (plan : TablePlan) (a d e : PassModel) (n : ℕ) → KeepsIn plan a d n → e ≡ record d { slot = e.slot; safe = e.safe; surveyed = e.surveyed; sought = e.sought } → KeepsIn plan a e n
+pub keeps_slot : (plan : TablePlan) (a d e : PassModel) (n : ℕ) → KeepsIn plan a d n → e ≡ record d { slot = e.slot; safe = e.safe; surveyed = e.surveyed; retired = e.retired } → KeepsIn plan a e n
 keeps_slot plan a d e n k same = record {
   table = ap (λ (p : PassModel). p.table) same ∙ k.table;
   label = ap (λ (p : PassModel). p.label) same ∙ k.label;
@@ -84,7 +79,7 @@ keeps_slot plan a d e n k same = record {
 }
 
 -- A pass read the claim word, and then perhaps found another safe number. It may claim the next card then.
-module _ (a b e : PassModel) (first : ℕ) (node : NewNode) (read : Steps a b (after_next first a.view)) (same : e ≡ record b { safe = e.safe; surveyed = e.surveyed; sought = e.sought }) (low : a.view.next_at_least ≤ first) where
+module _ (a b e : PassModel) (first : ℕ) (node : NewNode) (read : Steps a b (after_next first a.view)) (same : e ≡ record b { safe = e.safe; surveyed = e.surveyed }) (low : a.view.next_at_least ≤ first) where
   pub may_claim_there : (plan : TablePlan) (op : Op) (place : Place) → Does a.view op → HoldsAside plan a → IsAt a.view place → place.parent.update.state ≡ state.Clean
       → Wants (flat_from plan) a.view op place.parent.node place.node place.key node.key → node.flat ≡ nat_lt 0 (flat_from plan) → MayClaim (flat_from plan) e.view first node
   may_claim_there plan op place busy hand at calm wants shape =
@@ -167,7 +162,7 @@ module _ (a b e : PassModel) (first : ℕ) (node : NewNode) (read : Steps a b (a
 
     -- also once its slot is taken, and nothing was in the way
     pub taken_claims : (plan : TablePlan) (op : Op) (place : Place) (f : PassModel) → ClaimsAll true → Does a.view op → IsAt a.view place
-        → 1 ≤ first → last ≤ plan.last_card → f ≡ record d { slot = f.slot; safe = f.safe; surveyed = f.surveyed; sought = f.sought } → HasSlotOf plan last f → node ≡ new_node plan node.key → Claims plan op place node.key a f (claimed.Card last)
+        → 1 ≤ first → last ≤ plan.last_card → f ≡ record d { slot = f.slot; safe = f.safe; surveyed = f.surveyed; retired = f.retired } → HasSlotOf plan last f → node ≡ new_node plan node.key → Claims plan op place node.key a f (claimed.Card last)
     taken_claims plan op place f s busy at some room took slot same_node =
         let view = ap (λ (p : PassModel). p.view) took in (
           subst (λ (k : NewNode). HasCard op place (expected_tag a.view) (filling_of last k a.view) f.view last) same_node
@@ -180,9 +175,8 @@ module _ (a b e : PassModel) (first : ℕ) (node : NewNode) (read : Steps a b (a
 
     -- or it may be laid aside
     pub in_vain : (plan : TablePlan) (f : PassModel) → plan.slots ≢ None → plan.flat ≡ true → ClaimsAll true → IsFresh plan e.slot true last
-        → f ≡ record d { safe = f.safe; surveyed = f.surveyed; sought = f.sought } → e.sought.missed ≡ b.sought.missed → is_found e.sought.found (slot_of last) ≡ true → f.sought ≡ missed_one (slot_of last) d.sought
-        → IfSome plan.slots (λ o. f.sought.missed ≤ o.last + 1) → ClaimsInVain plan a f
-    in_vain plan f places flat s fresh kept none found missed few =
+        → f ≡ record d { safe = f.safe; surveyed = f.surveyed } → ClaimsInVain plan a f
+    in_vain plan f places flat s fresh kept =
         let view = ap (λ (p : PassModel). p.view) kept in
         let slot = ap (λ (p : PassModel). p.slot) kept ∙ ap (λ (p : PassModel). p.slot) s in
         let r = subst (IsAfterRow first last node (after_next first a.view)) (sym view) (row s) in
@@ -197,13 +191,6 @@ module _ (a b e : PassModel) (first : ℕ) (node : NewNode) (read : Steps a b (a
           here = r.here;
           values = r.values;
           hindrances = r.hindrances;
-          missed =
-              let now = ap (λ (k : Seek). k.missed) missed in
-              let claimed = ap (λ (p : PassModel). p.sought.missed) s in
-              let before = ap (λ (p : PassModel). p.sought.missed) read in
-              let one = ap (λ (p : PassModel). one_if (is_found p.sought.found (slot_of last))) s ∙ ap one_if found in
-              omega (arith, now, claimed, none, before, one);
-          few = λ o is. subst (λ x. IfSome x (λ y. f.sought.missed ≤ y.last + 1)) is few;
         }
 
     -- if it lost them, no card was taken, and that was in the way
@@ -234,8 +221,6 @@ pub record HasAsked (plan : TablePlan) (n : ℕ) (old new : PassModel) : Type 0 
   pub values : value_told new.view.told ≡ value_told old.view.told
   pub hindrances : new.view.hindrances ≡ old.view.hindrances
   pub slots : 0 < n → plan.slots ≢ None
-  pub missed : n ≤ new.sought.missed
-  pub few : 0 < n → (s : Slots) → plan.slots ≡ Some s → new.sought.missed ≤ s.last + 1
   pub taken : plan.slots ≡ None → TakesNoCard old new
 
 -- none was at first
@@ -252,8 +237,6 @@ asked_none plan p none = record {
   values = refl;
   hindrances = refl;
   slots = λ some. absurd (omega (arith, some));
-  missed = omega arith;
-  few = λ some. absurd (omega (arith, some));
   taken = λ empty. refl;
 }
 
@@ -278,8 +261,6 @@ asked_more plan n old mid new h keeps vain = record {
   values = vain.values ∙ h.values;
   hindrances = vain.hindrances ∙ h.hindrances;
   slots = λ some. vain.slots;
-  missed = omega (arith, h.missed, vain.missed);
-  few = λ some. vain.few;
   taken = λ empty. absurd (vain.slots empty);
 }
 
@@ -368,59 +349,12 @@ pub claims_some : (o : Option Slots) → 0 < most_claims o
 claims_some None = omega arith
 claims_some (Some s) = omega arith
 
--- so it never claims as many as it may in vain
-pub asked_in_vain : (plan : TablePlan) (n : ℕ) (old mid : PassModel) (op : Op) (place : Place) (node_key : ℕ) → HasAsked plan n old mid → n ≡ most_claims plan.slots
+-- where each was claimed in vain, no card was taken
+pub asked_in_vain : (plan : TablePlan) (n : ℕ) (old mid : PassModel) (op : Op) (place : Place) (node_key : ℕ) → HasAsked plan n old mid → 0 < n
     → Claims plan op place node_key old mid claimed.NoneLeft
-asked_in_vain plan n old mid op place node_key h all = absurd (by plan.slots refl)
-  where
-    some : 0 < n
-    some = let more = claims_some plan.slots in omega (arith, all, more)
-
-    by : (o : Option Slots) → plan.slots ≡ o → ⊥
-    by None none = h.slots some none
-    by (Some s) is = let many = all ∙ ap most_claims is in let few = h.few some s is in omega (arith, many, few, h.missed)
-
--- all numbers were given out
-pub numbers_at_end : (plan : TablePlan) (op : Op) (p : PassModel) (from : ℕ) → p.view.next ≡ Some from → plan.last_card < from → from ≤ plan.last_card + 1
-    → NoneIsLeft plan op 0 p
-numbers_at_end plan op p from next past most = record {
-  given_out = λ empty. next ∙ ap (λ n. Some n) (omega (arith, past, most));
-  no_slot = λ s is. record {
-    from = from;
-    made = p.view.made;
-    next = next;
-    none = inl (λ c up inside. omega (arith, up, past));
-    since = omega arith;
-  };
-  full = λ s is flat whole none_takes. sought_in_vain_means_full plan s is flat p.sought whole none_takes;
-}
-
--- no slot was found that could be taken
-pub none_found : (plan : TablePlan) (op : Op) (p : PassModel) (from made : ℕ) (for_delete : Bool) → plan.slots ≢ None → p.view.next ≡ Some from → p.view.made ≡ made → for_delete ≡ is_delete op
-    → FindsNoneIn plan.slots plan.last_card from for_delete made p.safe p.sought → NoneIsLeft plan op 0 p
-none_found plan op p from made for_delete there next same kind finds = record {
-  given_out = λ empty. absurd (there empty);
-  no_slot = λ s is. record {
-    from = from;
-    made = made;
-    next = next;
-    none = subst (λ b. FindsNone s plan.last_card from b made p.safe p.sought) kind (subst (λ o. FindsNoneIn o plan.last_card from for_delete made p.safe p.sought) is finds);
-    since = omega (arith, same);
-  };
-  full = λ s is flat whole none_takes. sought_in_vain_means_full plan s is flat p.sought whole none_takes;
-}
-
--- a pass that has found no card left has found it still once the operation is laid down
-pub still_none : (plan : TablePlan) (op : Op) (old new : PassModel) → new.view.next ≡ old.view.next → new.sought ≡ old.sought → new.safe ≡ old.safe → Took old new 1 → NoneIsLeft plan op 0 old → NoneIsLeft plan op 1 new
-still_none plan op old new next sought safe took none = record {
-  given_out = λ empty. next ∙ none.given_out empty;
-  no_slot = λ s is. (let vain = none.no_slot s is in record {
-    from = vain.from;
-    made = vain.made;
-    next = next ∙ vain.next;
-    none = subst (λ n. FindsNone s plan.last_card vain.from (is_delete op) vain.made n new.sought) (sym safe)
-        (subst (FindsNone s plan.last_card vain.from (is_delete op) vain.made old.safe) (sym sought) vain.none);
-    since = omega (arith, took.made, vain.since);
-  });
-  full = λ s is flat whole none_takes. sought_in_vain_means_full plan s is flat new.sought whole none_takes;
-}
+asked_in_vain plan n old mid op place node_key h some = (
+  record { unflagged = λ c holds. aside_unflagged plan mid c h.hand holds; search = h.search },
+  λ empty. absurd (h.slots some empty),
+  h.hindrances,
+  lets_aside_go plan mid mid refl refl refl h.hand,
+)

@@ -1,7 +1,7 @@
 use Rattle.std.proofs.Common.{◌≡◌, ◌≢◌, ◌⊎◌, false, ℕ, zero, suc, ◌+◌, ◌*◌, ◌%◌, ◌<◌, ◌≤◌, Some, inl, inr, refl, sym, ◌∙◌, subst, max, min, true, arith, Bool, if◌then◌else◌, ◌||◌, ◌==◌, ap}
 use Rattle.ell_cards.specs.LettingGo.{PutIsRetired}
 use Rattle.ell_cards.specs.SlotWords.{has_slot_in}
-use Rattle.ell_cards.specs.Seeking.{retires}
+use Rattle.ell_cards.specs.Retiring.{with_retired}
 use Rattle.ell_cards.specs.declared.card_nodes.CardNodes.{CardNodes}
 use Rattle.ell_cards.specs.declared.view.Slots.{Slots}
 use Rattle.std.proofs.lemmas.Bool.Decides.{nat_tests}
@@ -14,7 +14,7 @@ use Rattle.ell_core.specs.acts.Searching.{put_of}
 use Rattle.ell_core.proofs.lemmas.keeping.Puts.{put_key}
 use Rattle.ell_layout.specs.declared.field.Field.TheVariants as field
 use Rattle.ell_layout.specs.Words.{IsLeaf}
-use Rattle.ell_cards.specs.declared.view.Seek.{Seek}
+use Rattle.ell_cards.specs.declared.view.Retired.{Retired}
 use Rattle.ell_cards.specs.declared.view.Told.TheVariants.{Info}
 use Rattle.ell_cards.specs.declared.view.View.{View}
 use Rattle.ell_cards.specs.CardNodes.{all_nodes, node_alone}
@@ -31,8 +31,8 @@ use Rattle.ell_tree.specs.Retiring.{HasPut}
 use Rattle.ell_tree.specs.Searches.{node_with}
 
 -- what a pass kept it has kept once it has noted nodes
-keeps_noted : (a m : PassModel) (sought : Seek) (n : ℕ) → Keeps a m n → Keeps a (record m { sought = sought }) n
-keeps_noted a m sought n h = record { table = h.table; label = h.label; sight = h.sight; slot = h.slot; view = h.view; took = record { steps = h.took.steps; made = h.took.made } }
+keeps_noted : (a m : PassModel) (retired : Retired) (n : ℕ) → Keeps a m n → Keeps a (record m { retired = retired }) n
+keeps_noted a m retired n h = record { table = h.table; label = h.label; sight = h.sight; slot = h.slot; view = h.view; took = record { steps = h.took.steps; made = h.took.made } }
 
 pub keeps_all_noted : (a m m' : PassModel) (n : ℕ) → KeepsAll a m n → HasNoted m m' → KeepsAll a m' n
 keeps_all_noted a m m' n h same = subst (λ x. KeepsAll a x n) (sym same) (record {
@@ -147,9 +147,9 @@ has_put f m c op what place puts k busy hand flagged over is outer = record {
 }
 
 -- what is noted of nodes that a card took out stays noted
-leaf_stays : (t : Bool) (nodes : CardNodes) (k : Seek) → (if t then retires false nodes k else k).retired.leaf ≡ k.retired.leaf
-leaf_stays true nodes k = refl
-leaf_stays false nodes k = refl
+leaf_stays : (t : Bool) (nodes : CardNodes) (r : Retired) → (if t then with_retired false nodes r else r).leaf ≡ r.leaf
+leaf_stays true nodes r = refl
+leaf_stays false nodes r = refl
 
 or_so : (b : Bool) → (b || true) ≡ true
 or_so true = refl
@@ -160,13 +160,13 @@ leaf_in x old outer node = grind (arith, nat_tests)
 
 -- so what a swap made dead is noted: the leaf that it took out, and of its card what never came
 pub swap_retired : (s : Slots) (what : Put) (place : Place) (c : ℕ) (a b d : PassModel) → HasPut what place a.view c → place.key ≡ what.key → HasNoted a b → HasNoted b d
-    → b.sought ≡ retires_in s true (card place.node) (node_alone (place.node % 4)) a.sought
-    → d.sought ≡ retires_in s false c (record { internal = true; left = true; right = false }) b.sought
-    → PutIsRetired s d.view d.sought.retired c
+    → b.retired ≡ retires_in s true (card place.node) (node_alone (place.node % 4)) a.retired
+    → d.retired ≡ retires_in s false c (record { internal = true; left = true; right = false }) b.retired
+    → PutIsRetired s d.view d.retired c
 swap_retired s what place c a b d h one first second took own =
     let lesser : min what.key place.key ≡ what.key = omega (arith, one) in
     let greater : max what.key place.key ≡ what.key = omega (arith, one) in
-    subst (λ (w : View). PutIsRetired s w d.sought.retired c) (sym (ap (λ (p : PassModel). p.view) second ∙ ap (λ (p : PassModel). p.view) first)) (record {
+    subst (λ (w : View). PutIsRetired s w d.retired c) (sym (ap (λ (p : PassModel). p.view) second ∙ ap (λ (p : PassModel). p.view) first)) (record {
       op = h.op;
       below = place.node;
       left = min what.key place.key;
@@ -176,18 +176,18 @@ swap_retired s what place c a b d h one first second took own =
       left_key = h.left_key;
       right_key = h.right_key;
       leaf = λ same node slot.
-          ap (λ (k : Seek). k.retired.leaf) own
-          ∙ (leaf_stays (has_slot_in s.last c) (record { internal = true; left = true; right = false }) b.sought
-          ∙ (ap (λ (k : Seek). k.retired.leaf) took
-          ∙ (ap (λ t. (if t then retires true (node_alone (place.node % 4)) a.sought else a.sought).retired.leaf) slot
-          ∙ leaf_in place.node a.sought.retired.leaf (h.outer one) node)));
+          ap (λ (r : Retired). r.leaf) own
+          ∙ (leaf_stays (has_slot_in s.last c) (record { internal = true; left = true; right = false }) b.retired
+          ∙ (ap (λ (r : Retired). r.leaf) took
+          ∙ (ap (λ t. (if t then with_retired true (node_alone (place.node % 4)) a.retired else a.retired).leaf) slot
+          ∙ leaf_in place.node a.retired.leaf (h.outer one) node)));
       replaced = λ same slot. (
-        ap (λ (k : Seek). k.retired.own.internal) own
-            ∙ (ap (λ t. (if t then retires false (record { internal = true; left = true; right = false }) b.sought else b.sought).retired.own.internal) slot
-            ∙ or_so b.sought.retired.own.internal),
-        ap (λ (k : Seek). k.retired.own.left) own
-            ∙ (ap (λ t. (if t then retires false (record { internal = true; left = true; right = false }) b.sought else b.sought).retired.own.left) slot
-            ∙ or_so b.sought.retired.own.left),
+        ap (λ (r : Retired). r.own.internal) own
+            ∙ (ap (λ t. (if t then with_retired false (record { internal = true; left = true; right = false }) b.retired else b.retired).own.internal) slot
+            ∙ or_so b.retired.own.internal),
+        ap (λ (r : Retired). r.own.left) own
+            ∙ (ap (λ t. (if t then with_retired false (record { internal = true; left = true; right = false }) b.retired else b.retired).own.left) slot
+            ∙ or_so b.retired.own.left),
       );
       unused_left = λ apart. absurd (apart (lesser ∙ sym greater));
       unused_right = λ apart. absurd (apart (lesser ∙ sym greater));

@@ -13,7 +13,6 @@ use Rattle.ell_cards.proofs.lemmas.whole.Steps.{announced_again}
 use Rattle.ell_cards.proofs.lemmas.whole.Untouched.{free_slots_are_untouched}
 use Rattle.ell_cards.proofs.lemmas.whole.Noting.{retired_nodes_are_noted}
 use Rattle.ell_cards.proofs.lemmas.whole.InUse.{slots_in_use_are_few}
-use Rattle.ell_cards.proofs.lemmas.whole.InVain.{sought_in_vain_means_full}
 use Rattle.ell_cards.proofs.laws.safe_numbers_are_safe.Goals as goal
 
 module _ (plan : TablePlan) (s : Slots) (tree : TableState) (t : WholeState) (has : HasPeriods plan s tree t) (seat : ℕ) (k : Known) (is : IsInPeriod t seat k) where
@@ -48,5 +47,4 @@ returns c = record {
       let has = subst (λ o. PeriodsAre plan o h.tree t) placed h.periods in
       record { machine = has.0.ages.now.machine; lie = has.0.lie; lies = has.0.lies; leaks = has.1 };
   few = slots_in_use_are_few;
-  full = sought_in_vain_means_full;
 }

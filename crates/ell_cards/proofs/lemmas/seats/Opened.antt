@@ -6,7 +6,7 @@ use Rattle.ell_cards.specs.declared.pass.Standing.{Standing}
 use Rattle.ell_cards.specs.declared.share.Share.{Share}
 use Rattle.ell_cards.specs.declared.view.Known.{Known}
 use Rattle.ell_cards.specs.declared.view.Period.{Period}
-use Rattle.ell_cards.specs.declared.view.Seek.{Seek}
+use Rattle.ell_cards.specs.declared.view.Retired.{Retired}
 use Rattle.ell_cards.specs.declared.view.Slots.{Slots}
 use Rattle.ell_cards.specs.declared.view.View.{View}
 use Rattle.ell_cards.specs.Models.{TablePlan, TableModel, PassModel, IsTold, last_slot, last_slot_of}
@@ -168,14 +168,14 @@ module _ (t u : TableModel) (p q : PassModel) (same_table : t ≡ u) (same_pass 
       omega arith
 
   -- what a step call asks of the slots, of what the seat of the pass knows
-  pub asks_there : (k : Known) → shown k.tree ≡ p.view → k.period.slot ≡ p.slot → k.period.sought ≡ p.sought → (c : Call) → MayInTable u.plan q c
-      → (s : Slots) → u.plan.slots ≡ Some s → MayInMemory s k.period.slot k.period.sought.retired (shown k.tree) c
-  asks_there k shows slotted sought c kept s some =
+  pub asks_there : (k : Known) → shown k.tree ≡ p.view → k.period.slot ≡ p.slot → k.period.retired ≡ p.retired → (c : Call) → MayInTable u.plan q c
+      → (s : Slots) → u.plan.slots ≡ Some s → MayInMemory s k.period.slot k.period.retired (shown k.tree) c
+  asks_there k shows slotted retires c kept s some =
       let is : q.view ≡ shown k.tree = ap (λ (m : PassModel). m.view) (sym same_pass) ∙ sym shows in
       let taken : q.slot ≡ k.period.slot = ap (λ (m : PassModel). m.slot) (sym same_pass) ∙ sym slotted in
-      let seeks : q.sought ≡ k.period.sought = ap (λ (m : PassModel). m.sought) (sym same_pass) ∙ sym sought in
-      subst (λ v. MayInMemory s k.period.slot k.period.sought.retired v c) is
-      (subst (λ (r : Seek). MayInMemory s k.period.slot r.retired q.view c) seeks (subst (λ o. MayInMemory s o q.sought.retired q.view c) taken (kept s some)))
+      let same : q.retired ≡ k.period.retired = ap (λ (m : PassModel). m.retired) (sym same_pass) ∙ sym retires in
+      subst (λ v. MayInMemory s k.period.slot k.period.retired v c) is
+      (subst (λ (r : Retired). MayInMemory s k.period.slot r q.view c) same (subst (λ o. MayInMemory s o q.retired q.view c) taken (kept s some)))
 
   -- what a step call owes that the rule of its table allows, by what its caller says of the table and the pass
   pub owed_by : (k : Known) (seat : ℕ) → k.period.slot ≡ p.slot → (held : List (ℕ × Unit {0})) (keys : List ℕ) (share : Share) (standing : Standing) (word : ℕ) (f : ℕ → ℕ)
@@ -192,28 +192,28 @@ module _ (t u : TableModel) (p q : PassModel) (same_table : t ≡ u) (same_pass 
       )
 
   -- what one owes that may begin an operation or answer one, by a pass that is shown of what its seat knows
-  pub owed_marked : (k : Known) → shown k.tree ≡ p.view → (seat : ℕ) → k.period.slot ≡ p.slot → k.period.sought ≡ p.sought → (held : List (ℕ × Unit {0})) (keys : List ℕ) (share : Share) (standing : Standing) (word : ℕ) (f : ℕ → ℕ)
+  pub owed_marked : (k : Known) → shown k.tree ≡ p.view → (seat : ℕ) → k.period.slot ≡ p.slot → k.period.retired ≡ p.retired → (held : List (ℕ × Unit {0})) (keys : List ℕ) (share : Share) (standing : Standing) (word : ℕ) (f : ℕ → ℕ)
       (told : ℕ → View → Type 0) (notes : ℕ → Period) (c : Call) → t.id.slots ≡ 0 → held ≡ [] → PassFits keys share p.table.words p.view → PlaceFits standing p.table.words k.period
       → StoresWord c → word ≡ place_of c → May u.plan c q.view → MayInTable u.plan q c → Does u.plan c f
       → (u.plan.slots ≢ None → k.period.announced ≡ None → IsQuiet c) → (IsFill c → (n m : ℕ) (w : View) → told n w → told m w) → MayTell u.plan c q.view told
       → ((n : ℕ) → IsWord n → Notes u.plan.slots c n k.period (notes n))
       → (p.table ≡ t.id) × (word < t.id.words)
       × Allows (IsWhole t.plan) t.id.slots seat (k, held) word f (λ n x. told n (shown x.0.tree) × (x.0.period ≡ notes n) × (x.1 ≡ held) × Marks c (shown k.tree) k.sight x.0.sight)
-  owed_marked k shows seat slotted sought held keys share standing word f told notes c none empty fits placed stores at may kept does quiet same tells noted =
+  owed_marked k shows seat slotted retires held keys share standing word f told notes c none empty fits placed stores at may kept does quiet same tells noted =
       let is : q.view ≡ shown k.tree = ap (λ (m : PassModel). m.view) (sym same_pass) ∙ sym shows in
       owed_by k seat slotted held keys share standing word f (λ n x l. told n (shown x.0.tree) × (x.0.period ≡ notes n) × (x.1 ≡ l) × Marks c (shown k.tree) k.sight x.0.sight) c none empty fits placed at may kept
-      (tree_step_marked u.plan k c f told notes stores (subst (May u.plan c) is may) (asks_there k shows slotted sought c kept) (λ some. placed.lost) does quiet same (subst (λ v. MayTell u.plan c v told) is tells) noted)
+      (tree_step_marked u.plan k c f told notes stores (subst (May u.plan c) is may) (asks_there k shows slotted retires c kept) (λ some. placed.lost) does quiet same (subst (λ v. MayTell u.plan c v told) is tells) noted)
 
   -- what a step call owes that neither begins an operation nor answers one, by what its caller says of the table and the pass, which is shown of what its seat knows
-  pub owed : (k : Known) → shown k.tree ≡ p.view → (seat : ℕ) → k.period.slot ≡ p.slot → k.period.sought ≡ p.sought → (held : List (ℕ × Unit {0})) (keys : List ℕ) (share : Share) (standing : Standing) (word : ℕ) (f : ℕ → ℕ)
+  pub owed : (k : Known) → shown k.tree ≡ p.view → (seat : ℕ) → k.period.slot ≡ p.slot → k.period.retired ≡ p.retired → (held : List (ℕ × Unit {0})) (keys : List ℕ) (share : Share) (standing : Standing) (word : ℕ) (f : ℕ → ℕ)
       (told : ℕ → View → Type 0) (notes : ℕ → Period) (c : Call) → t.id.slots ≡ 0 → held ≡ [] → PassFits keys share p.table.words p.view → PlaceFits standing p.table.words k.period
       → StoresWord c → word ≡ place_of c → May u.plan c q.view → MayInTable u.plan q c → Does u.plan c f
       → (u.plan.slots ≢ None → k.period.announced ≡ None → IsQuiet c) → (IsFill c → (n m : ℕ) (w : View) → told n w → told m w) → MayTell u.plan c q.view told
       → ((n : ℕ) → IsWord n → Notes u.plan.slots c n k.period (notes n)) → IsCalm c
       → (p.table ≡ t.id) × (word < t.id.words)
       × Allows (IsWhole t.plan) t.id.slots seat (k, held) word f (λ n x. told n (shown x.0.tree) × (x.0.period ≡ notes n) × (x.1 ≡ held) × (x.0.sight ≡ k.sight))
-  owed k shows seat slotted sought held keys share standing word f told notes c none empty fits placed stores at may kept does quiet same tells noted calm =
-      let x = owed_marked k shows seat slotted sought held keys share standing word f told notes c none empty fits placed stores at may kept does quiet same tells noted in
+  owed k shows seat slotted retires held keys share standing word f told notes c none empty fits placed stores at may kept does quiet same tells noted calm =
+      let x = owed_marked k shows seat slotted retires held keys share standing word f told notes c none empty fits placed stores at may kept does quiet same tells noted in
       (x.0, x.1, λ s holds homes here small. (let y = x.2 s holds homes here small in (y.0, y.1, y.2, y.3, (y.4.0, y.4.1, y.4.2, calm_marks c calm (shown k.tree) k.sight y.0.sight y.4.3))))
 
   -- the pass after a step that told this

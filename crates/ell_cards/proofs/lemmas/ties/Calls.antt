@@ -109,7 +109,7 @@ waited_before plan (call.Mark c p was) n v d h =
 waited_before plan c n v d h = same_waits c n v (after c n v) d refl refl refl h
 
 -- a card that a call flags is in hand, and all that it says was stored in its slot
-flag_in_hand : (plan : TablePlan) (s : Slots) (c : Call) (k : Known) → May plan c k.tree → MayInMemory s k.period.slot k.period.sought.retired k.tree c → (d : ℕ) → FlagsCard c d
+flag_in_hand : (plan : TablePlan) (s : Slots) (c : Call) (k : Known) → May plan c k.tree → MayInMemory s k.period.slot k.period.retired k.tree c → (d : ℕ) → FlagsCard c d
     → HoldsWaiting k.tree d × (k.period.slot ≡ Some d) × HasStoredAll k.tree (flag_says c)
 flag_in_hand plan s (call.IFlag c p from) k may mem d is = ((may.may.holds ∙ ap Some (sym is), may.may.unflagged), mem.0 ∙ ap Some (sym is), mem.1)
 flag_in_hand plan s (call.DFlag c gp from) k may mem d is = ((may.may.holds ∙ ap Some (sym is), may.may.unflagged), mem.0 ∙ ap Some (sym is), mem.1)
@@ -120,7 +120,7 @@ fill_place : (plan : TablePlan) (c : Call) (v : View) → May plan c v → (d : 
 fill_place plan (call.Fill c g value) v may d f h is = λ t. slot_address (some_same (sym may.holds ∙ h.0) t) (sym is t)
 fill_place plan _ v may d f h is = absurd is
 
-fill_taken : (plan : TablePlan) (s : Slots) (c : Call) (k : Known) → May plan c k.tree → MayInMemory s k.period.slot k.period.sought.retired k.tree c → (d : ℕ) (f : Field) → HoldsWaiting k.tree d → FillsField c f
+fill_taken : (plan : TablePlan) (s : Slots) (c : Call) (k : Known) → May plan c k.tree → MayInMemory s k.period.slot k.period.retired k.tree c → (d : ℕ) (f : Field) → HoldsWaiting k.tree d → FillsField c f
     → k.period.slot ≡ Some d
 fill_taken plan s (call.Fill c g value) k may mem d f h is = mem ∙ (sym may.holds ∙ h.0)
 fill_taken plan s _ k may mem d f h is = absurd is
@@ -140,7 +140,7 @@ read_there : (l : List ℕ) (i j n : ℕ) → j ≡ i → i < length l → get_o
 read_there l i j n same fits = ap (λ x. get_or (set l i n) x 0) same ∙ get_or-set_same l i n 0 fits
 
 module _ (plan : TablePlan) (s : Slots) (low : s.last < turn_size) (tree : TableState) (t : WholeState) (stage next : Stages) (lie : ℕ → ℕ) (dead : ℕ → Bool) (was_dead : ℕ → ℕ → Bool)
-    (tied : IsTied s tree t stage lie dead was_dead) (id : ℕ) (k : Known) (here : get_elem? t.views id ≡ some k) (c : Call) (may : May plan c k.tree) (mem : MayInMemory s k.period.slot k.period.sought.retired k.tree c)
+    (tied : IsTied s tree t stage lie dead was_dead) (id : ℕ) (k : Known) (here : get_elem? t.views id ≡ some k) (c : Call) (may : May plan c k.tree) (mem : MayInMemory s k.period.slot k.period.retired k.tree c)
     (touch : TouchesTied s lie t.words tree c) (room : table_size s.last ≤ length t.words) (fits : word_of c < length tree.words)
     (small : get_or (set tree.words (word_of c) (left_by (atomic_of c) (found_by tree c))) 0 0 < 2 ^ 64)
     (wins : (d : ℕ) → HasWon next d → HasWon stage d ⊎ FlagsCard c d)

@@ -110,7 +110,7 @@ joins_keep_ties plan s tree t lie dead was_dead low h id other k l here here' th
 -- the parts of a split have no card in hand, nor has a pass that was joined to another one: each card in hand was there before
 pub split_held : (t : WholeState) (id : ℕ) (k : Known) (keys : List ℕ) (seat c : ℕ) (u : Known)
     → get_elem? (set t.views id (left_known keys k) ++ right_known keys k ∷ []) seat ≡ some u → u.period.slot ≡ Some c → u.tree.worker.card ≡ Some c
-    → HadInHand t.views c u.period.sought.retired
+    → HadInHand t.views c u.period.retired
 split_held t id k keys seat c u at slot hand = elim (at_end (set t.views id (left_known keys k)) (right_known keys k) u seat at) [
   | inl was ↦ ⊎_elim
       (λ (e : (seat ≡ id) × (left_known keys k ≡ u)). absurd (some_not_none (ap (λ (x : Known). x.tree.worker.card) e.1 ∙ hand) refl))
@@ -121,7 +121,7 @@ split_held t id k keys seat c u at slot hand = elim (at_end (set t.views id (lef
 
 pub join_held : (t : WholeState) (id other : ℕ) (k l : Known) (seat c : ℕ) (u : Known)
     → get_elem? (set (set t.views id (joined_known k l)) other spent_known) seat ≡ some u → u.period.slot ≡ Some c → u.tree.worker.card ≡ Some c
-    → HadInHand t.views c u.period.sought.retired
+    → HadInHand t.views c u.period.retired
 join_held t id other k l seat c u at slot hand = ⊎_elim
     (λ (e : (seat ≡ other) × (spent_known ≡ u)). absurd (some_not_none (ap (λ (x : Known). x.tree.worker.card) e.1 ∙ hand) refl))
     (λ (e : (seat ≢ other) × (get_elem? (set t.views id (joined_known k l)) seat ≡ some u)). ⊎_elim

@@ -37,7 +37,7 @@ ready_by plan s tree t lie dead was_dead h id k (inr p) = elim (h.since id p.pla
 -- what a call does to memory: it touches a word that is tied, and memory is tied after it, by the ages after the call
 module _ (plan : TablePlan) (s : Slots) (tree : TableState) (t : WholeState) (lie : ℕ → ℕ) (dead : ℕ → Bool) (was_dead : ℕ → ℕ → Bool) (reached : IsReached plan tree) (low : s.last < turn_size)
     (room : table_size s.last ≤ length t.words) (h : IsTiedByAges plan s tree t lie dead was_dead) (id : ℕ) (k : Known) (here : get_elem? t.views id ≡ some k)
-    (there : get_elem? tree.views id ≡ some k.tree) (ready : IsAtRest k.tree ⊎ IsInPeriod t id k) (c : Call) (may : May plan c k.tree) (mem : MayInMemory s k.period.slot k.period.sought.retired k.tree c) where
+    (there : get_elem? tree.views id ≡ some k.tree) (ready : IsAtRest k.tree ⊎ IsInPeriod t id k) (c : Call) (may : May plan c k.tree) (mem : MayInMemory s k.period.slot k.period.retired k.tree c) where
   abbrev after : TableState
   after = state_after tree id k.tree c
 

@@ -337,7 +337,7 @@ module _ (plan : TablePlan) (s : Slots) (tree : TableState) (t : WholeState) (r 
 
 pub touched_lies : (plan : TablePlan) (s : Slots) (tree : TableState) (t : WholeState) (r : HasMachine plan tree) (lie : ℕ → ℕ) (dead : ℕ → Bool) (was_dead : ℕ → ℕ → Bool)
     → IsTied s tree t r.stages lie dead was_dead → (id : ℕ) (k : Known) → get_elem? t.views id ≡ some k → get_elem? tree.views id ≡ some k.tree
-    → IsReady plan tree id k was_dead → (c : Call) → May plan c k.tree → MayInMemory s k.period.slot k.period.sought.retired k.tree c → LiesThere s lie (card_touched (touched_by c))
+    → IsReady plan tree id k was_dead → (c : Call) → May plan c k.tree → MayInMemory s k.period.slot k.period.retired k.tree c → LiesThere s lie (card_touched (touched_by c))
 touched_lies plan s tree t r lie dead was_dead tied id k here there ready (call.Fill c f value) may mem = tied.hand id c k here mem (may.holds, may.unflagged)
 touched_lies plan s tree t r lie dead was_dead tied id k here there ready c may mem =
     lies_won plan s tree t r lie dead was_dead tied id k here there ready c may (touched_won plan tree r id k.tree there c may).0
@@ -353,7 +353,7 @@ touched_finds plan s tree t r lie dead was_dead tied id k here there ready c may
 -- the word that a call touches is tied
 pub touched_tied : (plan : TablePlan) (s : Slots) (tree : TableState) (t : WholeState) (r : HasMachine plan tree) (lie : ℕ → ℕ) (dead : ℕ → Bool) (was_dead : ℕ → ℕ → Bool)
     → IsTied s tree t r.stages lie dead was_dead → (id : ℕ) (k : Known) → get_elem? t.views id ≡ some k → get_elem? tree.views id ≡ some k.tree
-    → IsReady plan tree id k was_dead → (c : Call) → May plan c k.tree → MayInMemory s k.period.slot k.period.sought.retired k.tree c → TouchesTied s lie t.words tree c
+    → IsReady plan tree id k was_dead → (c : Call) → May plan c k.tree → MayInMemory s k.period.slot k.period.retired k.tree c → TouchesTied s lie t.words tree c
 touched_tied plan s tree t r lie dead was_dead tied id k here there ready c may mem =
     let lies = touched_lies plan s tree t r lie dead was_dead tied id k here there ready c may mem in record {
       inside = inside plan s tree t r lie dead was_dead tied id k here there ready c may lies;

@@ -14,14 +14,12 @@ use Rattle.ell_word.specs.Node.{greatest_card, greatest_number, turn_size}
 use Rattle.ell_layout.specs.Layout.{address, table_size}
 use Rattle.ell_layout.specs.declared.field.Field.{Field}
 use Rattle.ell_layout.specs.declared.field.Field.TheVariants as field
-use Rattle.ell_ops.specs.declared.op.Op.{Op}
 use Rattle.ell_cards.specs.declared.call.Call.{Call}
 use Rattle.ell_cards.specs.declared.call.Call.TheVariants as call
 use Rattle.ell_cards.specs.declared.view.Event.{Event}
 use Rattle.ell_cards.specs.declared.view.Known.{Known}
 use Rattle.ell_cards.specs.declared.view.Period.{Period}
 use Rattle.ell_cards.specs.declared.view.Retired.{Retired}
-use Rattle.ell_cards.specs.declared.view.Seek.{Seek}
 use Rattle.ell_cards.specs.declared.view.Sight.{Sight}
 use Rattle.ell_cards.specs.declared.view.Slots.{Slots}
 use Rattle.ell_cards.specs.declared.view.Told.TheVariants.{Info}
@@ -41,11 +39,10 @@ use Rattle.ell_cards.specs.Apart.{IsApart}
 use Rattle.ell_cards.specs.Shown.{IsWord, cut_word, cut_by, shown_word, shown_words, shown, shown_call, FieldIsWhole, FillIsWhole, CanBeShown, StoresAreWhole, StoresWord}
 use Rattle.ell_cards.specs.Histories.{event_of, history_of}
 use Rattle.ell_cards.specs.Seeing.{AllHaveSeen, AreMade, AreSilent, Marks, IsCalm, marked}
-use Rattle.ell_cards.specs.Seeking.{begun_seek}
 use Rattle.ell_cards.specs.SlotWords.{slot_of}
 use Rattle.ell_cards.specs.Starts.{SlotsFit}
 use Rattle.ell_cards.specs.States.{TableState}
-use Rattle.ell_cards.specs.Stepping.{BeginsNone, Exchanges, after_entering, IsQuiet, MayInTable, MayTell}
+use Rattle.ell_cards.specs.Stepping.{Exchanges, IsQuiet, MayInTable, MayTell}
 use Rattle.ell_cards.specs.Tied.{HasWon, MayInMemory, IsTied, FlagsCard, FlagsNone}
 use Rattle.ell_cards.specs.Ties.{card_touched, ExpectsNear, FindsTied, IsTiedByAges, TouchesTied, memory_after}
 use Rattle.ell_cards.specs.Touching.{touched_by}
@@ -67,7 +64,7 @@ use Rattle.ell_cards.proofs.lemmas.ties.Touched.{spots, touched_won, claim_is_wo
 use Rattle.ell_cards.proofs.lemmas.whole.Ages.{AgesOn}
 use Rattle.ell_cards.proofs.lemmas.whole.Going.{set_twice}
 use Rattle.ell_cards.proofs.lemmas.whole.Fields.{FillsWhole, fields_after, field_can}
-use Rattle.ell_cards.proofs.lemmas.whole.LeaksOfCalls.{flag_lost, leaks_after_call, flags_by_hand, free_after}
+use Rattle.ell_cards.proofs.lemmas.whole.LeaksOfCalls.{flag_lost, leaks_after_call}
 use Rattle.ell_cards.proofs.lemmas.whole.Losing.{aside_in_ages, lost_now}
 use Rattle.ell_cards.proofs.lemmas.ties.Apart.{tells_apart, tells_apart_plain}
 use Rattle.ell_cards.proofs.lemmas.whole.Apart.{passes_tell_apart, ready_there}
@@ -77,12 +74,8 @@ use Rattle.ell_cards.proofs.lemmas.whole.Retired.{HadInHand, held_before, retire
 use Rattle.ell_cards.proofs.lemmas.whole.Seats.{lie_same}
 use Rattle.ell_cards.proofs.lemmas.whole.Seeing.{history_snoc, all_on, all_set, silent_set, marks_now, marks_shown, calm_marks}
 use Rattle.ell_cards.proofs.lemmas.whole.Sighting.{Sighted, sighted}
-use Rattle.ell_cards.proofs.lemmas.whole.Trees.{tree_at, slots_stay, tree_periods, clock_stays}
+use Rattle.ell_cards.proofs.lemmas.whole.Trees.{tree_at, slots_stay, tree_periods}
 use Rattle.ell_cards.proofs.lemmas.words.Slotted.{slot_inside}
-use Rattle.ell_cards.proofs.lemmas.whole.Searches.{SameRow, searches_same}
-use Rattle.ell_cards.specs.Searches.{SearchesAreSound}
-use Rattle.ell_cards.proofs.lemmas.whole.Takings.{takings_noted}
-use Rattle.ell_cards.specs.Takings.{MissesWereTaken, TakingsAreSound}
 
 -- a card that is no later than the last one that may have a slot of its own has that
 own_slot : (c : ℕ) → c ≤ greatest_card → slot_of c ≡ c
@@ -94,20 +87,9 @@ flags_one (call.IFlag c p from) d e is same = is ∙ sym same
 flags_one (call.DFlag c gp from) d e is same = is ∙ sym same
 flags_one _ d e is same = absurd is
 
--- a call that begins neither an operation nor a look begins no operation, and one that sets a flag begins none
-pub quiet_begins : (c : Call) → IsQuiet c → BeginsNone c
-quiet_begins (call.Begin op) quiet = quiet
-quiet_begins _ quiet = tt
-
-flag_begins : (c : Call) (d : ℕ) → FlagsCard c d → BeginsNone c
-flag_begins (call.Begin op) d flags = flags
-flag_begins _ d flags = tt
-
--- What a pass notes of periods by a step call: nothing; or that it counts slots that it could not take anew, as the call
--- begins an operation; or the card that the call was to flag, and has not.
+-- What a pass notes of periods by a step call: nothing; or the card that the call was to flag, and has not.
 pub data Notes (slots : Option Slots) (c : Call) (n : ℕ) (old new : Period) : Type 0 where
-  nothing : new ≡ old → BeginsNone c → (slots ≢ None → (d : ℕ) → FlagsCard c d → is_won (atomic_of c) n ≡ true) → Notes slots c n old new
-  begins : (op : Op) → c ≡ call.Begin op → new ≡ record old { sought = begun_seek old.sought } → Notes slots c n old new
+  nothing : new ≡ old → (slots ≢ None → (d : ℕ) → FlagsCard c d → is_won (atomic_of c) n ≡ true) → Notes slots c n old new
   loses : (d : ℕ) → new ≡ record old { lost = Some d } → FlagsCard c d → is_won (atomic_of c) n ≡ false → Notes slots c n old new
 
 -- the parts of a step call of the tree
@@ -257,7 +239,7 @@ module _ (plan : TablePlan) (s : WholeState) (h : IsWhole plan s) (id : ℕ) (k 
       plain_apart = tells_apart_plain plan none after (call_on plan h.tree h.reached id c k.tree tree_here may) id (view_after h.tree k.tree c) tree_there
 
     -- with places
-    module _ (sl : Slots) (placed : plan.slots ≡ Some sl) (mem : MayInMemory sl k.period.slot k.period.sought.retired k.tree c) (unlost : k.period.lost ≡ None) (whole_fill : FillsWhole c)
+    module _ (sl : Slots) (placed : plan.slots ≡ Some sl) (mem : MayInMemory sl k.period.slot k.period.retired k.tree c) (unlost : k.period.lost ≡ None) (whole_fill : FillsWhole c)
         (quiet : k.period.announced ≡ None → IsQuiet c) where
       has_words : (length s.words ≡ slots_size sl) × FieldsAreWhole h.tree.words
       has_words = subst (λ o. WordsAre o s.words h.tree.words) placed h.words
@@ -326,9 +308,9 @@ module _ (plan : TablePlan) (s : WholeState) (h : IsWhole plan s) (id : ℕ) (k 
       still_tied = tied plan sl h.tree s has.lie has.dead has.was_dead h.reached low_last room by_ages id k here tree_here ready c may mem homes
 
       -- a card that is in hand after it, whose slot the pass has taken, was in hand before it
-      pub held : (seat d : ℕ) (u : Known) → get_elem? (set s.views id knows) seat ≡ some u → u.period.slot ≡ Some d → u.tree.worker.card ≡ Some d → HadInHand s.views d u.period.sought.retired
+      pub held : (seat d : ℕ) (u : Known) → get_elem? (set s.views id knows) seat ≡ some u → u.period.slot ≡ Some d → u.tree.worker.card ≡ Some d → HadInHand s.views d u.period.retired
       held seat d u at slot hand = ⊎_elim
-          (λ (e : (seat ≡ id) × (knows ≡ u)). subst (λ (x : Known). x.period.slot ≡ Some d → x.tree.worker.card ≡ Some d → HadInHand s.views d x.period.sought.retired) e.1
+          (λ (e : (seat ≡ id) × (knows ≡ u)). subst (λ (x : Known). x.period.slot ≡ Some d → x.tree.worker.card ≡ Some d → HadInHand s.views d x.period.retired) e.1
           (λ slot hand. record {
             seat = id;
             knows = k;
@@ -363,81 +345,42 @@ module _ (plan : TablePlan) (s : WholeState) (h : IsWhole plan s) (id : ℕ) (k 
           its_periods.1 has.retired has.tied.fits has.tied.own (set s.words (place_of c) cut) homes (slots_stay s id k here (view_after h.tree k.tree c) sl (place_of c) cut tied_touch.inside) p g (slotted notes) (lost_by notes)
         where
           slotted : Notes plan.slots c (found_by h.tree c) k.period p → p.slot ≡ k.period.slot
-          slotted (nothing is none flags) = ap (λ (x : Period). x.slot) is
-          slotted (begins op at is) = ap (λ (x : Period). x.slot) is
+          slotted (nothing is flags) = ap (λ (x : Period). x.slot) is
           slotted (loses d is flags unwon) = ap (λ (x : Period). x.slot) is
 
           lost_by : Notes plan.slots c (found_by h.tree c) k.period p → (d : ℕ) → FlagsCard c d → is_won (atomic_of c) (found_by h.tree c) ≡ false → p.lost ≡ Some d
-          lost_by (begins op at is) d flags unwon = absurd (subst (λ e. FlagsCard e d) at flags)
-          lost_by (nothing is none won) d flags unwon = absurd (false≢true (sym unwon ∙ won (λ none. some_not_none placed none) d flags))
+          lost_by (nothing is won) d flags unwon = absurd (false≢true (sym unwon ∙ won (λ none. some_not_none placed none) d flags))
           lost_by (loses e is flags' unwon') d flags unwon = ap (λ (x : Period). x.lost) is ∙ ap Some (flags_one c e d flags' flags)
-
-      -- and what passes have read in their searches is so still
-      noted_searches : (p : Period) (g : Sight) → SameRow k.period.sought p.sought → p.announced ≡ k.period.announced → p.began ≡ k.period.began
-          → SearchesAreSound sl (record { words = set s.words (place_of c) cut; homes = homes; views = set s.views id (noting p g) })
-      noted_searches p g sought announced began =
-          searches_same sl s its_periods.2 id k here (noting p g) (set s.words (place_of c) cut) homes
-          (let same = clock_stays s id k here (view_after h.tree k.tree c) sl (place_of c) cut tied_touch.inside in omega arith) sought (λ a an. (sym announced ∙ an, began))
-          (slots_stay s id k here (view_after h.tree k.tree c) sl (place_of c) cut tied_touch.inside)
-
-      -- and slots that they missed were taken meanwhile
-      abbrev HasMissed : Period → Type 0
-      HasMissed p = (view_after h.tree k.tree c).worker.operation ≢ None → MissesWereTaken sl s.words its_periods.3.taken p
-
-      missed_still : BeginsNone c → HasMissed k.period
-      missed_still begun works = its_periods.3.misses id k here (λ free. works (free_after c (found_by h.tree c) k.tree begun free))
-
-      noted_takings : (p : Period) (g : Sight) → p.stamp ≡ k.period.stamp → HasMissed p → TakingsAreSound sl (record { words = set s.words (place_of c) cut; homes = homes; views = set s.views id (noting p g) }) has.lie
-      noted_takings p g stamp mine =
-          takings_noted sl s has.lie its_periods.3 id k here (noting p g) (set s.words (place_of c) cut) homes
-          (let same = clock_stays s id k here (view_after h.tree k.tree c) sl (place_of c) cut tied_touch.inside in omega arith)
-          (slots_stay s id k here (view_after h.tree k.tree c) sl (place_of c) cut tied_touch.inside) (λ d reading is. inl (sym stamp ∙ is)) mine
 
       abbrev Periods : List Known → Type 0
       Periods views = PeriodsAre plan (Some sl) after (record { words = set s.words (place_of c) cut; homes = homes; views = views })
 
       -- if it noted something, too
-      noted_too : (g : Sight) (o : Option ℕ) (sought : Seek) → sought.retired ≡ k.period.sought.retired → SameRow k.period.sought sought
-          → ((d : ℕ) → o ≡ Some d → IsAside tied_ages.ages.now.machine.stages after.views d) → ((d : ℕ) → o ≡ Some d → (view_after h.tree k.tree c).worker.card ≡ None) → ((d : ℕ) → o ≡ Some d → k.period.announced ≢ None)
-          → Notes plan.slots c (found_by h.tree c) k.period (record k.period { lost = o; sought = sought }) → HasMissed (record k.period { lost = o; sought = sought })
-          → Periods (set s.views id (noting (record k.period { lost = o; sought = sought }) g))
-      noted_too g o sought retired row aside idle in_period notes mine =
-          let p : Period = record k.period { lost = o; sought = sought } in
+      noted_too : (g : Sight) (o : Option ℕ) → ((d : ℕ) → o ≡ Some d → IsAside tied_ages.ages.now.machine.stages after.views d)
+          → ((d : ℕ) → o ≡ Some d → (view_after h.tree k.tree c).worker.card ≡ None)
+          → Notes plan.slots c (found_by h.tree c) k.period (record k.period { lost = o }) → Periods (set s.views id (noting (record k.period { lost = o }) g))
+      noted_too g o aside idle notes =
+          let p : Period = record k.period { lost = o } in
           let twice = set_twice s.views id knows (noting p g) in
           subst Periods twice (
-            lost_now plan sl after (memory_after h.tree s homes id k c) id knows (set_there s.views id knows k here) tied_periods o sought retired aside idle in_period g,
+            lost_now plan sl after (memory_after h.tree s homes id k c) id knows (set_there s.views id knows k here) tied_periods o aside idle g,
             subst (λ l. NothingLeaks sl (record { words = set s.words (place_of c) cut; homes = homes; views = l }) after.views tied_ages.ages.now.machine.words tied_ages.ages.now.machine.stages has.lie)
                 (sym twice) (noted_leaks p g notes),
-            subst (λ l. SearchesAreSound sl (record { words = set s.words (place_of c) cut; homes = homes; views = l })) (sym twice) (noted_searches p g row refl refl),
-            subst (λ l. TakingsAreSound sl (record { words = set s.words (place_of c) cut; homes = homes; views = l }) has.lie) (sym twice) (noted_takings p g refl mine),
           )
 
       none_lost : (d : ℕ) → k.period.lost ≡ Some d → ⊥
       none_lost d lost_it = some_not_none lost_it unlost
 
       noted_periods : (g : Sight) (p : Period) → Notes plan.slots c (found_by h.tree c) k.period p → Periods (set s.views id (noting p g))
-      noted_periods g p (nothing is none flags) =
+      noted_periods g p (nothing is flags) =
           subst (λ (q : Period). Periods (set s.views id (noting q g))) (sym is)
-          (noted_too g k.period.lost k.period.sought refl refl (λ d lost_it. absurd (none_lost d lost_it)) (λ d lost_it. absurd (none_lost d lost_it)) (λ d lost_it. absurd (none_lost d lost_it)) (nothing refl none flags)
-          (missed_still none))
-      noted_periods g p (begins op at is) =
-          subst (λ (q : Period). Periods (set s.views id (noting q g))) (sym is)
-          (noted_too g k.period.lost (begun_seek k.period.sought) refl refl (λ d lost_it. absurd (none_lost d lost_it)) (λ d lost_it. absurd (none_lost d lost_it)) (λ d lost_it. absurd (none_lost d lost_it)) (begins op at refl)
-          (λ works. record { few = omega arith; found = λ r is. absurd (some_not_none is refl) }))
+          (noted_too g k.period.lost (λ d lost_it. absurd (none_lost d lost_it)) (λ d lost_it. absurd (none_lost d lost_it)) (nothing refl flags))
       noted_periods g p (loses d is flags unwon) =
           subst (λ (q : Period). Periods (set s.views id (noting q g))) (sym is)
-          (noted_too g (Some d) k.period.sought refl refl
+          (noted_too g (Some d)
           (λ e same. subst (IsAside tied_ages.ages.now.machine.stages after.views) (same_Some d e same)
           (aside_in_ages plan sl h.tree s has.lie has.dead has.was_dead has.ages id k.tree tree_here c may (memory_after h.tree s homes id k c) tied_ages d flags unwon))
-          (λ e same. flag_lost c (found_by h.tree c) k.tree d flags unwon) (λ e same. in_period) (loses d refl flags unwon)
-          (λ works. (let was = missed_still (flag_begins c d flags) works in record {
-            few = was.few;
-            found = λ r is. (let it = was.found r is in record { inside = it.inside; could = it.could; stands = it.stands });
-          })))
-        where
-          -- a pass with a card in hand is in a period
-          in_period : k.period.announced ≢ None
-          in_period quiet = flags_by_hand plan c d k.tree may flags ((has.periods.each id k here).rests quiet).empty
+          (λ e same. flag_lost c (found_by h.tree c) k.tree d flags unwon) (loses d refl flags unwon))
 
       pub tied_whole : (p : Period) (g : Sight) → Sees c g → Notes plan.slots c (found_by h.tree c) k.period p → IsWhole plan (stepped s (place_of c) cut id [] (noting p g) keeps)
       tied_whole p g sees notes = whole_after p g sees (place_of c) cut
@@ -481,15 +424,6 @@ quiet_whole (call.Begin op) quiet = quiet
 quiet_whole call.Look quiet = quiet
 quiet_whole _ quiet = tt
 
--- and begins an operation where the call begins it
-shown_begins : (c : Call) (op : Op) → shown_call c ≡ call.Begin op → c ≡ call.Begin op
-shown_begins (call.Begin op') op is = is
-shown_begins _ op is = absurd (cc)
-
-none_whole : (c : Call) → BeginsNone (shown_call c) → BeginsNone c
-none_whole (call.Begin op) none = none
-none_whole _ none = tt
-
 -- and stores a word where the call stores what a field holds whole
 word_filled : (f : Field) (value : ℕ) → IsWord (shown_word f value) → FieldIsWhole f value
 word_filled field.Gp value word = tt
@@ -517,16 +451,15 @@ told_tied words tree c told w finds same says = subst (λ n. told n w) (sym find
 -- and what the pass notes by the call that is shown it notes by the call
 notes_whole : (o : Option Slots) (words : List ℕ) (tree : TableState) (c : Call) → FindsTied words tree c → CanBeShown c (found_by tree c) → (old new : Period)
     → Notes o (shown_call c) (get_or words (place_of c) 0) old new → Notes o c (found_by tree c) old new
-notes_whole o words tree (call.IFlag e p from) finds can old new (nothing is none won) =
-    nothing is tt (λ some d flags. sym can.wins ∙ (ap (is_won (atomic_of (call.IFlag e p from))) (sym finds) ∙ won some d flags))
-notes_whole o words tree (call.DFlag e gp from) finds can old new (nothing is none won) =
-    nothing is tt (λ some d flags. sym can.wins ∙ (ap (is_won (atomic_of (call.DFlag e gp from))) (sym finds) ∙ won some d flags))
+notes_whole o words tree (call.IFlag e p from) finds can old new (nothing is won) =
+    nothing is (λ some d flags. sym can.wins ∙ (ap (is_won (atomic_of (call.IFlag e p from))) (sym finds) ∙ won some d flags))
+notes_whole o words tree (call.DFlag e gp from) finds can old new (nothing is won) =
+    nothing is (λ some d flags. sym can.wins ∙ (ap (is_won (atomic_of (call.DFlag e gp from))) (sym finds) ∙ won some d flags))
 notes_whole o words tree (call.IFlag e p from) finds can old new (loses d is flags unwon) =
     loses d is flags (sym can.wins ∙ (ap (is_won (atomic_of (call.IFlag e p from))) (sym finds) ∙ unwon))
 notes_whole o words tree (call.DFlag e gp from) finds can old new (loses d is flags unwon) =
     loses d is flags (sym can.wins ∙ (ap (is_won (atomic_of (call.DFlag e gp from))) (sym finds) ∙ unwon))
-notes_whole o words tree c finds can old new (nothing is none won) = nothing is (none_whole c none) (λ some d flags. absurd flags)
-notes_whole o words tree c finds can old new (begins op at is) = begins op (shown_begins c op at) is
+notes_whole o words tree c finds can old new (nothing is won) = nothing is (λ some d flags. absurd flags)
 notes_whole o words tree _ finds can old new (loses d is flags unwon) = absurd flags
 
 -- what a step call does to the word that it finds: it leaves what is cut of what the call leaves, and without places all of that
@@ -535,7 +468,7 @@ Does plan c f =
     (n : ℕ) → IsWord n → (f n ≡ cut_word (left_by (atomic_of c) n)) × (plan.slots ≡ None → f n ≡ left_by (atomic_of c) n)
 
 module _ (plan : TablePlan) (k : Known) (c : Call) (f : ℕ → ℕ) (told : ℕ → View → Type 0) (notes : ℕ → Period) (word : StoresWord c) (by_shown : May plan c (shown k.tree))
-    (mem : (s : Slots) → plan.slots ≡ Some s → MayInMemory s k.period.slot k.period.sought.retired (shown k.tree) c) (unlost : plan.slots ≢ None → k.period.lost ≡ None) (does : Does plan c f)
+    (mem : (s : Slots) → plan.slots ≡ Some s → MayInMemory s k.period.slot k.period.retired (shown k.tree) c) (unlost : plan.slots ≢ None → k.period.lost ≡ None) (does : Does plan c f)
     (quiet : plan.slots ≢ None → k.period.announced ≡ None → IsQuiet c) (same : IsFill c → (n m : ℕ) (w : View) → told n w → told m w)
     (tells : MayTell plan c (shown k.tree) told) (noted : (n : ℕ) → IsWord n → Notes plan.slots c n k.period (notes n)) (id : ℕ) (s : WholeState) (h : IsWhole plan s) (here : get_elem? s.views id ≡ some k) (small : IsWord (get_or s.words (place_of c) 0))
     (marks : View → Sight → Type 0) (see : Call → Sight) (sees : (d : Call) → May plan d k.tree → shown_call d ≡ c → Sees plan s h id k here d (see d))
@@ -587,7 +520,7 @@ module _ (plan : TablePlan) (k : Known) (c : Call) (f : ℕ → ℕ) (told : ℕ
       let some : plan.slots ≢ None = λ none. some_not_none placed none in
       let lift = guards_are_lifted plan c k.tree apart stores word by_shown in
       let whole = lift.origin in
-      let asks = asks_whole sl k.period.slot k.period.sought.retired k.tree whole (subst (MayInMemory sl k.period.slot k.period.sought.retired (shown k.tree)) (sym lift.is) (mem sl placed)) in
+      let asks = asks_whole sl k.period.slot k.period.retired k.tree whole (subst (MayInMemory sl k.period.slot k.period.retired (shown k.tree)) (sym lift.is) (mem sl placed)) in
       let fills = fills_whole whole (subst StoresWord (sym lift.is) word) in
       let calm : k.period.announced ≡ None → IsQuiet whole = λ none. quiet_whole whole (subst IsQuiet (sym lift.is) (quiet some none)) in
       let touch = tied_touch plan s h id k here whole lift.may lift.fills sl placed asks (unlost some) fills calm in
@@ -626,7 +559,7 @@ module _ (plan : TablePlan) (k : Known) (c : Call) (f : ℕ → ℕ) (told : ℕ
 
 -- a step call of the tree, which a pass makes by what is shown of what it knows, is one of the table
 pub tree_step_marked : (plan : TablePlan) (k : Known) (c : Call) (f : ℕ → ℕ) (told : ℕ → View → Type 0) (notes : ℕ → Period) → StoresWord c → May plan c (shown k.tree)
-    → ((s : Slots) → plan.slots ≡ Some s → MayInMemory s k.period.slot k.period.sought.retired (shown k.tree) c) → (plan.slots ≢ None → k.period.lost ≡ None) → Does plan c f
+    → ((s : Slots) → plan.slots ≡ Some s → MayInMemory s k.period.slot k.period.retired (shown k.tree) c) → (plan.slots ≢ None → k.period.lost ≡ None) → Does plan c f
     → (plan.slots ≢ None → k.period.announced ≡ None → IsQuiet c) → (IsFill c → (n m : ℕ) (w : View) → told n w → told m w) → MayTell plan c (shown k.tree) told
     → ((n : ℕ) → IsWord n → Notes plan.slots c n k.period (notes n))
     → (id : ℕ) → Allows (IsWhole plan) 0 id (k, []) (place_of c) f (λ n x. told n (shown x.0.tree) × (x.0.period ≡ notes n) × (x.1 ≡ []) × Marks c (shown k.tree) k.sight x.0.sight)
@@ -640,7 +573,7 @@ tree_step_marked plan k c f told notes word by_shown mem unlost does quiet same 
 
 -- and one that neither begins an operation nor answers one leaves what the pass has seen
 pub tree_step : (plan : TablePlan) (k : Known) (c : Call) (f : ℕ → ℕ) (told : ℕ → View → Type 0) (notes : ℕ → Period) → StoresWord c → May plan c (shown k.tree)
-    → ((s : Slots) → plan.slots ≡ Some s → MayInMemory s k.period.slot k.period.sought.retired (shown k.tree) c) → (plan.slots ≢ None → k.period.lost ≡ None) → Does plan c f
+    → ((s : Slots) → plan.slots ≡ Some s → MayInMemory s k.period.slot k.period.retired (shown k.tree) c) → (plan.slots ≢ None → k.period.lost ≡ None) → Does plan c f
     → (plan.slots ≢ None → k.period.announced ≡ None → IsQuiet c) → (IsFill c → (n m : ℕ) (w : View) → told n w → told m w) → MayTell plan c (shown k.tree) told
     → ((n : ℕ) → IsWord n → Notes plan.slots c n k.period (notes n)) → IsCalm c
     → (id : ℕ) → Allows (IsWhole plan) 0 id (k, []) (place_of c) f (λ n x. told n (shown x.0.tree) × (x.0.period ≡ notes n) × (x.1 ≡ []) × (x.0.sight ≡ k.sight))
@@ -698,11 +631,6 @@ none_flags (call.IFlag e p from) none d flags = none
 none_flags (call.DFlag e gp from) none d flags = none
 none_flags _ none d flags = flags
 
--- what a pass notes by a load that may begin an operation
-pub load_notes : (c : Call) (slots : Option Slots) (n : ℕ) (p : Period) → atomic_of c ≡ Load → Notes slots c n p (after_entering c p)
-load_notes (call.Begin op) slots n p is = begins op refl refl
-load_notes c slots n p is = nothing refl tt (λ some d flags. absurd (load_flags c is d flags))
-
 -- a load stores nothing
 pub load_stores : (c : Call) → atomic_of c ≡ Load → IsFill c → ⊥
 load_stores (call.Fill e f value) is fill = absurd cc
@@ -727,15 +655,15 @@ pub flag_notes : (c : Call) (d expected value n : ℕ) (old new : Period) → at
 flag_notes c d expected value n old new is flags o notes = by o (n == expected) refl notes
   where
     by : (o : Option Slots) (b : Bool) → (n == expected) ≡ b → new ≡ after_flagging o b d old → Notes o c n old new
-    by None b won notes = nothing notes (flag_begins c d flags) (λ some. absurd (some refl))
-    by (Some s) true won notes = nothing notes (flag_begins c d flags) (λ some e flags'. ap (λ a. is_won a n) is ∙ won)
+    by None b won notes = nothing notes (λ some. absurd (some refl))
+    by (Some s) true won notes = nothing notes (λ some e flags'. ap (λ a. is_won a n) is ∙ won)
     by (Some s) false unwon notes = loses d notes flags (ap (λ a. is_won a n) is ∙ unwon)
 
 -- a card that a pass is to flag is one whose slot it has taken, if there are places
 pub flag_taken : (plan : TablePlan) (p : PassModel) (c : Call) (d : ℕ) → May plan c p.view → MayInTable plan p c → FlagsCard c d → plan.slots ≢ None → p.slot ≡ Some d
 flag_taken plan p c d may kept flags there = by plan.slots refl
   where
-    at : (s : Slots) (c : Call) → MayInMemory s p.slot p.sought.retired p.view c → FlagsCard c d → p.slot ≡ Some d
+    at : (s : Slots) (c : Call) → MayInMemory s p.slot p.retired p.view c → FlagsCard c d → p.slot ≡ Some d
     at s (call.IFlag e q from) mem flags = mem.0 ∙ ap Some (sym flags)
     at s (call.DFlag e q from) mem flags = mem.0 ∙ ap Some (sym flags)
     at s _ mem flags = absurd flags

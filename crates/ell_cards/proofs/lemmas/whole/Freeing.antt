@@ -1,4 +1,4 @@
-use Rattle.std.proofs.Common.{◌≡◌, ◌≢◌, ℕ, ◌+◌, ◌*◌, ◌%◌, ◌<◌, ◌≤◌, ◌&&◌, not, if◌then◌else◌, Bool, true, false, Some, List, length, get_or, set, inl, inr, ◌⊎◌, refl, sym, ap, ◌∙◌, subst, arith, get_or-set_same, get_or-set_other, None}
+use Rattle.std.proofs.Common.{◌≡◌, ◌≢◌, ℕ, ◌+◌, ◌*◌, ◌%◌, ◌<◌, ◌≤◌, true, false, Some, List, length, get_or, set, inl, inr, ◌⊎◌, refl, sym, ap, ◌∙◌, subst, arith, get_or-set_same, get_or-set_other}
 use Rattle.std.proofs.lemmas.Bool.{cases_eq, false≢true}
 use Rattle.std.proofs.lemmas.Option.{same_Some}
 use mathlib.Core.Option.{some}
@@ -9,7 +9,6 @@ use Rattle.ell_word.specs.Node.{card}
 use Rattle.ell_cards.specs.declared.view.Known.{Known}
 use Rattle.ell_cards.specs.declared.view.Period.{Period}
 use Rattle.ell_cards.specs.declared.view.Retired.{Retired}
-use Rattle.ell_cards.specs.declared.view.Seek.{Seek}
 use Rattle.ell_cards.specs.declared.view.SlotRead.{SlotRead}
 use Rattle.ell_cards.specs.declared.view.Slots.{Slots}
 use Rattle.ell_cards.specs.Ages.{IsOut, is_dead, is_aside, NotesThere, IsNotedThere, AreRetired, HasPeriods, KnowsDeadNode, KnowsDeadCard, MayStamp}
@@ -17,14 +16,10 @@ use Rattle.ell_cards.specs.Aside.{IsAside}
 use Rattle.ell_cards.specs.Apart.{cut_node}
 use Rattle.ell_cards.specs.Dead.{HasTakenOut}
 use Rattle.ell_cards.specs.Models.{TablePlan}
-use Rattle.ell_cards.specs.Periods.{WholeState, clock_word, slot_word, slots_size, last_reading, LieInSlots, pending_by, after_read, after_seek, after_stamp, PeriodsAreSound}
-use Rattle.ell_cards.specs.Searches.{SearchesAreSound}
-use Rattle.ell_cards.specs.Takings.{MissesWereTaken, TakingsAreSound}
+use Rattle.ell_cards.specs.Periods.{WholeState, clock_word, slot_word, slots_size, last_reading, LieInSlots, pending_by, after_read, after_stamp, PeriodsAreSound}
 use Rattle.ell_cards.specs.declared.view.Period.{Period}
-use Rattle.ell_cards.specs.declared.view.Stamp.{Stamp}
-use Rattle.ell_cards.specs.Seeking.{could_have, could_take, found_if, is_next, may_have, row_from, row_on, sought_on}
 use Rattle.ell_cards.specs.Shown.{shown}
-use Rattle.ell_cards.specs.SlotWords.{card_by, slot_of, stamp_in, turn_of, turn_in, free_word, is_noted}
+use Rattle.ell_cards.specs.SlotWords.{card_by, slot_of, turn_of, turn_in, free_word, is_noted}
 use Rattle.ell_cards.specs.Starts.{IsReached}
 use Rattle.ell_cards.specs.States.{TableState}
 use Rattle.ell_cards.specs.Stepping.{MayGoOn}
@@ -38,58 +33,17 @@ use Rattle.ell_cards.specs.Tied.{HasWon}
 use Rattle.ell_cards.proofs.lemmas.ties.KnownWon.{known_dead_won}
 use Rattle.ell_cards.proofs.lemmas.ties.Periods.{tie_of_period}
 use Rattle.ell_cards.proofs.lemmas.whole.Leaks.{holds_so, leaks_same, leaks_turned}
-use Rattle.ell_cards.proofs.lemmas.whole.Going.{GoesTo, turned_to, behind, past_again, same_noted, same_again, goes_on_there}
+use Rattle.ell_cards.proofs.lemmas.whole.Going.{GoesTo, turned_to, behind, same_noted, same_again, goes_on_there}
 use Rattle.ell_cards.proofs.lemmas.whole.Retired.{retired_are, retired_of_period, retired_so}
 use Rattle.ell_cards.proofs.lemmas.whole.Steps.{word_again}
-use Rattle.ell_cards.proofs.lemmas.whole.Takings.{misses_sought, misses_still, takings_noted, takings_turned}
-use Rattle.ell_cards.proofs.lemmas.whole.Seeking.{sought_misses_none}
-use Rattle.ell_cards.proofs.lemmas.whole.Searches.{SameSearch, SoughtIsSo, row_of, announces_some, began_past, freed_late, searches_same, searches_sought, searches_turned, sought_more, sought_still}
-use Rattle.ell_cards.proofs.lemmas.whole.Seats.{period_was, lie_same, clock_before_slots}
-use Rattle.ell_cards.proofs.lemmas.whole.Slots.{slot_read, card_stamped, free_stamp, slot_noted, slot_freed, lie_noted, lie_freed}
+use Rattle.ell_cards.proofs.lemmas.whole.Seats.{period_was, lie_same}
+use Rattle.ell_cards.proofs.lemmas.whole.Slots.{slot_read, card_stamped, slot_noted, slot_freed, lie_noted, lie_freed}
 use Rattle.ell_cards.proofs.lemmas.words.NotedBits.{few_noted}
 use Rattle.ell_cards.proofs.lemmas.words.Slotted.{slot_inside}
 
 -- a card lies in its slot by each word of its turn
 pub lies_by : (c slot n : ℕ) → slot ≡ slot_of c → turn_in n ≡ turn_of c → card_by slot n ≡ c
 lies_by c slot n at turn = omega arith
-
--- what a pass has missed and found is so where nothing of it is another one
-pub counts_same : (s : Slots) (words : List ℕ) (taken : ℕ → ℕ) (p q : Period) → q.sought.missed ≡ p.sought.missed → q.sought.found ≡ p.sought.found → q.began ≡ p.began → q.safe ≡ p.safe
-    → MissesWereTaken s words taken p → MissesWereTaken s words taken q
-counts_same s words taken p q missed found began safe m = misses_still s words words taken (λ slot inside full. refl) p q missed found began (omega arith) m
-
--- a search finds the slot whose word it has read, if it could take that
-sought_found : (s : Slots) (begins for_delete : Bool) (c made n : ℕ) (takes : Bool) (safe : ℕ) (k : Seek) → (sought_on s begins for_delete c made n takes safe k).found ≡ found_if takes c n
-sought_found s begins for_delete c made n takes safe k = by (not begins && is_next s c k)
-  where
-    by : (b : Bool) → (if b then row_on for_delete c n takes safe k else row_from for_delete c made n takes safe k).found ≡ found_if takes c n
-    by true = refl
-    by false = refl
-
--- so it is of what a pass has missed once it has read that
-counts_sought : (s : Slots) (begins for_delete : Bool) (c made : ℕ) (words : List ℕ) (slot : ℕ) → slot_of c ≡ slot → slot ≤ s.last → (p : Period) (taken : ℕ → ℕ) → MissesWereTaken s words taken p
-    → MissesWereTaken s words taken (record (after_read slot (get_or words (slot_word s slot) 0) p) {
-      sought = sought_on s begins for_delete c made (get_or words (slot_word s slot) 0) (could_have s for_delete c (get_or words (slot_word s slot) 0) p.safe) p.safe p.sought;
-    })
-counts_sought s begins for_delete c made words slot lies inside p taken m =
-    let n = get_or words (slot_word s slot) 0 in
-    let takes = could_have s for_delete c n p.safe in
-    let at = ap (λ x. get_or words (slot_word s x) 0) lies in
-    misses_sought s words taken p m _ c takes (subst (λ x. x ≤ s.last) (sym lies) inside)
-    (sought_misses_none s begins for_delete c made n takes p.safe p.sought) (sought_found s begins for_delete c made n takes p.safe p.sought ∙ ap (found_if takes c) (sym at))
-    (λ is. ap (λ x. could_take x p.safe) at ∙ left (could_take n p.safe) (may_have s for_delete c) is) refl
-  where
-    left : (a b : Bool) → (a && b) ≡ true → a ≡ true
-    left true b h = refl
-    left false b h = absurd (false≢true h)
-
--- a search notes nothing
-sought_retired : (s : Slots) (begins for_delete : Bool) (c made n : ℕ) (takes : Bool) (safe : ℕ) (k : Seek) → (sought_on s begins for_delete c made n takes safe k).retired ≡ k.retired
-sought_retired s begins for_delete c made n takes safe k = by (not begins && is_next s c k)
-  where
-    by : (b : Bool) → (if b then row_on for_delete c n takes safe k else row_from for_delete c made n takes safe k).retired ≡ k.retired
-    by true = refl
-    by false = refl
 
 -- the steps of a pass on the words of slots, as those of a whole table
 module _ (plan : TablePlan) (s : Slots) (tree : TableState) (t : WholeState) (id : ℕ) (k : Known) (here : get_elem? t.views id ≡ some k)
@@ -136,11 +90,10 @@ module _ (plan : TablePlan) (s : Slots) (tree : TableState) (t : WholeState) (id
   retired_then words keeps retired mine c slot hand =
       retired_are h.ages.now.machine.words h.ages.now.machine.words c retired (OutThere t.words) (OutThere words) refl refl (λ x is. (is.0, keeps x is.0 is.1)) (mine c slot hand)
 
-  -- it reads the word of a slot, whatever its search has read then, and it may have noted more
-  pub reads_now : (slot : ℕ) → slot ≤ s.last → (sought : Seek) → HasRetired t.words sought.retired → (SearchesAreSound s t → SoughtIsSo s t sought)
-      → ((taken : ℕ → ℕ) → MissesWereTaken s t.words taken k.period → MissesWereTaken s t.words taken (record (after_read slot (get_or t.words (slot_word s slot) 0) k.period) { sought = sought }))
-      → GoesTo plan s tree t h (turned_to t id k (record (after_read slot (get_or t.words (slot_word s slot) 0) k.period) { sought = sought }) (slot_word s slot) (get_or t.words (slot_word s slot) 0))
-  reads_now slot inside sought mine searched counted =
+  -- it reads the word of a slot, and may have noted more
+  pub reads_now : (slot : ℕ) → slot ≤ s.last → (retired : Retired) → HasRetired t.words retired
+      → GoesTo plan s tree t h (turned_to t id k (record (after_read slot (get_or t.words (slot_word s slot) 0) k.period) { retired = retired }) (slot_word s slot) (get_or t.words (slot_word s slot) 0))
+  reads_now slot inside retired mine =
       let n = get_or t.words (slot_word s slot) 0 in record {
         periods = record {
           lie = h.lie;
@@ -148,27 +101,23 @@ module _ (plan : TablePlan) (s : Slots) (tree : TableState) (t : WholeState) (id
           dead = h.dead;
           began = h.began;
           was_dead = h.was_dead;
-          periods = slot_read s t id k here h.lie h.dead h.began h.was_dead h.periods size slot inside sought;
-          ages = ages_of_period plan s tree t id k here (record k { period = record (after_read slot n k.period) { sought = sought } }) refl (set t.words (slot_word s slot) n) h.lie h.lie h.dead h.dead h.was_dead h.was_dead h.ages
+          periods = slot_read s t id k here h.lie h.dead h.began h.was_dead h.periods size slot inside retired;
+          ages = ages_of_period plan s tree t id k here (record k { period = record (after_read slot n k.period) { retired = retired } }) refl (set t.words (slot_word s slot) n) h.lie h.lie h.dead h.dead h.was_dead h.was_dead h.ages
               h.ages.now.each h.ages.still (λ q a at an. h.ages.since id q a k here at an) (λ j q a u other at placed an. refl)
               (same_noted plan s tree t id k here h (set t.words (slot_word s slot) n) (same_again plan s tree t id k here h size (slot_word s slot) (omega arith)))
               (λ x out is. same_slots (set t.words (slot_word s slot) n) same x is)
               (λ r has used i is. subst (λ (x : SlotRead). x.word % 8 ≢ 0 → is_noted x.word i ≡ true → OutThere (set t.words (slot_word s slot) n) (4 * card_by x.slot x.word + i)) (same_Some _ r has) (reads i) used is)
               (λ c has. h.ages.lost id c k here has);
-          tied = tie_of_period s tree t h.ages.now.machine.stages h.lie h.dead h.dead h.was_dead h.was_dead h.tied id k here k.sight (record (after_read slot n k.period) { sought = sought }) refl (set t.words (slot_word s slot) n)
+          tied = tie_of_period s tree t h.ages.now.machine.stages h.lie h.dead h.dead h.was_dead h.was_dead h.tied id k here k.sight (record (after_read slot n k.period) { retired = retired }) refl (set t.words (slot_word s slot) n)
               (λ j low. word_again t.words (slot_word s slot) (omega arith) j)
               (λ c lives. lives) (λ q a at an. inl (at, an, λ c lives. lives)) (λ seat q a u other at placed an c lives. lives) t.homes;
           flat = h.flat;
-          retired = retired_of_period plan s tree h.ages.now.machine h.ages.now.uses t id k here k.sight (record (after_read slot n k.period) { sought = sought }) (set t.words (slot_word s slot) n) h.lie h.lie
+          retired = retired_of_period plan s tree h.ages.now.machine h.ages.now.uses t id k here k.sight (record (after_read slot n k.period) { retired = retired }) (set t.words (slot_word s slot) n) h.lie h.lie
               (λ x out is. same_slots (set t.words (slot_word s slot) n) same x is)
-              (retired_then (set t.words (slot_word s slot) n) (λ x out is. same_slots (set t.words (slot_word s slot) n) same x is) sought.retired mine) h.retired;
+              (retired_then (set t.words (slot_word s slot) n) (λ x out is. same_slots (set t.words (slot_word s slot) n) same x is) retired mine) h.retired;
         };
-        leaks = λ was. leaks_same s t tree.views h.ages.now.machine.words h.ages.now.machine.stages h.lie was id k here (record (after_read slot n k.period) { sought = sought }) (set t.words (slot_word s slot) n)
-            (λ other low used. holds_so k (record (after_read slot n k.period) { sought = sought }) refl refl (h.lie other)) same;
-        searches = λ was. searches_sought s t was id k here (record k { period = record (after_read slot n k.period) { sought = sought } }) (set t.words (slot_word s slot) n) t.homes
-            (word_again t.words (slot_word s slot) (omega arith) (clock_word s)) (λ other low. same other) refl refl (searched was);
-        takings = λ was. takings_noted s t h.lie was id k here (record k { period = record (after_read slot n k.period) { sought = sought } }) (set t.words (slot_word s slot) n) t.homes
-            (past_again plan s tree t id k here h size (slot_word s slot) (omega arith)) (λ other low. same other) (λ c reading is. inl is) (λ works. counted was.taken (was.misses id k here works));
+        leaks = λ was. leaks_same s t tree.views h.ages.now.machine.words h.ages.now.machine.stages h.lie was id k here (record (after_read slot n k.period) { retired = retired }) (set t.words (slot_word s slot) n)
+            (λ other low used. holds_so k (record (after_read slot n k.period) { retired = retired }) refl refl (h.lie other)) same;
       }
     where
       now : ℕ
@@ -214,11 +163,6 @@ module _ (plan : TablePlan) (s : Slots) (tree : TableState) (t : WholeState) (id
         };
         leaks = λ was. leaks_same s t tree.views h.ages.now.machine.words h.ages.now.machine.stages h.lie was id k here (after_stamp c n k.period) (set t.words (clock_word s) n)
             (λ other low used. holds_so k (after_stamp c n k.period) refl refl (h.lie other)) same;
-        searches = λ was. searches_same s t was id k here (record k { period = after_stamp c n k.period }) (set t.words (clock_word s) n) t.homes
-            (past_again plan s tree t id k here h size (clock_word s) (omega arith)) refl (λ a an. (an, refl)) (λ other low. same other);
-        takings = λ was. takings_noted s t h.lie was id k here (record k { period = after_stamp c n k.period }) (set t.words (clock_word s) n) t.homes
-            (past_again plan s tree t id k here h size (clock_word s) (omega arith)) (λ other low. same other) (λ d reading is. inr (ap (λ (x : Stamp). x.reading) (sym (same_Some _ _ is))))
-            (λ works. counts_same s t.words was.taken k.period (after_stamp c n k.period) refl refl refl refl (was.misses id k here works));
       }
     where
       same : (other : ℕ) → get_or (set t.words (clock_word s) (get_or t.words (clock_word s) 0)) (slot_word s other) 0 ≡ get_or t.words (slot_word s other) 0
@@ -272,15 +216,13 @@ module _ (plan : TablePlan) (s : Slots) (tree : TableState) (t : WholeState) (id
 
   -- A slot's word becomes another one, by which the same cards lie in slots, and what it notes is dead. It notes what the
   -- other one did, or sets the slot free.
-  turns_now : (slot n : ℕ) (sought : Seek) → slot ≤ s.last → get_or t.words (slot_word s slot) 0 % 8 ≢ 0 → (n % 8 ≢ 0 → (i : ℕ) → is_noted (get_or t.words (slot_word s slot) 0) i ≡ true → is_noted n i ≡ true)
-      → HasRetired (set t.words (slot_word s slot) n) sought.retired → LieInSlots s (set t.words (slot_word s slot) n) h.lie
-      → PeriodsAreSound s (turned_to t id k (record (k.period) { sought = sought }) (slot_word s slot) n) h.lie h.dead h.began h.was_dead
+  turns_now : (slot n : ℕ) (retired : Retired) → slot ≤ s.last → get_or t.words (slot_word s slot) 0 % 8 ≢ 0 → (n % 8 ≢ 0 → (i : ℕ) → is_noted (get_or t.words (slot_word s slot) 0) i ≡ true → is_noted n i ≡ true)
+      → HasRetired (set t.words (slot_word s slot) n) retired → LieInSlots s (set t.words (slot_word s slot) n) h.lie
+      → PeriodsAreSound s (turned_to t id k (record (k.period) { retired = retired }) (slot_word s slot) n) h.lie h.dead h.began h.was_dead
       → ((i : ℕ) → is_noted n i ≡ true → OutNow (4 * h.lie slot + i))
       → (n % 8 ≢ 0 → (i : ℕ) → is_noted n i ≡ true → (is_noted (get_or t.words (slot_word s slot) 0) i ≡ true) ⊎ HasWon h.ages.now.machine.stages (h.lie slot))
-      → SameSearch k.period.sought sought → (SearchesAreSound s t → (n % 8 ≢ 0) ⊎ ((j : ℕ) (u : Known) → get_elem? t.views j ≡ some u → u.period.sought.safe ≤ stamp_in n))
-      → ((taken : TakingsAreSound s t h.lie) → (n % 8 ≢ 0) ⊎ (taken.taken slot ≤ stamp_in n))
-      → GoesTo plan s tree t h (turned_to t id k (record (k.period) { sought = sought }) (slot_word s slot) n)
-  turns_now slot n sought inside was keeps mine lies sound notes won search turned aged = record {
+      → GoesTo plan s tree t h (turned_to t id k (record (k.period) { retired = retired }) (slot_word s slot) n)
+  turns_now slot n retired inside was keeps mine lies sound notes won = record {
     periods = record {
       lie = h.lie;
       lies = lies;
@@ -288,26 +230,21 @@ module _ (plan : TablePlan) (s : Slots) (tree : TableState) (t : WholeState) (id
       began = h.began;
       was_dead = h.was_dead;
       periods = sound;
-      ages = ages_of_period plan s tree t id k here (record k { period = record (k.period) { sought = sought } }) refl (set t.words (slot_word s slot) n) h.lie h.lie h.dead h.dead h.was_dead h.was_dead h.ages
+      ages = ages_of_period plan s tree t id k here (record k { period = record (k.period) { retired = retired } }) refl (set t.words (slot_word s slot) n) h.lie h.lie h.dead h.dead h.was_dead h.was_dead h.ages
           h.ages.now.each h.ages.still (λ q a at an. h.ages.since id q a k here at an) (λ j q a u other at placed an. refl)
           noted
           (λ x out is. noted_then slot n inside was keeps x is)
           (λ r has used i is. (let old = h.ages.read id k r here has used i is in (old.0, noted_then slot n inside was keeps _ old.1)))
           (λ c has. h.ages.lost id c k here has);
-      tied = tie_of_period s tree t h.ages.now.machine.stages h.lie h.dead h.dead h.was_dead h.was_dead h.tied id k here k.sight (record (k.period) { sought = sought }) refl (set t.words (slot_word s slot) n)
+      tied = tie_of_period s tree t h.ages.now.machine.stages h.lie h.dead h.dead h.was_dead h.was_dead h.tied id k here k.sight (record (k.period) { retired = retired }) refl (set t.words (slot_word s slot) n)
           (behind plan s tree t id k here h (slot_word s slot) n (omega arith)) (λ c lives. lives)
           (λ q a at an. inl (at, an, λ c lives. lives)) (λ seat q a u other at placed an c lives. lives) t.homes;
       flat = h.flat;
-      retired = retired_of_period plan s tree h.ages.now.machine h.ages.now.uses t id k here k.sight (record (k.period) { sought = sought }) (set t.words (slot_word s slot) n) h.lie h.lie
+      retired = retired_of_period plan s tree h.ages.now.machine h.ages.now.uses t id k here k.sight (record (k.period) { retired = retired }) (set t.words (slot_word s slot) n) h.lie h.lie
           (λ x out is. noted_then slot n inside was keeps x is) mine h.retired;
     };
-    leaks = λ leaks. leaks_turned s t tree.views h.ages.now.machine.words h.ages.now.machine.stages h.lie leaks id k here (record (k.period) { sought = sought }) slot n inside (omega arith)
-        (λ other low used. holds_so k (record (k.period) { sought = sought }) refl refl (h.lie other)) (λ some. was) won keeps;
-    searches = λ was. searches_turned s t was id k here (record k { period = record (k.period) { sought = sought } }) (set t.words (slot_word s slot) n) t.homes
-        (let same = get_or-set_other t.words (slot_word s slot) (clock_word s) n 0 (λ e. (let behind_clock = clock_before_slots s slot in omega arith)) in omega arith) (ap row_of search) (λ a an. (an, refl)) slot n inside (omega arith) refl (turned was);
-    takings = λ taken. takings_turned s t h.lie taken id k here (record k { period = record (k.period) { sought = sought } }) (set t.words (slot_word s slot) n) t.homes
-        (let same = get_or-set_other t.words (slot_word s slot) (clock_word s) n 0 (λ e. (let behind_clock = clock_before_slots s slot in omega arith)) in omega arith) slot n inside (omega arith) refl was (aged taken)
-        refl (ap (λ (x : Seek). x.missed) search) (ap (λ (x : Seek). x.found) search) refl (omega arith) (λ works. works);
+    leaks = λ leaks. leaks_turned s t tree.views h.ages.now.machine.words h.ages.now.machine.stages h.lie leaks id k here (record (k.period) { retired = retired }) slot n inside (omega arith)
+        (λ other low used. holds_so k (record (k.period) { retired = retired }) refl refl (h.lie other)) (λ some. was) won keeps;
   }
     where
       noted : (other i : ℕ) → other ≤ s.last → is_noted (get_or (set t.words (slot_word s slot) n) (slot_word s other) 0) i ≡ true → OutNow (4 * h.lie other + i)
@@ -322,14 +259,14 @@ module _ (plan : TablePlan) (s : Slots) (tree : TableState) (t : WholeState) (id
       ]
 
   -- more nodes of the card that lies in a slot are noted as dead
-  pub notes_now : (slot n m : ℕ) (sought : Seek) → slot ≤ s.last → get_or t.words (slot_word s slot) 0 ≡ n → turn_in m ≡ turn_in n → n % 8 ≢ 0 → m % 8 ≢ 0
+  pub notes_now : (slot n m : ℕ) (retired : Retired) → slot ≤ s.last → get_or t.words (slot_word s slot) 0 ≡ n → turn_in m ≡ turn_in n → n % 8 ≢ 0 → m % 8 ≢ 0
       → ((i : ℕ) → is_noted n i ≡ true → is_noted m i ≡ true)
       → ((i : ℕ) → is_noted m i ≡ true → (is_noted n i ≡ true) ⊎ KnowsDeadNode k.tree (4 * card_by slot n + i))
-      → HasRetired (set t.words (slot_word s slot) m) sought.retired → SameSearch k.period.sought sought
-      → GoesTo plan s tree t h (turned_to t id k (record (k.period) { sought = sought }) (slot_word s slot) m)
-  notes_now slot n m sought inside is turn some_bit some_bit' more knows mine search =
-      turns_now slot m sought inside used (λ some i was. more i (subst (λ x. is_noted x i ≡ true) is was)) mine (lie_noted s h.lie t.words h.lies slot (omega arith) m used (turn ∙ ap turn_in (sym is)))
-      (slot_noted s t id k here h.lie h.dead h.began h.was_dead h.periods size slot inside sought m used some_bit')
+      → HasRetired (set t.words (slot_word s slot) m) retired
+      → GoesTo plan s tree t h (turned_to t id k (record (k.period) { retired = retired }) (slot_word s slot) m)
+  notes_now slot n m retired inside is turn some_bit some_bit' more knows mine =
+      turns_now slot m retired inside used (λ some i was. more i (subst (λ x. is_noted x i ≡ true) is was)) mine (lie_noted s h.lie t.words h.lies slot (omega arith) m used (turn ∙ ap turn_in (sym is)))
+      (slot_noted s t id k here h.lie h.dead h.began h.was_dead h.periods size slot inside retired m used some_bit')
       (λ i noted. elim (knows i noted) [
         | inl was ↦ h.ages.noted slot i inside (subst (λ x. is_noted x i ≡ true) (sym is) was)
         | inr dead ↦ subst (λ c. OutNow (4 * c + i)) (sym lies_there) (dead_by (4 * card_by slot n + i) dead)
@@ -338,7 +275,6 @@ module _ (plan : TablePlan) (s : Slots) (tree : TableState) (t : WholeState) (id
         | inl was ↦ inl (subst (λ x. is_noted x i ≡ true) (sym is) was)
         | inr dead ↦ inr (subst (HasWon h.ages.now.machine.stages) (sym lies_there) (known_won (card_by slot n) i (few_noted m i noted) dead))
       ])
-      search (λ searches. inl some_bit') (λ taken. inl some_bit')
     where
       used : get_or t.words (slot_word s slot) 0 % 8 ≢ 0
       used e = some_bit (ap (λ x. x % 8) (sym is) ∙ e)
@@ -347,33 +283,21 @@ module _ (plan : TablePlan) (s : Slots) (tree : TableState) (t : WholeState) (id
       lies_there = h.lies slot inside used ∙ ap (card_by slot) is
 
   -- or the slot is set free, if all nodes of the card are dead
-  pub frees_now : (slot reading : ℕ) (sought : Seek) → slot ≤ s.last → (n : ℕ) → get_or t.words (slot_word s slot) 0 ≡ n → n % 8 ≢ 0
+  pub frees_now : (slot reading : ℕ) (retired : Retired) → slot ≤ s.last → (n : ℕ) → get_or t.words (slot_word s slot) 0 ≡ n → n % 8 ≢ 0
       → k.period.stamp ≡ Some (record { card = card_by slot n; reading = reading })
-      → HasRetired (set t.words (slot_word s slot) (free_word reading)) sought.retired
-      → SameSearch k.period.sought sought → k.period.announced ≢ None → k.period.began ≤ reading
-      → GoesTo plan s tree t h (turned_to t id k (record (k.period) { sought = sought }) (slot_word s slot) (free_word reading))
-  frees_now slot reading sought inside n is some_bit has mine search in_period late =
-      turns_now slot (free_word reading) sought inside (λ e. some_bit (ap (λ x. x % 8) (sym is) ∙ e)) (λ some. absurd (some (omega arith))) mine (lie_freed s h.lie t.words h.lies slot (omega arith) reading)
-      (slot_freed s t id k here h.lie h.dead h.began h.was_dead h.periods size slot inside sought reading (h.tied.own slot inside) stamp)
+      → HasRetired (set t.words (slot_word s slot) (free_word reading)) retired
+      → GoesTo plan s tree t h (turned_to t id k (record (k.period) { retired = retired }) (slot_word s slot) (free_word reading))
+  frees_now slot reading retired inside n is some_bit has mine =
+      turns_now slot (free_word reading) retired inside (λ e. some_bit (ap (λ x. x % 8) (sym is) ∙ e)) (λ some. absurd (some (omega arith))) mine (lie_freed s h.lie t.words h.lies slot (omega arith) reading)
+      (slot_freed s t id k here h.lie h.dead h.began h.was_dead h.periods size slot inside retired reading (h.tied.own slot inside) stamp)
       (λ i noted. h.ages.now.each (h.lie slot) i (few_noted (free_word reading) i noted) dead)
       (λ some. absurd (some (omega arith)))
-      search (λ searches. inr (freed_late s t searches id k here in_period (free_word reading) (let stamp_is = free_stamp reading in omega arith))) aged
     where
       lies_there : h.lie slot ≡ card_by slot n
       lies_there = h.lies slot inside (λ e. some_bit (ap (λ x. x % 8) (sym is) ∙ e)) ∙ ap (card_by slot) is
 
       stamp : k.period.stamp ≡ Some (record { card = h.lie slot; reading = reading })
       stamp = has ∙ ap (λ c. Some (record { card = c; reading = reading })) (sym lies_there)
-
-      -- the slot was taken no later than the stamp was read
-      aged : (taken : TakingsAreSound s t h.lie) → (free_word reading % 8 ≢ 0) ⊎ (taken.taken slot ≤ stamp_in (free_word reading))
-      aged taken =
-          let home = h.tied.own slot inside in
-          let low = taken.pending id (h.lie slot) reading k here stamp (subst (λ x. x ≤ s.last) (sym home) inside)
-          (λ full. some_bit (ap (λ x. x % 8) (sym is) ∙ (ap (λ x. get_or t.words (slot_word s x) 0 % 8) (sym home) ∙ full))) (ap h.lie home) in
-          let at_slot = ap taken.taken home in
-          let stamp_is = free_stamp reading in
-          inr (omega arith)
 
       dead : h.dead (h.lie slot) ≡ true
       dead = (h.periods.sound.pending id (h.lie slot) reading (ap (λ (p : Period). pending_by p.stamp) (period_was t.views id k here k) ∙ ap pending_by stamp)).gone
@@ -385,8 +309,7 @@ module _ (plan : TablePlan) (s : Slots) (placed : plan.slots ≡ Some s) (slot :
   reads_slot k =
       goes_on_there plan s placed k (slot_word s slot) (λ n. n) (λ n p. p ≡ after_read slot n k.period) (λ t. after_read slot (get_or t.words (slot_word s slot) 0) k.period)
       (λ tree t id reached here there h size. (
-        reads_now plan s tree t id k here there h size reached slot inside k.period.sought (λ c at hand. h.retired id c k here at hand) (λ was. sought_still s t was id k here k.period.sought refl)
-            (λ taken m. counts_same s t.words taken k.period (after_read slot (get_or t.words (slot_word s slot) 0) k.period) refl refl refl refl m),
+        reads_now plan s tree t id k here there h size reached slot inside k.period.retired (λ c at hand. h.retired id c k here at hand),
         refl,
       ))
 
@@ -404,31 +327,11 @@ module _ (plan : TablePlan) (s : Slots) (placed : plan.slots ≡ Some s) (slot :
           let word : slot_word o r ≡ slot_word s r = ap (λ x. slot_word x r) same in
           omega arith
 
-  -- it reads the word of the slot of a card by its search
-  pub seeks : (begins for_delete : Bool) (c made : ℕ) → slot_of c ≡ slot → (k : Known) (word : ℕ) → word ≡ slot_word s slot
-      → MayGoOn plan k word (λ n. n) (λ n p. p ≡ after_seek s begins for_delete c made n k.period)
-  seeks begins for_delete c made lies k word is =
-      subst (λ i. MayGoOn plan k i (λ n. n) (λ n p. p ≡ after_seek s begins for_delete c made n k.period)) (sym is)
-      (goes_on_there plan s placed k (slot_word s slot) (λ n. n) (λ n p. p ≡ after_seek s begins for_delete c made n k.period) (λ t. after_seek s begins for_delete c made (get_or t.words (slot_word s slot) 0) k.period)
-      (λ tree t id reached here there h size. (
-        subst (λ x. GoesTo plan s tree t h (turned_to t id k (record (after_read x (get_or t.words (slot_word s slot) 0) k.period) { sought = now t }) (slot_word s slot) (get_or t.words (slot_word s slot) 0))) (sym lies)
-            (reads_now plan s tree t id k here there h size reached slot inside (now t)
-            (λ d at hand. subst (λ r. AreRetired h.ages.now.machine.words d r (λ x. IsOut plan tree h.ages.now.machine h.ages.now.uses x × IsNotedThere s t.words h.lie x))
-            (sym (sought_retired s begins for_delete c made (get_or t.words (slot_word s slot) 0) (could_have s for_delete c (get_or t.words (slot_word s slot) 0) k.period.safe) k.period.safe k.period.sought)) (h.retired id d k here at hand))
-            (λ was. subst (λ x. SoughtIsSo s t (sought_on s begins for_delete c made (get_or t.words (slot_word s x) 0) (could_have s for_delete c (get_or t.words (slot_word s x) 0) k.period.safe) k.period.safe k.period.sought)) lies
-            (sought_more s t h.lie h.dead h.began h.was_dead h.periods was id k here begins for_delete c made (subst (λ x. x ≤ s.last) (sym lies) inside)))
-            (counts_sought s begins for_delete c made t.words slot lies inside k.period)),
-        refl,
-      )))
-    where
-      now : WholeState → Seek
-      now t = sought_on s begins for_delete c made (get_or t.words (slot_word s slot) 0) (could_have s for_delete c (get_or t.words (slot_word s slot) 0) k.period.safe) k.period.safe k.period.sought
-
 -- a pass reads the clock for a card whose nodes it knows dead, or which it laid aside
 pub stamps_card : (plan : TablePlan) (s : Slots) → plan.slots ≡ Some s → (k : Known) (c : ℕ) → MayStamp k c
-    → MayGoOn plan k (clock_word s) (λ n. n) (λ n p. (p ≡ after_stamp c n k.period) × (n ≤ last_reading) × ((d : ℕ) → k.period.slot ≡ Some d → slot_of d ≤ s.last) × (k.period.announced ≢ None → k.period.began ≤ n))
+    → MayGoOn plan k (clock_word s) (λ n. n) (λ n p. (p ≡ after_stamp c n k.period) × (n ≤ last_reading) × ((d : ℕ) → k.period.slot ≡ Some d → slot_of d ≤ s.last))
 stamps_card plan s placed k c may =
-    goes_on_there plan s placed k (clock_word s) (λ n. n) (λ n p. (p ≡ after_stamp c n k.period) × (n ≤ last_reading) × ((d : ℕ) → k.period.slot ≡ Some d → slot_of d ≤ s.last) × (k.period.announced ≢ None → k.period.began ≤ n))
+    goes_on_there plan s placed k (clock_word s) (λ n. n) (λ n p. (p ≡ after_stamp c n k.period) × (n ≤ last_reading) × ((d : ℕ) → k.period.slot ≡ Some d → slot_of d ≤ s.last))
     (λ t. after_stamp c (get_or t.words (clock_word s) 0) k.period)
     (λ tree t id reached here there h size. (
       stamps_now plan s tree t id k here there h size reached c may,
@@ -436,6 +339,5 @@ stamps_card plan s placed k c may =
         refl,
         h.periods.low,
         λ d at. slot_inside s.last d (h.tied.slotted id d k here at),
-        λ busy. (let says = announces_some k.period.announced busy in began_past s t h.lie h.dead h.began h.was_dead h.periods id says.0 k here says.1),
       ),
     ))

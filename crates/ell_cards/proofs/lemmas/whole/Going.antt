@@ -1,4 +1,4 @@
-use Rattle.std.proofs.Common.{◌≡◌, ◌≢◌, ℕ, zero, suc, ◌+◌, ◌*◌, ◌<◌, ◌≤◌, ◌==◌, true, Some, None, List, [], ◌∷◌, length, get_or, set, inl, inr, ◌⊎◌, refl, sym, ap, ◌∙◌, subst, arith, eq-eqb, ne_eqb, length-set, get_or-set_other, get_or-set_same, nat_lt, if◌then◌else◌, max, Bool, false}
+use Rattle.std.proofs.Common.{◌≡◌, ◌≢◌, ℕ, zero, suc, ◌+◌, ◌*◌, ◌<◌, ◌≤◌, ◌==◌, true, Some, None, List, [], ◌∷◌, length, get_or, set, inl, inr, ◌⊎◌, refl, sym, ap, ◌∙◌, subst, arith, eq-eqb, ne_eqb, length-set, get_or-set_other, get_or-set_same}
 use Rattle.std.proofs.lemmas.Bool.{cases_eq}
 use Rattle.std.proofs.lemmas.List.{map-set}
 use Rattle.std.proofs.lemmas.Option.{same_Some}
@@ -13,12 +13,11 @@ use Rattle.ell_layout.specs.Words.{put}
 use Rattle.ell_layout.proofs.lemmas.Writes.{put_same, put_other}
 use Rattle.ell_cards.specs.declared.view.Known.{Known}
 use Rattle.ell_cards.specs.declared.view.Period.{Period}
-use Rattle.ell_cards.specs.declared.view.Seek.{Seek}
 use Rattle.ell_cards.specs.declared.view.Slots.{Slots}
 use Rattle.ell_cards.specs.Ages.{IsOut, HasPeriods}
 use Rattle.ell_cards.specs.Histories.{history_of}
 use Rattle.ell_cards.specs.Models.{TablePlan}
-use Rattle.ell_cards.specs.Periods.{WholeState, clock_word, place_word, slot_word, slots_size, last_reading, after_clock, after_announce, after_retract, after_look_at, after_take, after_tick, after_give, after_release, own, IsAtRest, PeriodsAreSound, settled_at}
+use Rattle.ell_cards.specs.Periods.{WholeState, clock_word, place_word, slot_word, slots_size, last_reading, after_clock, after_announce, after_retract, after_look_at, after_take, after_tick, after_give, after_release, own, IsAtRest, PeriodsAreSound}
 use Rattle.ell_cards.specs.Shown.{shown}
 use Rattle.ell_cards.specs.SlotWords.{is_noted}
 use Rattle.ell_cards.specs.Starts.{IsReached}
@@ -31,32 +30,24 @@ use Rattle.ell_cards.proofs.lemmas.ties.Periods.{tie_of_period}
 use Rattle.ell_cards.proofs.lemmas.whole.Ages.{ages_of_period, noted_same}
 use Rattle.ell_cards.proofs.lemmas.whole.Apart.{ready_there}
 use Rattle.ell_cards.specs.Leaks.{NothingLeaks}
-use Rattle.ell_cards.specs.Searches.{SearchesAreSound}
-use Rattle.ell_cards.specs.Takings.{TakingsAreSound}
 use Rattle.ell_cards.proofs.lemmas.whole.Leaks.{holds_so, leaks_same}
 use Rattle.ell_cards.proofs.lemmas.whole.OwnCalls.{apart_set}
 use Rattle.ell_cards.proofs.lemmas.whole.Retired.{retired_so}
-use Rattle.ell_cards.proofs.lemmas.whole.Searches.{row_of, searches_begin, searches_same}
-use Rattle.ell_cards.proofs.lemmas.whole.Takings.{takings_noted, takings_same}
 use Rattle.ell_cards.proofs.lemmas.whole.Seats.{before_clock, lie_same}
 use Rattle.ell_cards.proofs.lemmas.whole.Seeing.{all_set, made_set, silent_set}
-use Rattle.ell_cards.proofs.lemmas.whole.Steps.{word_again, periods_sought, periods_read, periods_ticked, periods_seen, periods_announced, periods_retracted, periods_taken, periods_given, periods_released}
+use Rattle.ell_cards.proofs.lemmas.whole.Steps.{word_again, periods_again, periods_read, periods_ticked, periods_seen, periods_announced, periods_retracted, periods_taken, periods_given, periods_released}
 use Rattle.ell_cards.proofs.lemmas.whole.Slots.{clock_known}
 use Rattle.ell_cards.proofs.lemmas.whole.Trees.{tree_at}
-use Rattle.std.proofs.Math.Nat.{le-max_right}
 
 -- the table where a pass knows something else of periods, and a word became another one
 abbrev pub turned_to : WholeState → ℕ → Known → Period → ℕ → ℕ → WholeState
 turned_to t id k p i n = record { words = set t.words i n; homes = t.homes; views = set t.views id (record k { period = p }) }
 
--- the periods of a table where a step on their words leads on, by which no slot stays in use for nothing, and what passes
--- have read in their searches is so still
+-- the periods of a table where a step on their words leads on, by which no slot stays in use for nothing
 pub record GoesTo (plan : TablePlan) (s : Slots) (tree : TableState) (t : WholeState) (h : HasPeriods plan s tree t) (t' : WholeState) : Type 0 where
   pub periods : HasPeriods plan s tree t'
   pub leaks : NothingLeaks s t tree.views h.ages.now.machine.words h.ages.now.machine.stages h.lie
       → NothingLeaks s t' tree.views periods.ages.now.machine.words periods.ages.now.machine.stages periods.lie
-  pub searches : SearchesAreSound s t → SearchesAreSound s t'
-  pub takings : TakingsAreSound s t h.lie → TakingsAreSound s t' periods.lie
 
 -- the last of two that are put in one place
 pub set_twice : {A : Type 0} (l : List A) (i : ℕ) (a b : A) → set (set l i a) i b ≡ set l i b
@@ -82,13 +73,11 @@ module _ (plan : TablePlan) (s : Slots) (tree : TableState) (t : WholeState) (id
 
   -- the periods of a table after a step by which no pass begins one
   pub going : (p : Period) (i n : ℕ) → AnnouncesNoMore k.period p → p.read ≡ k.period.read → p.lost ≡ k.period.lost → p.slot ≡ k.period.slot
-      → p.sought ≡ k.period.sought
-      → p.began ≡ k.period.began → ((a : ℕ) → p.announced ≡ Some a → k.period.announced ≡ Some a) → p.stamp ≡ k.period.stamp → k.period.safe ≤ p.safe
-      → get_or t.words (clock_word s) 0 ≤ get_or (set t.words i n) (clock_word s) 0
+      → p.retired ≡ k.period.retired
       → ((j : ℕ) → j < table_size s.last → get_or (set t.words i n) j 0 ≡ get_or t.words j 0)
       → ((slot : ℕ) → get_or (set t.words i n) (slot_word s slot) 0 ≡ get_or t.words (slot_word s slot) 0)
       → PeriodsAreSound s (turned_to t id k p i n) h.lie h.dead h.began h.was_dead → GoesTo plan s tree t h (turned_to t id k p i n)
-  going p i n was read lost taken sought began says stamp safe past cards same sound = record {
+  going p i n was read lost taken noted cards same sound = record {
     periods = record {
       lie = h.lie;
       lies = lie_same s h.lie t.words (set t.words i n) (λ slot low. same slot) h.lies;
@@ -108,13 +97,10 @@ module _ (plan : TablePlan) (s : Slots) (tree : TableState) (t : WholeState) (id
           (λ c lives. lives) (λ q a at an. (let old = was q a at an in inl (old.0, old.1, λ c lives. lives)))
           (λ seat q a u other there at an c lives. lives) t.homes;
       flat = h.flat;
-      retired = retired_so plan s tree h.ages.now.machine h.ages.now.uses t id k here k.sight p taken (ap (λ (x : Seek). x.retired) sought) (set t.words i n) h.lie h.lie
+      retired = retired_so plan s tree h.ages.now.machine h.ages.now.uses t id k here k.sight p taken noted (set t.words i n) h.lie h.lie
           (λ x out is. noted_same plan s t.words (set t.words i n) h.lie (λ slot low. same slot) x is) h.retired;
     };
     leaks = λ was. leaks_same s t tree.views h.ages.now.machine.words h.ages.now.machine.stages h.lie was id k here p (set t.words i n) (λ slot low used. holds_so k p taken lost (h.lie slot)) same;
-    searches = λ was. searches_same s t was id k here (record k { period = p }) (set t.words i n) t.homes past (ap row_of sought) (λ a an. (says a an, began)) (λ slot low. same slot);
-    takings = λ was. takings_same s t h.lie was id k here (record k { period = p }) (set t.words i n) t.homes past (λ slot low. same slot) stamp
-        (ap (λ (x : Seek). x.missed) sought) (ap (λ (x : Seek). x.found) sought) began safe (λ works. works);
   }
 
   -- a word is stored again
@@ -122,18 +108,11 @@ module _ (plan : TablePlan) (s : Slots) (tree : TableState) (t : WholeState) (id
       → get_or (set t.words i (get_or t.words i 0)) (slot_word s slot) 0 ≡ get_or t.words (slot_word s slot) 0
   same_again size i inside slot = word_again t.words i (omega arith) (slot_word s slot)
 
-  -- the clock is no less where a word is stored again, or that of a place becomes another one
-  pub past_again : length t.words ≡ slots_size s → (i : ℕ) → i < slots_size s → get_or t.words (clock_word s) 0 ≤ get_or (set t.words i (get_or t.words i 0)) (clock_word s) 0
-  past_again size i inside = let same = word_again t.words i (omega arith) (clock_word s) in omega arith
-
-  pub past_place : (q n : ℕ) → q < s.places → get_or t.words (clock_word s) 0 ≤ get_or (set t.words (place_word s q) n) (clock_word s) 0
-  past_place q n low = let same = get_or-set_other t.words (place_word s q) (clock_word s) n 0 (λ e. omega arith) in omega arith
-
   -- so nothing changes
   pub stays : length t.words ≡ slots_size s → (i : ℕ) → i < slots_size s → GoesTo plan s tree t h (turned_to t id k k.period i (get_or t.words i 0))
   stays size i inside =
-      going k.period i (get_or t.words i 0) (λ q a at an. (at, an)) refl refl refl refl refl (λ a an. an) refl (omega arith) (past_again size i inside) (λ j low. word_again t.words i (omega arith) j) (same_again size i inside)
-      (periods_sought s t id k here h.lie h.dead h.began h.was_dead h.periods size i inside k.period.sought)
+      going k.period i (get_or t.words i 0) (λ q a at an. (at, an)) refl refl refl refl (λ j low. word_again t.words i (omega arith) j) (same_again size i inside)
+      (periods_again s t id k here h.lie h.dead h.began h.was_dead h.periods size i inside)
 
   -- and after one begins
   pub begins_now : (q reading : ℕ) → k.period.place ≡ Some q → k.period.announced ≡ None → k.period.reading ≡ Some reading → length t.words ≡ slots_size s
@@ -168,10 +147,6 @@ module _ (plan : TablePlan) (s : Slots) (tree : TableState) (t : WholeState) (id
     };
     leaks = λ was. leaks_same s t tree.views h.ages.now.machine.words h.ages.now.machine.stages h.lie was id k here (after_announce reading (get_or t.words (clock_word s) 0) k.period) (set t.words (place_word s q) (reading + 2))
         (λ slot low used. holds_so k (after_announce reading (get_or t.words (clock_word s) 0) k.period) refl refl (h.lie slot)) (λ slot. get_or-set_other t.words (place_word s q) (slot_word s slot) (reading + 2) 0 (λ e. omega arith));
-    searches = λ was. searches_begin s t was id k here (record k { period = after_announce reading (get_or t.words (clock_word s) 0) k.period }) (set t.words (place_word s q) (reading + 2)) t.homes
-        (past_place q (reading + 2) ((h.periods.each id k here).place q placed).0) refl refl same_slots;
-    takings = λ was. takings_noted s t h.lie was id k here (record k { period = after_announce reading (get_or t.words (clock_word s) 0) k.period }) (set t.words (place_word s q) (reading + 2)) t.homes
-        (past_place q (reading + 2) ((h.periods.each id k here).place q placed).0) same_slots (λ c read is. inl is) (λ works. absurd (works ((h.periods.each id k here).rests quiet).free));
   }
     where
       same_slots : (slot : ℕ) → slot ≤ s.last → get_or (set t.words (place_word s q) (reading + 2)) (slot_word s slot) 0 ≡ get_or t.words (slot_word s slot) 0
@@ -183,14 +158,6 @@ module _ (plan : TablePlan) (s : Slots) (tree : TableState) (t : WholeState) (id
         | inr n ↦ h.ages.still r x (sym (ap (λ f. f x) (put_other h.was_dead q h.dead r n)) ∙ is)
       ]
 
--- a safe number never falls
-settled_more : (places looked least safe : ℕ) → safe ≤ settled_at places looked least safe
-settled_more places looked least safe = by (nat_lt looked places)
-  where
-    by : (b : Bool) → safe ≤ (if b then safe else max least safe)
-    by true = omega arith
-    by false = le-max_right least safe
-
 -- what a load of the clock tells: it has never gone back
 pub record TellsClock (was : Period) (n : ℕ) (p : Period) : Type 0 where
   pub is : p ≡ after_clock n was
@@ -200,11 +167,11 @@ pub record TellsClock (was : Period) (n : ℕ) (p : Period) : Type 0 where
 
 -- a step on the words of the periods is one of the table
 module _ (plan : TablePlan) (s : Slots) (placed : plan.slots ≡ Some s) where
-  pub goes_on_counted : (k : Known) (i : ℕ) (f : ℕ → ℕ) (told : ℕ → Period → Type 0) (p : WholeState → Period)
+  pub goes_on_whole : (k : Known) (i : ℕ) (f : ℕ → ℕ) (told : ℕ → Period → Type 0) (p : WholeState → Period)
       → ((tree : TableState) (t : WholeState) (id : ℕ) → IsReached plan tree → get_elem? t.views id ≡ some k → trees_of t.views ≡ tree.views → (h : HasPeriods plan s tree t) → length t.words ≡ slots_size s
-      → GoesTo plan s tree t h (turned_to t id k (p t) i (f (get_or t.words i 0))) × (SearchesAreSound s t → TakingsAreSound s t h.lie → told (get_or t.words i 0) (p t)))
+      → GoesTo plan s tree t h (turned_to t id k (p t) i (f (get_or t.words i 0))) × told (get_or t.words i 0) (p t))
       → MayGoOn plan k i f told
-  goes_on_counted k i f told p step id t h homes here small =
+  goes_on_whole k i f told p step id t h homes here small =
       let has = subst (λ o. WordsAre o t.words h.tree.words) placed h.words in
       let n = get_or t.words i 0 in
       let now : Known = record k { period = p t } in
@@ -224,18 +191,10 @@ module _ (plan : TablePlan) (s : Slots) (placed : plan.slots ≡ Some s) where
           homes = h.homes;
           stores = h.stores;
           words = subst (λ o. WordsAre o (set t.words i (f n)) h.tree.words) (sym placed) (length-set t.words i (f n) ∙ has.0, has.1);
-          periods = subst (λ o. PeriodsAre plan o h.tree (turned_to t id k (p t) i (f n))) (sym placed) (x.0.periods, x.0.leaks old.1, x.0.searches old.2, x.0.takings old.3);
+          periods = subst (λ o. PeriodsAre plan o h.tree (turned_to t id k (p t) i (f n))) (sym placed) (x.0.periods, x.0.leaks old.1);
         },
-        (x.1 old.2 old.3, refl, refl, refl),
+        (x.1, refl, refl, refl),
       )
-
-  -- where what is told does not go by what was missed
-  pub goes_on_whole : (k : Known) (i : ℕ) (f : ℕ → ℕ) (told : ℕ → Period → Type 0) (p : WholeState → Period)
-      → ((tree : TableState) (t : WholeState) (id : ℕ) → IsReached plan tree → get_elem? t.views id ≡ some k → trees_of t.views ≡ tree.views → (h : HasPeriods plan s tree t) → length t.words ≡ slots_size s
-      → GoesTo plan s tree t h (turned_to t id k (p t) i (f (get_or t.words i 0))) × told (get_or t.words i 0) (p t))
-      → MayGoOn plan k i f told
-  goes_on_whole k i f told p step =
-      goes_on_counted k i f told p (λ tree t id reached here same h size. (let x = step tree t id reached here same h size in (x.0, λ searches takings. x.1)))
 
   -- where only the pass's own view of the tree is asked for
   pub goes_on_there : (k : Known) (i : ℕ) (f : ℕ → ℕ) (told : ℕ → Period → Type 0) (p : WholeState → Period)
@@ -255,7 +214,7 @@ module _ (plan : TablePlan) (s : Slots) (placed : plan.slots ≡ Some s) where
   pub read_clock_goes_on : (k : Known) → MayGoOn plan k (clock_word s) (λ n. n) (TellsClock k.period)
   read_clock_goes_on k =
       goes_on k (clock_word s) (λ n. n) (TellsClock k.period) (λ t. after_clock (get_or t.words (clock_word s) 0) k.period)
-      (λ tree t id here h size. (going plan s tree t id k here h (after_clock (get_or t.words (clock_word s) 0) k.period) (clock_word s) (get_or t.words (clock_word s) 0) (λ q a at an. (at, an)) refl refl refl refl refl (λ a an. an) refl (omega arith) (past_again plan s tree t id k here h size (clock_word s) (omega arith)) (behind plan s tree t id k here h (clock_word s) (get_or t.words (clock_word s) 0) (omega arith)) (λ slot. get_or-set_other t.words (clock_word s) (slot_word s slot) (get_or t.words (clock_word s) 0) 0 (λ e. omega arith)) (periods_read s t id k here h.lie h.dead h.began h.was_dead h.periods size), record { is = refl; low = h.periods.low; later = (h.periods.each id k here).reading; since = (h.periods.each id k here).surveyed }))
+      (λ tree t id here h size. (going plan s tree t id k here h (after_clock (get_or t.words (clock_word s) 0) k.period) (clock_word s) (get_or t.words (clock_word s) 0) (λ q a at an. (at, an)) refl refl refl refl (behind plan s tree t id k here h (clock_word s) (get_or t.words (clock_word s) 0) (omega arith)) (λ slot. get_or-set_other t.words (clock_word s) (slot_word s slot) (get_or t.words (clock_word s) 0) 0 (λ e. omega arith)) (periods_read s t id k here h.lie h.dead h.began h.was_dead h.periods size), record { is = refl; low = h.periods.low; later = (h.periods.each id k here).reading; since = (h.periods.each id k here).surveyed }))
 
   -- it announces a reading of the clock, if it announces nothing
   pub announces : (k : Known) (q reading : ℕ) → k.period.place ≡ Some q → k.period.announced ≡ None → k.period.reading ≡ Some reading
@@ -269,11 +228,11 @@ module _ (plan : TablePlan) (s : Slots) (placed : plan.slots ≡ Some s) where
       ))
 
   -- it takes its announcement away
-  pub retracts : (k : Known) (q : ℕ) → k.period.place ≡ Some q → IsAtRest (shown k.tree) → k.period.lost ≡ None
+  pub retracts : (k : Known) (q : ℕ) → k.period.place ≡ Some q → IsAtRest (shown k.tree)
       → MayGoOn plan k (place_word s q) (λ n. 1) (λ n p. p ≡ after_retract k.period)
-  retracts k q has rest unlost =
+  retracts k q has rest =
       goes_on_there k (place_word s q) (λ n. 1) (λ n p. p ≡ after_retract k.period) (λ t. after_retract k.period)
-      (λ tree t id reached here there h size. (going plan s tree t id k here h (after_retract k.period) (place_word s q) 1 (λ r a at an. absurd (some_not_none an refl)) refl refl refl refl refl (λ a an. absurd (some_not_none an refl)) refl (omega arith) (past_place plan s tree t id k here h q 1 ((h.periods.each id k here).place q has).0) (behind plan s tree t id k here h (place_word s q) 1 (omega arith)) (λ slot. get_or-set_other t.words (place_word s q) (slot_word s slot) 1 0 (λ e. omega arith)) (periods_retracted s t id k here h.lie h.dead h.began h.was_dead h.periods size q has (rests_whole plan k.tree (tells_apart plan s tree t h.ages.now.machine h.lie h.dead h.was_dead h.tied placed reached id k here there (ready_there plan s tree t h id k here)) rest) unlost), refl))
+      (λ tree t id reached here there h size. (going plan s tree t id k here h (after_retract k.period) (place_word s q) 1 (λ r a at an. absurd (some_not_none an refl)) refl refl refl refl (behind plan s tree t id k here h (place_word s q) 1 (omega arith)) (λ slot. get_or-set_other t.words (place_word s q) (slot_word s slot) 1 0 (λ e. omega arith)) (periods_retracted s t id k here h.lie h.dead h.began h.was_dead h.periods size q has (rests_whole plan k.tree (tells_apart plan s tree t h.ages.now.machine h.lie h.dead h.was_dead h.tied placed reached id k here there (ready_there plan s tree t h id k here)) rest)), refl))
 
   -- it takes a place, if no pass has it
   pub takes : (k : Known) (q : ℕ) → q < s.places → MayGoOn plan k (place_word s q) (λ n. either (n == 0) 1 n) (λ n p. p ≡ after_take q n k.period)
@@ -286,7 +245,7 @@ module _ (plan : TablePlan) (s : Slots) (placed : plan.slots ≡ Some s) where
 
       by : (tree : TableState) (t : WholeState) (id : ℕ) → get_elem? t.views id ≡ some k → (h : HasPeriods plan s tree t) → length t.words ≡ slots_size s → (n : ℕ) → get_or t.words (place_word s q) 0 ≡ n
           → GoesTo plan s tree t h (turned_to t id k (after_take q n k.period) (place_word s q) (either (n == 0) 1 n))
-      by tree t id here h size zero e = going plan s tree t id k here h (after_take q 0 k.period) (place_word s q) 1 (λ r a at an. (at, an)) refl refl refl refl refl (λ a an. an) refl (omega arith) (past_place plan s tree t id k here h q 1 below) (behind plan s tree t id k here h (place_word s q) 1 (omega arith)) (λ slot. get_or-set_other t.words (place_word s q) (slot_word s slot) 1 0 (λ e. omega arith))
+      by tree t id here h size zero e = going plan s tree t id k here h (after_take q 0 k.period) (place_word s q) 1 (λ r a at an. (at, an)) refl refl refl refl (behind plan s tree t id k here h (place_word s q) 1 (omega arith)) (λ slot. get_or-set_other t.words (place_word s q) (slot_word s slot) 1 0 (λ e. omega arith))
           (periods_taken s t id k here h.lie h.dead h.began h.was_dead h.periods size q below e)
       by tree t id here h size (suc n) e =
           subst (λ m. GoesTo plan s tree t h (turned_to t id k k.period (place_word s q) m)) (e ∙ sym (taken n))
@@ -313,14 +272,14 @@ module _ (plan : TablePlan) (s : Slots) (placed : plan.slots ≡ Some s) where
   pub gives_back : (k : Known) (q : ℕ) → k.period.other ≡ Some q → MayGoOn plan k (place_word s q) (λ n. 0) (λ n p. p ≡ after_give k.period)
   gives_back k q has =
       goes_on k (place_word s q) (λ n. 0) (λ n p. p ≡ after_give k.period) (λ t. after_give k.period)
-      (λ tree t id here h size. (going plan s tree t id k here h (after_give k.period) (place_word s q) 0 (λ r a at an. (at, an)) refl refl refl refl refl (λ a an. an) refl (omega arith) (past_place plan s tree t id k here h q 0 ((h.periods.each id k here).other q has).0) (behind plan s tree t id k here h (place_word s q) 0 (omega arith)) (λ slot. get_or-set_other t.words (place_word s q) (slot_word s slot) 0 0 (λ e. omega arith)) (periods_given s t id k here h.lie h.dead h.began h.was_dead h.periods size q has), refl))
+      (λ tree t id here h size. (going plan s tree t id k here h (after_give k.period) (place_word s q) 0 (λ r a at an. (at, an)) refl refl refl refl (behind plan s tree t id k here h (place_word s q) 0 (omega arith)) (λ slot. get_or-set_other t.words (place_word s q) (slot_word s slot) 0 0 (λ e. omega arith)) (periods_given s t id k here h.lie h.dead h.began h.was_dead h.periods size q has), refl))
 
   -- it is given up, and so is its place, if it announces nothing
   pub releases : (k : Known) (q : ℕ) → k.period.place ≡ Some q → k.period.announced ≡ None
       → MayGoOn plan k (place_word s q) (λ n. 0) (λ n p. p ≡ after_release k.period)
   releases k q has quiet =
       goes_on k (place_word s q) (λ n. 0) (λ n p. p ≡ after_release k.period) (λ t. after_release k.period)
-      (λ tree t id here h size. (going plan s tree t id k here h (after_release k.period) (place_word s q) 0 (λ r a at an. absurd (some_not_none at refl)) refl refl refl refl refl (λ a an. an) refl (omega arith) (past_place plan s tree t id k here h q 0 ((h.periods.each id k here).place q has).0) (behind plan s tree t id k here h (place_word s q) 0 (omega arith)) (λ slot. get_or-set_other t.words (place_word s q) (slot_word s slot) 0 0 (λ e. omega arith)) (periods_released s t id k here h.lie h.dead h.began h.was_dead h.periods size q has quiet), refl))
+      (λ tree t id here h size. (going plan s tree t id k here h (after_release k.period) (place_word s q) 0 (λ r a at an. absurd (some_not_none at refl)) refl refl refl refl (behind plan s tree t id k here h (place_word s q) 0 (omega arith)) (λ slot. get_or-set_other t.words (place_word s q) (slot_word s slot) 0 0 (λ e. omega arith)) (periods_released s t id k here h.lie h.dead h.began h.was_dead h.periods size q has quiet), refl))
 
   -- it lets the clock go on, if that is as it was read
   pub tick_goes_on : (k : Known) (reading : ℕ) → k.period.reading ≡ Some reading → reading < last_reading
@@ -338,7 +297,7 @@ module _ (plan : TablePlan) (s : Slots) (placed : plan.slots ≡ Some s) where
       by tree t id here h size (inl is) =
           subst (on tree t h id)
           (ap (λ n. n + 1) is ∙ sym (ap (λ n. either (n == reading) (reading + 1) n) is ∙ ap (λ b. either b (reading + 1) reading) (eq-eqb reading reading refl)))
-          (going plan s tree t id k here h (after_tick reading k.period) (clock_word s) (get_or t.words (clock_word s) 0 + 1) (λ q a at an. (at, an)) refl refl refl refl refl (λ a an. an) refl (omega arith) (let now = get_or-set_same t.words (clock_word s) (get_or t.words (clock_word s) 0 + 1) 0 (omega arith) in omega arith) (behind plan s tree t id k here h (clock_word s) (get_or t.words (clock_word s) 0 + 1) (omega arith)) (λ slot. get_or-set_other t.words (clock_word s) (slot_word s slot) (get_or t.words (clock_word s) 0 + 1) 0 (λ e. omega arith))
+          (going plan s tree t id k here h (after_tick reading k.period) (clock_word s) (get_or t.words (clock_word s) 0 + 1) (λ q a at an. (at, an)) refl refl refl refl (behind plan s tree t id k here h (clock_word s) (get_or t.words (clock_word s) 0 + 1) (omega arith)) (λ slot. get_or-set_other t.words (clock_word s) (slot_word s slot) (get_or t.words (clock_word s) 0 + 1) 0 (λ e. omega arith))
           (clock_known s (record { words = set t.words (clock_word s) (get_or t.words (clock_word s) 0 + 1); homes = t.homes; views = t.views }) id k here h.lie h.dead h.began h.was_dead
           (periods_ticked s t id k here h.lie h.dead h.began h.was_dead h.periods size (omega arith)) (length-set t.words (clock_word s) (get_or t.words (clock_word s) 0 + 1) ∙ size)
           (set t.words (clock_word s) (get_or t.words (clock_word s) 0 + 1)) (λ j. refl) (reading + 1)
@@ -346,8 +305,8 @@ module _ (plan : TablePlan) (s : Slots) (placed : plan.slots ≡ Some s) where
       by tree t id here h size (inr other) =
           subst (on tree t h id)
           (sym (ap (λ b. either b (reading + 1) (get_or t.words (clock_word s) 0)) (ne_eqb (get_or t.words (clock_word s) 0) reading other)))
-          (going plan s tree t id k here h (after_tick reading k.period) (clock_word s) (get_or t.words (clock_word s) 0) (λ q a at an. (at, an)) refl refl refl refl refl (λ a an. an) refl (omega arith)
-          (past_again plan s tree t id k here h size (clock_word s) (omega arith)) (behind plan s tree t id k here h (clock_word s) (get_or t.words (clock_word s) 0) (omega arith)) (same_again plan s tree t id k here h size (clock_word s) (omega arith))
+          (going plan s tree t id k here h (after_tick reading k.period) (clock_word s) (get_or t.words (clock_word s) 0) (λ q a at an. (at, an)) refl refl refl refl
+          (behind plan s tree t id k here h (clock_word s) (get_or t.words (clock_word s) 0) (omega arith)) (same_again plan s tree t id k here h size (clock_word s) (omega arith))
           (clock_known s t id k here h.lie h.dead h.began h.was_dead h.periods size (set t.words (clock_word s) (get_or t.words (clock_word s) 0)) (word_again t.words (clock_word s) (omega arith)) (reading + 1)
           (let low = (h.periods.each id k here).reading reading was in omega arith)))
 
@@ -358,6 +317,6 @@ module _ (plan : TablePlan) (s : Slots) (placed : plan.slots ≡ Some s) where
       goes_on k (place_word s q) (λ n. n) (λ n p. (o : Slots) → plan.slots ≡ Some o → p ≡ after_look_at o.places n k.period) (λ t. after_look_at s.places (get_or t.words (place_word s q) 0) k.period)
       (λ tree t id here h size. (
         going plan s tree t id k here h (after_look_at s.places (get_or t.words (place_word s q) 0) k.period) (place_word s q) (get_or t.words (place_word s q) 0)
-            (λ r a at an. (at, an)) refl refl refl refl refl (λ a an. an) refl (settled_more s.places (k.period.looked + 1) _ k.period.safe) (past_again plan s tree t id k here h size (place_word s q) (omega arith)) (behind plan s tree t id k here h (place_word s q) (get_or t.words (place_word s q) 0) (omega arith)) (λ slot. get_or-set_other t.words (place_word s q) (slot_word s slot) (get_or t.words (place_word s q) 0) 0 (λ e. omega arith)) (periods_seen s t id k here h.lie h.dead h.began h.was_dead h.periods size q next below),
+            (λ r a at an. (at, an)) refl refl refl refl (behind plan s tree t id k here h (place_word s q) (get_or t.words (place_word s q) 0) (omega arith)) (λ slot. get_or-set_other t.words (place_word s q) (slot_word s slot) (get_or t.words (place_word s q) 0) 0 (λ e. omega arith)) (periods_seen s t id k here h.lie h.dead h.began h.was_dead h.periods size q next below),
         λ o is. ap (λ (x : Slots). after_look_at x.places (get_or t.words (place_word s q) 0) k.period) (same_Some s o (sym placed ∙ is)),
       ))

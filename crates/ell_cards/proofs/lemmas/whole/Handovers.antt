@@ -24,8 +24,6 @@ use Rattle.ell_cards.proofs.lemmas.whole.Ages.{AgesOn, Onward, onward, dead_on, 
 use Rattle.ell_cards.proofs.lemmas.whole.Rests.{is_at_rest}
 use Rattle.ell_cards.proofs.lemmas.whole.Seats.{part_same, part_put}
 use Rattle.ell_cards.proofs.lemmas.whole.Trees.{grace_same}
-use Rattle.ell_cards.proofs.lemmas.whole.Searches.{PassWas, knew, nobody}
-use Rattle.ell_cards.proofs.lemmas.whole.Takings.{TakerWas, same_one, rests_now, nothing_known}
 
 -- what is at a place of a list with one more at its end
 pub at_end : {A : Type 0} (l : List A) (a b : A) (j : ℕ) → get_elem? (l ++ a ∷ []) j ≡ some b → (get_elem? l j ≡ some b) ⊎ ((j ≡ length l) × (a ≡ b))
@@ -71,7 +69,6 @@ module _ (sl : Slots) (t : WholeState) (id : ℕ) (k : Known) (here : get_elem? 
     surveyed = holds.surveyed;
     rests = λ is. left_rests;
     idle = λ c is. left_rests.empty;
-    stays = holds.stays;
   }
 
   right_holds : PeriodHolds sl t.words right_known
@@ -84,7 +81,6 @@ module _ (sl : Slots) (t : WholeState) (id : ℕ) (k : Known) (here : get_elem? 
     surveyed = omega arith;
     rests = λ is. right_rests;
     idle = λ c is. right_rests.empty;
-    stays = λ c is. absurd (some_not_none is refl);
   }
 
   -- whose a pass's place was before the split: the left part has the pass's own, the right part its other one
@@ -143,24 +139,6 @@ module _ (sl : Slots) (t : WholeState) (id : ℕ) (k : Known) (here : get_elem? 
   part_parted : {A : Type 0} (part : Period → A) → part (after_give k.period) ≡ part k.period → part (given_period k.period) ≡ part no_period → (i : ℕ)
       → part (period_in parted.views i) ≡ part (period_in t.views i)
   part_parted part same new i = part_more part (set t.views id left_known) right_known new i ∙ part_same t.views id k here left_known part same i
-
-  -- so it is of what each part is about to set free, and neither has anything in hand
-  pub split_takers : (j : ℕ) (u : Known) → get_elem? parted.views j ≡ some u → TakerWas t u
-  split_takers j u at = by (origin j u at)
-    where
-      by : Origin j u → TakerWas t u
-      by (of_left e is) = subst (TakerWas t) is (rests_now id k here refl left_rests.free)
-      by (of_right e is) = subst (TakerWas t) is (nothing_known refl right_rests.free)
-      by (of_other apart there) = same_one j u there refl
-
-  -- what each part knows of a search and of its period, the pass knew, or it knows nothing
-  pub split_was : (j : ℕ) (u : Known) → get_elem? parted.views j ≡ some u → PassWas t u
-  split_was j u at = by (origin j u at)
-    where
-      by : Origin j u → PassWas t u
-      by (of_left e is) = subst (PassWas t) is (knew id k here refl refl refl)
-      by (of_right e is) = subst (PassWas t) is (nobody refl refl)
-      by (of_other apart there) = knew j u there refl refl refl
 
   pub split_periods : PeriodsAreSound sl parted lie dead began was_dead
   split_periods = record {
@@ -266,7 +244,6 @@ module _ (sl : Slots) (t : WholeState) (id other : ℕ) (k l : Known) (here : ge
         surveyed = mine.surveyed;
         rests = λ is. is_at_rest (joined_view k.tree l.tree) refl refl refl refl refl;
         idle = λ c is. refl;
-        stays = mine.stays;
       }
 
   spent_holds : PeriodHolds sl t.words spent_known
@@ -279,7 +256,6 @@ module _ (sl : Slots) (t : WholeState) (id other : ℕ) (k l : Known) (here : ge
     surveyed = omega arith;
     rests = λ is. is_at_rest spent_view refl refl refl refl refl;
     idle = λ c is. refl;
-    stays = λ c is. absurd (some_not_none is refl);
   }
 
   pub data Before (j : ℕ) (u : Known) : Type 0 where
@@ -335,24 +311,6 @@ module _ (sl : Slots) (t : WholeState) (id other : ℕ) (k l : Known) (here : ge
   part_joined {A} part same i =
       part_put (set t.views id both) other l still_there spent_known part i
       ∙ ap (λ (f : ℕ → A). put f other (part no_period) i) (λ p j. part_same t.views id k here both part same j p)
-
-  -- so it is of what it is about to set free, and neither has anything in hand
-  pub join_takers : (j : ℕ) (u : Known) → get_elem? joined.views j ≡ some u → TakerWas t u
-  join_takers j u at = by (before j u at)
-    where
-      by : Before j u → TakerWas t u
-      by (of_both e is) = subst (TakerWas t) is (rests_now id k here refl refl)
-      by (of_spent is) = subst (TakerWas t) is (nothing_known refl refl)
-      by (of_another apart aside still) = same_one j u still refl
-
-  -- what the pass that has both knows of a search and of its period, it knew, and the other one knows nothing
-  pub join_was : (j : ℕ) (u : Known) → get_elem? joined.views j ≡ some u → PassWas t u
-  join_was j u at = by (before j u at)
-    where
-      by : Before j u → PassWas t u
-      by (of_both e is) = subst (PassWas t) is (knew id k here refl refl refl)
-      by (of_spent is) = subst (PassWas t) is (nobody refl refl)
-      by (of_another apart aside still) = knew j u still refl refl refl
 
   pub join_periods : PeriodsAreSound sl joined lie dead began was_dead
   join_periods = record {

@@ -24,7 +24,6 @@ use Rattle.ell_core.proofs.lemmas.stages.Ended.{ended_cases, insert_over-ended, 
 use Rattle.ell_core.proofs.lemmas.stages.Order.{changed-insert, cut-delete, one_kind, over-delete, backed-delete, insert_over-changed}
 use Rattle.ell_cards.specs.declared.call.Call.{Call}
 use Rattle.ell_cards.specs.declared.call.Call.TheVariants as call
-use Rattle.ell_cards.specs.declared.call.NewNode.{NewNode}
 use Rattle.ell_ops.specs.declared.op.Op.{Op}
 use Rattle.ell_ops.specs.declared.op.Op.TheVariants.{Find, Insert, Delete, Swap}
 use Rattle.ell_core.specs.declared.fact.Fact.{Fact}
@@ -39,7 +38,7 @@ use Rattle.ell_cards.specs.declared.view.Slots.{Slots}
 use Rattle.ell_cards.specs.declared.view.View.{View}
 use Rattle.ell_cards.specs.Ages.{IsOut, IsNotedThere, RetiredStaysNoted}
 use Rattle.ell_cards.specs.Calls.{May, after, atomic_of, is_won}
-use Rattle.ell_cards.specs.Changes.{after_claim, after_flag, after_mark, unmarking, with_fact, is_mark_of}
+use Rattle.ell_cards.specs.Changes.{after_flag, after_mark, unmarking, with_fact, is_mark_of}
 use Rattle.ell_cards.specs.Holding.{HasFlagged, HoldsWaiting}
 use Rattle.ell_cards.specs.Laws.{machine_of_table}
 use Rattle.ell_cards.specs.Leaks.{Holds, IsHeld, IsInFlaggedHand, Kills, NothingLeaks}
@@ -51,7 +50,6 @@ use Rattle.ell_cards.specs.SlotWords.{has_slot_in, is_noted, slot_of}
 use Rattle.ell_cards.specs.Machines.{HasMachine}
 use Rattle.ell_cards.specs.Models.{TablePlan, IsFree, flat_from}
 use Rattle.ell_cards.specs.States.{TableState, seat_worker}
-use Rattle.ell_cards.specs.Stepping.{BeginsNone}
 use Rattle.ell_cards.specs.Tied.{HasWon, FlagsCard, MayInMemory}
 use Rattle.ell_cards.specs.TurnEffects.{turn_wins, win_of}
 use Rattle.ell_cards.specs.Turns.{Makes, found_by, view_after, state_after}
@@ -246,40 +244,6 @@ flag_lost (call.IFlag e p from) n v d flags unwon = hand_lost (n == packed from)
 flag_lost (call.DFlag e gp from) n v d flags unwon = hand_lost (n == packed from) unwon (fact.DFlagged e) gp (unpacked n) v (after (call.DFlag e gp from) n v) refl
 flag_lost _ n v d flags unwon = absurd flags
 
--- a pass that has no operation in hand has none after a call that begins none
-flag_free : (b : Bool) (new : Fact) (x : ℕ) (u : Update) (v w : View) → w.worker ≡ (after_flag b new x u v).worker → v.worker.operation ≡ None → w.worker.operation ≡ None
-flag_free true new x u v w same free = ap (λ k. k.operation) same ∙ free
-flag_free false new x u v w same free = ap (λ k. k.operation) same ∙ free
-
-mark_free : (b : Bool) (d x : ℕ) (u : Update) (v w : View) → w.worker ≡ (after_mark b d x u v).worker → v.worker.operation ≡ None → w.worker.operation ≡ None
-mark_free true d x u v w same free = ap (λ k. k.operation) same ∙ free
-mark_free false d x u v w same free = by (is_mark_of d u.state u.card) same
-  where
-    by : (m : Bool) → w.worker ≡ (if m then with_fact (fact.Marked d) v else unmarking d x u v).worker → w.worker.operation ≡ None
-    by true same = ap (λ k. k.operation) same ∙ free
-    by false same = ap (λ k. k.operation) same ∙ free
-
-claim_free : (b : Bool) (d : ℕ) (node : NewNode) (v : View) → v.worker.operation ≡ None → (after_claim b d node v).worker.operation ≡ None
-claim_free true d node v free = free
-claim_free false d node v free = free
-
-pub free_after : (c : Call) (n : ℕ) (v : View) → BeginsNone c → v.worker.operation ≡ None → (after c n v).worker.operation ≡ None
-free_after (call.Begin op) n v begun free = absurd begun
-free_after (call.IFlag e p from) n v begun free = flag_free (n == packed from) (fact.IFlagged e) p (unpacked n) v (after (call.IFlag e p from) n v) refl free
-free_after (call.DFlag e gp from) n v begun free = flag_free (n == packed from) (fact.DFlagged e) gp (unpacked n) v (after (call.DFlag e gp from) n v) refl free
-free_after (call.Mark e p was) n v begun free = mark_free (n == was) e p (unpacked n) v (after (call.Mark e p was) n v) refl free
-free_after (call.Claim e node) n v begun free = claim_free (n == e) e node v free
-free_after call.Leave n v begun free = refl
-free_after call.Rest n v begun free = refl
-free_after (call.Answer said took) n v begun free = refl
-free_after _ n v begun free = free
-
--- a pass that is to flag a card has it in hand
-pub flags_by_hand : (plan : TablePlan) (c : Call) (d : ℕ) (v : View) → May plan c v → FlagsCard c d → v.worker.card ≢ None
-flags_by_hand plan (call.IFlag e p from) d v may flags empty = some_not_none may.may.holds empty
-flags_by_hand plan (call.DFlag e gp from) d v may flags empty = some_not_none may.may.holds empty
-flags_by_hand plan _ d v may flags empty = absurd flags
-
 -- what a call wins for a card is one exchange at most
 one_at_most : (b : Bool) (k : Exchange) → length (if b then k ∷ [] else []) ≤ 1
 one_at_most true k = omega arith
@@ -326,7 +290,7 @@ lets_go sl slot r v (call.Answer said took) go mem = mem
 lets_go sl slot r v _ go mem = absurd go
 
 module _ (plan : TablePlan) (flat : plan.flat ≡ true) (sl : Slots) (tree : TableState) (t : WholeState) (id : ℕ) (k : Known) (here : get_elem? t.views id ≡ some k) (there : get_elem? tree.views id ≡ some k.tree)
-    (c : Call) (may : May plan c k.tree) (mem : MayInMemory sl k.period.slot k.period.sought.retired k.tree c) (unlost : k.period.lost ≡ None)
+    (c : Call) (may : May plan c k.tree) (mem : MayInMemory sl k.period.slot k.period.retired k.tree c) (unlost : k.period.lost ≡ None)
     (m : HasMachine plan tree) (uses : HasUses (machine_of_table plan tree m)) (m' : HasMachine plan (state_after tree id k.tree c)) (words : WordsLater m.words m'.words) (later : StagesLater m.stages m'.stages)
     (wins : (d : ℕ) → wins_of (m'.stages d) ≡ wins_of (m.stages d) ++ turn_wins tree (Makes id c) d) (lie : ℕ → ℕ) (was : NothingLeaks sl t tree.views m.words m.stages lie)
     (retired : RetiredStaysNoted plan sl tree t m uses lie) (fits : (d : ℕ) → HasWon m.stages d → has_slot_in sl.last d ≡ true) (own : (slot : ℕ) → slot ≤ sl.last → slot_of (lie slot) ≡ slot) where
@@ -362,14 +326,14 @@ module _ (plan : TablePlan) (flat : plan.flat ≡ true) (sl : Slots) (tree : Tab
   let_go_noted : (d : ℕ) → LetsCardGo c → HasFlagged k.tree d → (slot i : ℕ) → slot ≤ sl.last → get_or t.words (slot_word sl slot) 0 % 8 ≢ 0 → i < 3
       → is_noted (get_or t.words (slot_word sl slot) 0) i ≡ false → Kills m.words m.stages d (4 * lie slot + i) → ⊥
   let_go_noted d go hand slot i low used few is kills =
-      let may_go = lets_go sl k.period.slot k.period.sought.retired k.tree c go mem in
+      let may_go = lets_go sl k.period.slot k.period.retired k.tree c go mem in
       let at = may_go.taken d hand in
       let are = retired id d k here at hand.holds in
       let won = flagged_won plan tree m id k.tree there d hand in
       let card_is : card (4 * lie slot + i) ≡ lie slot = omega (arith, few) in
       let place : (4 * lie slot + i) % 4 ≡ i = omega (arith, few) in
       let lies_won : HasWon m.stages (lie slot) = killed_won d slot i few kills in
-      let done = all_retired plan tree id k.tree there m sl k.period.sought.retired d hand (λ x. IsOut plan tree m uses x × IsNotedThere sl t.words lie x) are (fits d won) flat
+      let done = all_retired plan tree id k.tree there m sl k.period.retired d hand (λ x. IsOut plan tree m uses x × IsNotedThere sl t.words lie x) are (fits d won) flat
       (may_go.retired d hand) (4 * lie slot + i) (subst (λ j. j < 3) (sym place) few) (subst (λ e. has_slot_in sl.last e ≡ true) (sym card_is) (fits (lie slot) lies_won)) kills in
       let noted = noted_as plan sl t.words lie (lie slot) i few done.1 in
       let same = own slot low in
@@ -398,7 +362,7 @@ module _ (plan : TablePlan) (flat : plan.flat ≡ true) (sl : Slots) (tree : Tab
 
       held : (d : ℕ) → Holds k d → HasWon m'.stages d ⊎ IsHeld (set t.views id now) d
       held d (lost at) = absurd (some_not_none at unlost)
-      held d (waiting at waits) = elim (waiting_goes plan tree m id k.tree there sl k.period.slot k.period.sought.retired c (found_by tree c) may mem d waits at) [
+      held d (waiting at waits) = elim (waiting_goes plan tree m id k.tree there sl k.period.slot k.period.retired c (found_by tree c) may mem d waits at) [
         | inl still ↦ inr (record { seat = id; knows = now; there = set_there t.views id now k here; holds = waiting (slotted ∙ at) still })
         | inr flags ↦ flagged d flags waits (is_won (atomic_of c) (found_by tree c)) refl
       ]
@@ -442,8 +406,8 @@ module _ (plan : TablePlan) (flat : plan.flat ≡ true) (sl : Slots) (tree : Tab
                 | inr cuts ↦ in_hand plan tree m d (m.invariant.workers.delete_in_hand d cuts)
               ])) [
                 | inl hand ↦ hand
-                | inr go ↦ absurd (false≢true (sym un ∙ retired_ended plan tree m id k.tree there sl k.period.sought.retired d
-                    ((lets_go sl k.period.slot k.period.sought.retired k.tree c go.0 mem).retired d go.1)))
+                | inr go ↦ absurd (false≢true (sym un ∙ retired_ended plan tree m id k.tree there sl k.period.retired d
+                    ((lets_go sl k.period.slot k.period.retired k.tree c go.0 mem).retired d go.1)))
               ]
 
           before : (b : Bool) → has_ended (m.stages d) ≡ b → has_ended (m'.stages d) ≡ true → IsInFlaggedHand after_it.views d

@@ -10,7 +10,6 @@ use Rattle.ell_grace.specs.Dead.{HasUses}
 use Rattle.ell_cards.specs.declared.call.Call.{Call}
 use Rattle.ell_cards.specs.declared.view.Known.{Known}
 use Rattle.ell_cards.specs.declared.view.Period.{Period}
-use Rattle.ell_cards.specs.declared.view.Seek.{Seek}
 use Rattle.ell_cards.specs.declared.view.Sight.{Sight}
 use Rattle.ell_cards.specs.declared.view.Slots.{Slots}
 use Rattle.ell_cards.specs.declared.view.View.{View}
@@ -42,8 +41,6 @@ use Rattle.ell_cards.proofs.lemmas.whole.Steps.{periods_after, word_again}
 use Rattle.ell_cards.proofs.lemmas.whole.Trees.{grace_same}
 use Rattle.ell_cards.proofs.lemmas.words.NotedBits.{unnoted}
 use Rattle.ell_cards.proofs.lemmas.words.Slotted.{slot_inside}
-use Rattle.ell_cards.proofs.lemmas.whole.Searches.{searches_same}
-use Rattle.ell_cards.proofs.lemmas.whole.Takings.{takings_same}
 
 -- in the state to which a call leads that loses a flag, its card was laid aside
 pub aside_onward : (plan : TablePlan) (s : TableState) (r : HasMachine plan s) (uses : HasUses (machine_of_table plan s r)) (seat : ℕ) (v : View)
@@ -60,10 +57,10 @@ aside_in_ages plan s tree t lie dead was_dead h id v there c may t' on d flags u
     lost_is_aside plan tree h.now.machine id v there c may d flags unwon on.ages.now.machine on.later (on.wins d)
 
 module _ (plan : TablePlan) (s : Slots) (tree : TableState) (t : WholeState) (id : ℕ) (k : Known) (here : get_elem? t.views id ≡ some k)
-    (h : HasPeriods plan s tree t) (o : Option ℕ) (sought : Seek) (noted : sought.retired ≡ k.period.sought.retired) (aside : (c : ℕ) → o ≡ Some c → IsAside h.ages.now.machine.stages tree.views c)
-    (idle : (c : ℕ) → o ≡ Some c → k.tree.worker.card ≡ None) (stays_in : (c : ℕ) → o ≡ Some c → k.period.announced ≢ None) (g : Sight) where
+    (h : HasPeriods plan s tree t) (o : Option ℕ) (aside : (c : ℕ) → o ≡ Some c → IsAside h.ages.now.machine.stages tree.views c)
+    (idle : (c : ℕ) → o ≡ Some c → k.tree.worker.card ≡ None) (g : Sight) where
   abbrev noting : Period
-  noting = record k.period { lost = o; sought = sought }
+  noting = record k.period { lost = o }
 
   abbrev now : Known
   now = record k { period = noting; sight = g }
@@ -85,7 +82,6 @@ module _ (plan : TablePlan) (s : Slots) (tree : TableState) (t : WholeState) (id
     surveyed = was.surveyed;
     rests = was.rests;
     idle = idle;
-    stays = stays_in;
   }
 
   pub lost_periods : PeriodsAreSound s after h.lie h.dead h.began h.was_dead
@@ -108,7 +104,7 @@ module _ (plan : TablePlan) (s : Slots) (tree : TableState) (t : WholeState) (id
       h.ages.noted (λ x out is. is) (λ r has. h.ages.read id k r here has)
       aside
 
-  -- the pass notes the card that it has laid aside, or that it has set free the slot of that; or it seeks something else
+  -- the pass notes the card that it has laid aside, or that it has set free the slot of that
   abbrev pub lost_now : HasPeriods plan s tree after
   lost_now = record {
     lie = h.lie;
@@ -121,7 +117,7 @@ module _ (plan : TablePlan) (s : Slots) (tree : TableState) (t : WholeState) (id
     tied = tie_of_period s tree t h.ages.now.machine.stages h.lie h.dead h.dead h.was_dead h.was_dead h.tied id k here g noting refl t.words (λ i low. refl)
         (λ d lives. lives) (λ q a at an. inl (at, an, λ d lives. lives)) (λ seat q a u other at placed an d lives. lives) t.homes;
     flat = h.flat;
-    retired = retired_so plan s tree h.ages.now.machine h.ages.now.uses t id k here g noting refl noted t.words h.lie h.lie (λ x out is. is) h.retired;
+    retired = retired_so plan s tree h.ages.now.machine h.ages.now.uses t id k here g noting refl refl t.words h.lie h.lie (λ x out is. is) h.retired;
   }
 
 -- A pass sets the slot free of a card that it has laid aside: nobody else knows of the card, so no node is noted in the slot's
@@ -136,11 +132,9 @@ module _ (plan : TablePlan) (s : Slots) (tree : TableState) (t : WholeState) (id
       → (NothingLeaks s t tree.views h.ages.now.machine.words h.ages.now.machine.stages h.lie → (slot : ℕ) → slot ≤ s.last → get_or t.words (slot_word s slot) 0 % 8 ≢ 0 → h.lie slot ≡ c → ⊥)
       → GoesTo plan s tree t h (record { words = t.words; homes = t.homes; views = set t.views id freed })
   unlost_now c lost_it gone = record {
-    periods = lost_now plan s tree t id k here h None k.period.sought refl (λ d none. absurd (some_not_none none refl)) (λ d none. absurd (some_not_none none refl)) (λ d none. absurd (some_not_none none refl)) k.sight;
+    periods = lost_now plan s tree t id k here h None (λ d none. absurd (some_not_none none refl)) (λ d none. absurd (some_not_none none refl)) k.sight;
     leaks = λ was. leaks_same s t tree.views h.ages.now.machine.words h.ages.now.machine.stages h.lie was id k here (after_freeing k.period) t.words
         (λ slot low used holds. by was slot low used holds) (λ slot. refl);
-    searches = λ was. searches_same s t was id k here freed t.words t.homes (omega arith) refl (λ a an. (an, refl)) (λ slot low. refl);
-    takings = λ was. takings_same s t h.lie was id k here freed t.words t.homes (omega arith) (λ slot low. refl) refl refl refl refl (omega arith) (λ works. works);
   }
     where
       by : NothingLeaks s t tree.views h.ages.now.machine.words h.ages.now.machine.stages h.lie → (slot : ℕ) → slot ≤ s.last → get_or t.words (slot_word s slot) 0 % 8 ≢ 0
@@ -189,20 +183,17 @@ module _ (plan : TablePlan) (s : Slots) (tree : TableState) (t : WholeState) (id
     found = get_or t.words (slot_word s (slot_of c)) 0
 
     -- it sets the slot free
-    frees_it : (reading : ℕ) → (k.period.announced ≢ None → k.period.began ≤ reading) → k.period.stamp ≡ Some (record { card = c; reading = reading }) → found ≡ taken_word (turn_of c)
+    frees_it : (reading : ℕ) → k.period.stamp ≡ Some (record { card = c; reading = reading }) → found ≡ taken_word (turn_of c)
         → GoesTo plan s tree t h (turned_to t id k (after_freeing k.period) (slot_word s (slot_of c)) (free_word reading))
-    frees_it reading late stamp is =
+    frees_it reading stamp is =
         let card_is : card_by (slot_of c) (taken_word (turn_of c)) ≡ c = omega arith in
-        let first = frees_now plan s tree t id k here there h size reached (slot_of c) reading k.period.sought inside (taken_word (turn_of c)) is (λ full. omega arith)
-        (stamp ∙ ap (λ d. Some (record { card = d; reading = reading })) (sym card_is)) (λ d at hand. kept d at hand) refl in_period (late in_period) in
+        let first = frees_now plan s tree t id k here there h size reached (slot_of c) reading k.period.retired inside (taken_word (turn_of c)) is (λ full. omega arith)
+        (stamp ∙ ap (λ d. Some (record { card = d; reading = reading })) (sym card_is)) (λ d at hand. kept d at hand) in
         let t1 = turned_to t id k k.period (slot_word s (slot_of c)) (free_word reading) in
         let here1 = set_there t.views id k k here in
         let second = unlost_now plan s tree t1 id k here1 first.periods c lost_it (λ was slot low used lies. gone first.periods slot low used lies) in
-        subst (λ l. GoesTo plan s tree t h (record { words = t1.words; homes = t.homes; views = l })) (set_twice t.views id k freed_then) (record { periods = second.periods; leaks = λ was. second.leaks (first.leaks was); searches = λ was. second.searches (first.searches was); takings = λ was. second.takings (first.takings was) })
+        subst (λ l. GoesTo plan s tree t h (record { words = t1.words; homes = t.homes; views = l })) (set_twice t.views id k freed_then) (record { periods = second.periods; leaks = λ was. second.leaks (first.leaks was) })
       where
-        in_period : k.period.announced ≢ None
-        in_period = (h.periods.each id k here).stays c lost_it
-
         W : List ℕ
         W = set t.words (slot_word s (slot_of c)) (free_word reading)
 
@@ -213,7 +204,7 @@ module _ (plan : TablePlan) (s : Slots) (tree : TableState) (t : WholeState) (id
             by e = omega (arith, e)
 
         kept : (d : ℕ) → k.period.slot ≡ Some d → k.tree.worker.card ≡ Some d
-            → AreRetired h.ages.now.machine.words d k.period.sought.retired (λ x. IsOut plan tree h.ages.now.machine h.ages.now.uses x × IsNotedThere s W h.lie x)
+            → AreRetired h.ages.now.machine.words d k.period.retired (λ x. IsOut plan tree h.ages.now.machine h.ages.now.uses x × IsNotedThere s W h.lie x)
         kept d at hand = let was = h.retired id d k here at hand in record {
           parent = λ e. (let o = was.parent e in (o.0, keeps _ o.1));
           leaf = λ e. (let o = was.leaf e in (o.0, keeps _ o.1));
@@ -235,16 +226,16 @@ module _ (plan : TablePlan) (s : Slots) (tree : TableState) (t : WholeState) (id
         let here1 = set_there t.views id k k here in
         let second = unlost_now plan s tree t1 id k here1 first.periods c lost_it
         (λ was slot low used lies. same_not (stands plan s tree t1 id k here1 first.periods c lost_it taken was slot low used lies)) in
-        subst (λ l. GoesTo plan s tree t h (record { words = t1.words; homes = t.homes; views = l })) (set_twice t.views id k freed_then) (record { periods = second.periods; leaks = λ was. second.leaks (first.leaks was); searches = λ was. second.searches (first.searches was); takings = λ was. second.takings (first.takings was) })
+        subst (λ l. GoesTo plan s tree t h (record { words = t1.words; homes = t.homes; views = l })) (set_twice t.views id k freed_then) (record { periods = second.periods; leaks = λ was. second.leaks (first.leaks was) })
       where
         same_not : get_or (set t.words (slot_word s (slot_of c)) found) (slot_word s (slot_of c)) 0 ≡ taken_word (turn_of c) → ⊥
         same_not is = other (sym (word_again t.words (slot_word s (slot_of c)) (let low = inside in omega arith) (slot_word s (slot_of c))) ∙ is)
 
 -- that is a step of the table
 pub frees_aside : (plan : TablePlan) (s : Slots) → plan.slots ≡ Some s → (k : Known) (c reading : ℕ) → k.period.lost ≡ Some c → k.period.slot ≡ Some c
-    → (k.period.announced ≢ None → k.period.began ≤ reading) → k.period.stamp ≡ Some (record { card = c; reading = reading })
+    → k.period.stamp ≡ Some (record { card = c; reading = reading })
     → MayGoOn plan k (slot_word s (slot_of c)) (λ x. either (x == taken_word (turn_of c)) (free_word reading) x) (λ x p. p ≡ after_freeing k.period)
-frees_aside plan s placed k c reading lost_it taken late stamp =
+frees_aside plan s placed k c reading lost_it taken stamp =
     goes_on_there plan s placed k (slot_word s (slot_of c)) (λ x. either (x == taken_word (turn_of c)) (free_word reading) x) (λ x p. p ≡ after_freeing k.period) (λ t. after_freeing k.period)
     (λ tree t id reached here there h size. (by tree t id reached here there h size (cases_eq (get_or t.words (slot_word s (slot_of c)) 0) (taken_word (turn_of c))), refl))
   where
@@ -255,6 +246,6 @@ frees_aside plan s placed k c reading lost_it taken late stamp =
         → (get_or t.words (slot_word s (slot_of c)) 0 ≡ taken_word (turn_of c)) ⊎ (get_or t.words (slot_word s (slot_of c)) 0 ≢ taken_word (turn_of c))
         → after tree t h id (get_or t.words (slot_word s (slot_of c)) 0 == taken_word (turn_of c))
     by tree t id reached here there h size (inl is) =
-        subst (after tree t h id) (sym (eq-eqb (get_or t.words (slot_word s (slot_of c)) 0) (taken_word (turn_of c)) is)) (frees_it plan s tree t id k here there h size reached c lost_it taken reading late stamp is)
+        subst (after tree t h id) (sym (eq-eqb (get_or t.words (slot_word s (slot_of c)) 0) (taken_word (turn_of c)) is)) (frees_it plan s tree t id k here there h size reached c lost_it taken reading stamp is)
     by tree t id reached here there h size (inr other) =
         subst (after tree t h id) (sym (ne_eqb (get_or t.words (slot_word s (slot_of c)) 0) (taken_word (turn_of c)) other)) (stays_so plan s tree t id k here there h size reached c lost_it taken other)

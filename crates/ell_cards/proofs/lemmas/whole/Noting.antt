@@ -1,6 +1,6 @@
 -- A pass notes dead nodes of a card in the word of the card's slot: nodes that its card in hand has taken out, or nodes of that
 -- card that never come.
-use Rattle.std.proofs.Common.{◌≡◌, ◌≢◌, ℕ, ◌+◌, ◌*◌, ◌%◌, ◌<◌, ◌≤◌, ◌==◌, ◌||◌, Bool, true, false, Some, List, length, get_or, set, inl, inr, ◌⊎◌, refl, sym, ap, ◌∙◌, subst, arith, eq-eqb, ne_eqb, true≢false, get_or-set_same, None, ⊎_elim}
+use Rattle.std.proofs.Common.{◌≡◌, ◌≢◌, ℕ, ◌+◌, ◌*◌, ◌%◌, ◌<◌, ◌≤◌, ◌==◌, ◌||◌, Bool, true, false, Some, List, length, get_or, set, inl, inr, ◌⊎◌, refl, sym, ap, ◌∙◌, subst, arith, eq-eqb, ne_eqb, true≢false, get_or-set_same}
 use Rattle.ell_core.proofs.lemmas.stages.Below.{goes-leaf}
 use Rattle.std.proofs.lemmas.Bool.{cases_eq}
 use Rattle.std.proofs.lemmas.Option.{same_Some}
@@ -26,7 +26,7 @@ use Rattle.ell_cards.specs.Noting.{KnowsDeadNodes, LiesThereStill, MayNote, MayN
 use Rattle.ell_cards.specs.PeriodLaws.{IsNotedInSlot, RetiredNodesAreNoted}
 use Rattle.ell_cards.specs.Whole.{PeriodsAre}
 use Rattle.ell_cards.specs.Periods.{WholeState, slot_word, slots_size, after_noting, after_noting_read}
-use Rattle.ell_cards.specs.Seeking.{is_done, retires, retires_if, with_retired}
+use Rattle.ell_cards.specs.Retiring.{is_done, retires_if, with_retired}
 use Rattle.ell_cards.specs.Shown.{shown}
 use Rattle.ell_cards.specs.SlotWords.{card_by, slot_of, turn_of, turn_in, free_word, is_noted}
 use Rattle.ell_cards.specs.Starts.{IsReached}
@@ -41,24 +41,9 @@ use Rattle.ell_cards.proofs.lemmas.whole.Trees.{tree_at}
 use Rattle.ell_cards.proofs.lemmas.views.DeadNodes.{both, of_either}
 use Rattle.ell_cards.proofs.lemmas.whole.Ages.{noted_as, noted_at}
 use Rattle.ell_cards.proofs.lemmas.whole.Apart.{ready_there}
-use Rattle.ell_cards.proofs.lemmas.whole.Freeing.{HasRetired, counts_same, dead_by, frees_now, lies_by, low_slot, noted_then, notes_now, reads_now, taken_lies}
+use Rattle.ell_cards.proofs.lemmas.whole.Freeing.{HasRetired, dead_by, frees_now, lies_by, low_slot, noted_then, notes_now, reads_now, taken_lies}
 use Rattle.ell_cards.proofs.lemmas.whole.Going.{GoesTo, turned_to, goes_on_there}
 use Rattle.ell_cards.proofs.lemmas.words.NotedBits.{all_some, done_by, few_noted, few_nodes, left_some, left_turn, left_used, notes_more}
-use Rattle.ell_cards.specs.declared.view.Seek.{Seek}
-use Rattle.ell_cards.specs.declared.view.View.{View}
-use Rattle.ell_cards.proofs.lemmas.whole.Searches.{SameSearch, row_of, sought_still}
-use Rattle.ell_core.proofs.lemmas.outcomes.Decide.{some_not_none}
-use Rattle.ell_cards.proofs.lemmas.whole.InUse.{some_unnoted}
-
--- what a pass notes changes no row that it has read
-search_noted : (done taken_out : Bool) (nodes : CardNodes) (k : Seek) → SameSearch k (retires_if done taken_out nodes k)
-search_noted true taken_out nodes k = refl
-search_noted false taken_out nodes k = refl
-
--- a pass that may note a node has a card in hand
-retires_by_hand : (taken_out : Bool) (c : ℕ) (nodes : CardNodes) (v : View) → MayRetire (shown v) taken_out c nodes → (i : ℕ) → has_node nodes i ≡ true → v.worker.card ≢ None
-retires_by_hand true c nodes v may i has empty = some_not_none (may i has).1 empty
-retires_by_hand false c nodes v may i has empty = some_not_none may.1 empty
 
 -- a node that the card in hand has taken out is that one's parent, if it is an internal node, or else its leaf
 module _ (plan : TablePlan) (s : Slots) (tree : TableState) (t : WholeState) (id : ℕ) (k : Known) (here : get_elem? t.views id ≡ some k)
@@ -115,7 +100,7 @@ module _ (plan : TablePlan) (s : Slots) (tree : TableState) (t : WholeState) (id
 
   -- what was retired is so
   retired_still : (words : List ℕ) → keeps_noted words → (d : ℕ) → k.period.slot ≡ Some d → k.tree.worker.card ≡ Some d
-      → AreRetired h.ages.now.machine.words d k.period.sought.retired (OutThere words)
+      → AreRetired h.ages.now.machine.words d k.period.retired (OutThere words)
   retired_still words keeps d at hand = let was = h.retired id d k here at hand in record {
     parent = λ is. (let o = was.parent is in (o.0, keeps _ o.0 o.1));
     leaf = λ is. (let o = was.leaf is in (o.0, keeps _ o.0 o.1));
@@ -138,16 +123,16 @@ module _ (plan : TablePlan) (s : Slots) (tree : TableState) (t : WholeState) (id
 
   -- so they are retired
   retired_now : (taken_out : Bool) (c : ℕ) (nodes : CardNodes) → MayRetire (shown k.tree) taken_out c nodes → (words : List ℕ) → keeps_noted words → ShowsAll taken_out c nodes words
-      → HasRetired plan s tree t id k here there h size reached words (with_retired taken_out nodes k.period.sought.retired)
+      → HasRetired plan s tree t id k here there h size reached words (with_retired taken_out nodes k.period.retired)
   retired_now true c nodes may words keeps shows d at hand =
       let old = retired_still words keeps d at hand in record {
-        parent = λ is. elim (of_either k.period.sought.retired.parent nodes.internal is) [
+        parent = λ is. elim (of_either k.period.retired.parent nodes.internal is) [
           | inl was ↦ old.parent was
           | inr new ↦
               let it = taken (4 * c + 0) (may 0 new) in
               subst (OutThere words) (sym (taken_parent d hand (4 * c + 0) it (omega arith))) (taken_noted c nodes words shows 0 new it)
         ];
-        leaf = λ is. elim (of_either k.period.sought.retired.leaf (nodes.left || nodes.right) is) [
+        leaf = λ is. elim (of_either k.period.retired.leaf (nodes.left || nodes.right) is) [
           | inl was ↦ old.leaf was
           | inr new ↦ elim (of_either nodes.left nodes.right new) [
             | inl left ↦
@@ -165,7 +150,7 @@ module _ (plan : TablePlan) (s : Slots) (tree : TableState) (t : WholeState) (id
       let same : c ≡ d = same_Some c d (sym may.1 ∙ hand) in record {
         parent = old.parent;
         leaf = old.leaf;
-        own = λ i is. elim (both k.period.sought.retired.own nodes i is) [
+        own = λ i is. elim (both k.period.retired.own nodes i is) [
           | inl was ↦ old.own i was
           | inr new ↦ subst (λ e. OutThere words (4 * e + i)) same (
             dead_by plan s tree t id k here there h size reached (4 * c + i) (nodes_never_come k.tree c nodes may.0 i new),
@@ -265,27 +250,22 @@ module _ (plan : TablePlan) (s : Slots) (tree : TableState) (t : WholeState) (id
   pub notes_read : (taken_out : Bool) (c : ℕ) (nodes : CardNodes) → slot_of c ≤ s.last → MayRetire (shown k.tree) taken_out c nodes
       → GoesTo plan s tree t h (turned_to t id k (after_noting_read taken_out c nodes (word_now c) k.period) (slot_word s (slot_of c)) (word_now c))
   notes_read taken_out c nodes inside may =
-      reads_now plan s tree t id k here there h size reached (slot_of c) inside (retires_if (is_done taken_out c nodes (word_now c)) taken_out nodes k.period.sought)
-      (by (is_done taken_out c nodes (word_now c)) refl) (λ was. sought_still s t was id k here _ (ap row_of search))
-      (λ taken m. counts_same s t.words taken k.period (after_noting_read taken_out c nodes (word_now c) k.period) (ap (λ (x : Seek). x.missed) search) (ap (λ (x : Seek). x.found) search) refl refl m)
+      reads_now plan s tree t id k here there h size reached (slot_of c) inside (retires_if (is_done taken_out c nodes (word_now c)) taken_out nodes k.period.retired)
+      (by (is_done taken_out c nodes (word_now c)) refl)
     where
-      search : SameSearch k.period.sought (retires_if (is_done taken_out c nodes (word_now c)) taken_out nodes k.period.sought)
-      search = search_noted (is_done taken_out c nodes (word_now c)) taken_out nodes k.period.sought
-
-      by : (b : Bool) → is_done taken_out c nodes (word_now c) ≡ b → HasRetired plan s tree t id k here there h size reached t.words (retires_if b taken_out nodes k.period.sought).retired
+      by : (b : Bool) → is_done taken_out c nodes (word_now c) ≡ b → HasRetired plan s tree t id k here there h size reached t.words (retires_if b taken_out nodes k.period.retired)
       by true done = retired_now taken_out c nodes may t.words (λ x out is. is) (shows_done taken_out c nodes inside done)
       by false left = λ d at hand. h.retired id d k here at hand
 
   -- and exchanges it for one that notes them too
   pub notes_them : (taken_out : Bool) (c : ℕ) (nodes : CardNodes) (n m : ℕ) → slot_of c ≤ s.last → MayRetire (shown k.tree) taken_out c nodes → MayNote k.tree taken_out c nodes n
       → NotesToo nodes n m → m % 8 ≢ 0 → word_now c ≡ n
-      → GoesTo plan s tree t h (turned_to t id k (record (k.period) { sought = retires taken_out nodes k.period.sought }) (slot_word s (slot_of c)) m)
+      → GoesTo plan s tree t h (turned_to t id k (record (k.period) { retired = with_retired taken_out nodes k.period.retired }) (slot_word s (slot_of c)) m)
   notes_them taken_out c nodes n m inside may note too left is =
-      notes_now plan s tree t id k here there h size reached (slot_of c) n m (retires taken_out nodes k.period.sought) inside is too.turn note.used left
+      notes_now plan s tree t id k here there h size reached (slot_of c) n m (with_retired taken_out nodes k.period.retired) inside is too.turn note.used left
       (λ i was. (too.each i).1 (inl was)) (λ i noted. elim ((too.each i).0 noted) [ inl was ↦ inl was | inr new ↦ inr (note.dead i new) ])
       (retired_now taken_out c nodes may W keeps (λ d i has at own low lies used.
       subst (λ x. is_noted x i ≡ true) (sym (stands d at)) ((too.each i).1 (inr has))))
-      refl
     where
       W : List ℕ
       W = set t.words (slot_word s (slot_of c)) m
@@ -299,20 +279,12 @@ module _ (plan : TablePlan) (s : Slots) (tree : TableState) (t : WholeState) (id
 
   -- or it sets the slot free, as they are the last
   pub notes_last : (taken_out : Bool) (c : ℕ) (nodes : CardNodes) (n reading : ℕ) → slot_of c ≤ s.last → MayRetire (shown k.tree) taken_out c nodes → n % 8 ≢ 0
-      → ((i : ℕ) → i < 3 → (is_noted n i ≡ true) ⊎ (has_node nodes i ≡ true)) → (k.period.announced ≢ None → k.period.began ≤ reading) → k.period.stamp ≡ Some (record { card = card_by (slot_of c) n; reading = reading }) → word_now c ≡ n
-      → GoesTo plan s tree t h (turned_to t id k (record (k.period) { sought = retires taken_out nodes k.period.sought }) (slot_word s (slot_of c)) (free_word reading))
-  notes_last taken_out c nodes n reading inside may used last late stamp is =
-      frees_now plan s tree t id k here there h size reached (slot_of c) reading (retires taken_out nodes k.period.sought) inside n is used stamp
+      → k.period.stamp ≡ Some (record { card = card_by (slot_of c) n; reading = reading }) → word_now c ≡ n
+      → GoesTo plan s tree t h (turned_to t id k (record (k.period) { retired = with_retired taken_out nodes k.period.retired }) (slot_word s (slot_of c)) (free_word reading))
+  notes_last taken_out c nodes n reading inside may used stamp is =
+      frees_now plan s tree t id k here there h size reached (slot_of c) reading (with_retired taken_out nodes k.period.retired) inside n is used stamp
       (retired_now taken_out c nodes may W keeps (λ d i has at own low lies used. absurd (used (ap (λ n. n % 8) (stands d at) ∙ omega arith))))
-      refl in_period (late in_period)
     where
-      -- a pass that has some node left to note has the card in hand, so it is in a period
-      in_period : k.period.announced ≢ None
-      in_period quiet =
-          let left = some_unnoted n used in
-          let has = ⊎_elim (λ (was : is_noted n left.0 ≡ true). absurd (true≢false (sym was ∙ left.2))) (λ (h : has_node nodes left.0 ≡ true). h) (last left.0 left.1) in
-          retires_by_hand taken_out c nodes k.tree may left.0 has ((h.periods.each id k here).rests quiet).empty
-
       W : List ℕ
       W = set t.words (slot_word s (slot_of c)) (free_word reading)
 
@@ -346,7 +318,7 @@ module _ (plan : TablePlan) (s : Slots) (placed : plan.slots ≡ Some s) (taken_
 
   exchanges : (n m : ℕ) → k.period.read ≡ Some (record { slot = slot_of c; word = n }) → MayNote k.tree taken_out c nodes n
       → ((tree : TableState) (t : WholeState) (id : ℕ) → IsReached plan tree → get_elem? t.views id ≡ some k → get_elem? tree.views id ≡ some k.tree → (h : HasPeriods plan s tree t) → length t.words ≡ slots_size s
-      → get_or t.words at 0 ≡ n → GoesTo plan s tree t h (turned_to t id k (record (k.period) { sought = retires taken_out nodes k.period.sought }) at m))
+      → get_or t.words at 0 ≡ n → GoesTo plan s tree t h (turned_to t id k (record (k.period) { retired = with_retired taken_out nodes k.period.retired }) at m))
       → MayGoOn plan k at (λ x. either (x == n) m x) (Tells n)
   exchanges n m read note wins =
       goes_on_there plan s placed k at (λ x. either (x == n) m x) (Tells n) (λ t. after_noting (get_or t.words at 0 == n) taken_out c nodes (get_or t.words at 0) k.period)
@@ -372,10 +344,10 @@ module _ (plan : TablePlan) (s : Slots) (placed : plan.slots ≡ Some s) (taken_
 
   -- or that sets the slot free
   pub frees_slot : (n reading : ℕ) → k.period.read ≡ Some (record { slot = slot_of c; word = n }) → MayNote k.tree taken_out c nodes n
-      → ((i : ℕ) → i < 3 → (is_noted n i ≡ true) ⊎ (has_node nodes i ≡ true)) → (k.period.announced ≢ None → k.period.began ≤ reading) → k.period.stamp ≡ Some (record { card = card_by (slot_of c) n; reading = reading })
+      → k.period.stamp ≡ Some (record { card = card_by (slot_of c) n; reading = reading })
       → MayGoOn plan k at (λ x. either (x == n) (free_word reading) x) (Tells n)
-  frees_slot n reading read note last late stamp =
-      exchanges n (free_word reading) read note (λ tree t id reached here there h size is. notes_last plan s tree t id k here there h size reached taken_out c nodes n reading inside may note.used last late stamp is)
+  frees_slot n reading read note stamp =
+      exchanges n (free_word reading) read note (λ tree t id reached here there h size is. notes_last plan s tree t id k here there h size reached taken_out c nodes n reading inside may note.used stamp is)
 
 -- all three nodes of the card in a slot are noted by the word that a pass has read there, or known to be dead
 pub may_stamp : (k : Known) (taken_out : Bool) (c : ℕ) (nodes : CardNodes) (n slot : ℕ) → slot ≡ slot_of c → k.period.read ≡ Some (record { slot = slot_of c; word = n })
@@ -409,7 +381,7 @@ retired_nodes_are_noted plan s t placed h seat c k here slot hand = record {
     OutThere : ℕ → Type 0
     OutThere x = IsOut plan h.tree has.ages.now.machine has.ages.now.uses x × IsNotedThere s t.words has.lie x
 
-    it : AreRetired has.ages.now.machine.words c k.period.sought.retired OutThere
+    it : AreRetired has.ages.now.machine.words c k.period.retired OutThere
     it = has.retired seat c k here slot hand
 
     so : (x : ℕ) → OutThere x → IsNotedInSlot s t x

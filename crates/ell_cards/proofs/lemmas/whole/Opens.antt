@@ -238,7 +238,6 @@ module _ (s : Slots) (given : ℕ) (cards all : List ℕ) (size : length cards �
       surveyed = omega arith;
       rests = λ is. rest;
       idle = λ c is. absurd (some_not_none is refl);
-      stays = λ c is. absurd (some_not_none is refl);
     }
 
     pub alone : (P : ℕ → Known → Type 0) → P 0 first → (j : ℕ) (u : Known) → get_elem? (first ∷ []) j ≡ some u → P j u

@@ -25,7 +25,7 @@ use Rattle.ell_cards.proofs.lemmas.whole.Seeing.{silent_set, silent_snoc, has_no
 use Rattle.ell_cards.specs.Starts.{SlotsFit}
 use Rattle.ell_cards.specs.Turns.{TableTurns, Splits as SplitsInto, Joins as JoinsWith, state_split, state_joined}
 use Rattle.ell_cards.proofs.lemmas.ties.Handovers.{split_goes, split_held, join_goes, join_held}
-use Rattle.ell_cards.proofs.lemmas.whole.Handovers.{split_periods, join_periods, split_takers, join_takers, split_was, join_was}
+use Rattle.ell_cards.proofs.lemmas.whole.Handovers.{split_periods, join_periods}
 use Rattle.ell_cards.specs.Whole.{trees_of, joined_known, spent_known, PeriodsAre, IsWhole, PlansFit}
 use Rattle.ell_cards.proofs.lemmas.lifetimes.Joins.{each_joined as each_view_joined}
 use Rattle.ell_cards.proofs.lemmas.lifetimes.Splits.{each_split as each_view_split}
@@ -36,9 +36,7 @@ use Rattle.ell_cards.proofs.lemmas.whole.Rests.{is_at_rest}
 use Rattle.ell_cards.proofs.lemmas.whole.Retired.{retired_on}
 use Rattle.ell_cards.proofs.lemmas.whole.LeaksOfHandovers.{join_hands, join_holds, leaks_handed, split_hands, split_holds}
 use Rattle.ell_cards.proofs.lemmas.whole.Lifts.{unplanned_fits}
-use Rattle.ell_cards.proofs.lemmas.whole.Searches.{searches_from}
 use Rattle.ell_cards.proofs.lemmas.whole.Trees.{tree_at}
-use Rattle.ell_cards.proofs.lemmas.whole.Takings.{takings_from}
 
 -- the trees of a list with one more at its end
 trees_more : (views : List Known) (k : Known) → trees_of (views ++ k ∷ []) ≡ trees_of views ++ k.tree ∷ []
@@ -91,7 +89,7 @@ whole_splits plan k keys quiet may id s h here =
         → PeriodsAre plan o (state_split tree id k.tree keys)
         (record { words = s.words; homes = s.homes; views = set s.views id (record k { tree = left_view keys k.tree; period = after_give k.period }) ++ record { tree = right_view keys k.tree; period = given_period k.period; sight = given_sight k.sight } ∷ [] })
     by tree there same None fit periods = tt
-    by tree there same (Some sl) fit (h, was, sought, takings) =
+    by tree there same (Some sl) fit (h, was) =
         let tie = split_goes plan sl tree s h.lie h.dead h.was_dead (let low = fit.4 in omega arith) (record { ages = h.ages; tied = h.tied }) id k here there keys may.free may.may in (
           record {
             lie = h.lie;
@@ -108,10 +106,6 @@ whole_splits plan k keys quiet may id s h here =
           },
           leaks_handed plan sl tree (state_split tree id k.tree keys) s (set s.views id (left_known keys k) ++ right_known keys k ∷ []) h.ages.now.machine tie.on.ages.now.machine tie.on.words tie.on.later tie.on.wins h.lie was
               (λ c. split_holds plan tree h.ages.now.machine s id k here there may.free c keys) (λ c. split_hands plan tree h.ages.now.machine s id k here there may.free c (left_view keys k.tree) (right_view keys k.tree)) s.homes,
-          searches_from sl s sought (set s.views id (left_known keys k) ++ right_known keys k ∷ []) s.homes
-              (split_was sl s id k here h.lie h.dead h.began h.was_dead h.periods (left_view keys k.tree) (right_view keys k.tree) left_rests right_rests quiet),
-          takings_from sl s h.lie takings (set s.views id (left_known keys k) ++ right_known keys k ∷ []) s.homes
-              (split_takers sl s id k here h.lie h.dead h.began h.was_dead h.periods (left_view keys k.tree) (right_view keys k.tree) left_rests right_rests quiet),
         )
 
 -- a join of the tree is a join of the table
@@ -171,7 +165,7 @@ whole_joins plan k l free other_free unlost id other s h here aside there =
         → PeriodsAre plan o (state_joined tree id other k.tree l.tree)
         (record { words = s.words; homes = s.homes; views = set (set s.views id (joined_known k l)) other spent_known })
     by tree ours theirs same None fit periods there = tt
-    by tree ours theirs same (Some sl) fit (h, was, sought, takings) there =
+    by tree ours theirs same (Some sl) fit (h, was) there =
         let tie = join_goes plan sl tree s h.lie h.dead h.was_dead (let low = fit.4 in omega arith) (record { ages = h.ages; tied = h.tied }) id other k l here there ours theirs
         (λ e. aside (sym e)) free other_free in (
           record {
@@ -190,6 +184,4 @@ whole_joins plan k l free other_free unlost id other s h here aside there =
           leaks_handed plan sl tree (state_joined tree id other k.tree l.tree) s (set (set s.views id (joined_known k l)) other spent_known) h.ages.now.machine tie.on.ages.now.machine tie.on.words tie.on.later tie.on.wins h.lie was
               (λ c. join_holds plan tree h.ages.now.machine s id other k l here there ours theirs (λ e. aside (sym e)) free other_free unlost c)
               (λ c. join_hands plan tree h.ages.now.machine s id other k l here there ours theirs (λ e. aside (sym e)) free other_free unlost c (joined_view k.tree l.tree) spent_view) s.homes,
-          searches_from sl s sought (set (set s.views id (joined_known k l)) other spent_known) s.homes (join_was sl s id other k l here there aside h.lie h.dead h.began h.was_dead h.periods),
-          takings_from sl s h.lie takings (set (set s.views id (joined_known k l)) other spent_known) s.homes (join_takers sl s id other k l here there aside h.lie h.dead h.began h.was_dead h.periods),
         )

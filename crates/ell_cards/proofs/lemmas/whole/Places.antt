@@ -2,7 +2,6 @@ use Rattle.std.proofs.Common.{◌≡◌, ◌≢◌, ℕ, ◌≤◌, ◌==◌, no
 use Rattle.ell_layout.specs.Layout.{table_size}
 use Rattle.ell_cards.specs.declared.pass.Standing.{Standing}
 use Rattle.ell_cards.specs.declared.view.Period.{Period}
-use Rattle.ell_cards.specs.declared.view.Seek.{Seek}
 use Rattle.ell_cards.specs.Inside.{HasSlotThere, PlaceFits}
 use Rattle.ell_cards.specs.declared.view.Slots.{Slots}
 use Rattle.ell_cards.specs.Models.{TablePlan}
@@ -12,21 +11,6 @@ use Rattle.ell_core.proofs.lemmas.outcomes.Decide.{some_not_none}
 -- the code of a pass keeps its place where nothing changes
 pub same_place : (standing : Standing) (words words' : ℕ) (p p' : Period) → words' ≡ words → p' ≡ p → PlaceFits standing words p → PlaceFits standing words' p'
 same_place standing words words' p p' same is fits = subst (λ n. PlaceFits standing n p') (sym same) (subst (PlaceFits standing words) (sym is) fits)
-
--- or where the pass seeks something else
-pub sought_place : (standing : Standing) (words words' : ℕ) (p p' : Period) (k : Seek) → words' ≡ words → p' ≡ record p { sought = k } → PlaceFits standing words p → PlaceFits standing words' p'
-sought_place standing words words' p p' k same is fits = same_place standing words words' (record p { sought = k }) p' same is (record {
-  place = fits.place;
-  other = fits.other;
-  announces = fits.announces;
-  quiet = fits.quiet;
-  safe = fits.safe;
-  none = fits.none;
-  unsafe = fits.unsafe;
-  some = fits.some;
-  slot = fits.slot;
-  lost = fits.lost;
-})
 
 -- of two steps that leave its places both do
 pub stands_on : {a b c : Period} → StandsAs a b → StandsAs b c → StandsAs a c

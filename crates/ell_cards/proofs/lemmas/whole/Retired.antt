@@ -44,7 +44,7 @@ pub record HadInHand (views : List Known) (c : ℕ) (noted : Retired) : Type 0 w
   pub there : get_elem? views seat ≡ some knows
   pub slot : knows.period.slot ≡ Some c
   pub hand : knows.tree.worker.card ≡ Some c
-  pub retired : knows.period.sought.retired ≡ noted
+  pub retired : knows.period.retired ≡ noted
 
 module _ (plan : TablePlan) (s : Slots) (tree : TableState) (machine : HasMachine plan tree) (uses : HasUses (machine_of_table plan tree machine)) where
   abbrev OutThere : List ℕ → (ℕ → ℕ) → ℕ → Type 0
@@ -53,21 +53,21 @@ module _ (plan : TablePlan) (s : Slots) (tree : TableState) (machine : HasMachin
   -- where a pass knows something else of periods, and what was noted is noted
   pub retired_of_period : (t : WholeState) (id : ℕ) (k : Known) → get_elem? t.views id ≡ some k → (g : Sight) (p : Period) (words : List ℕ) (lie lie' : ℕ → ℕ)
       → ((x : ℕ) → IsOut plan tree machine uses x → IsNotedThere s t.words lie x → IsNotedThere s words lie' x)
-      → ((c : ℕ) → p.slot ≡ Some c → k.tree.worker.card ≡ Some c → AreRetired machine.words c p.sought.retired (OutThere words lie'))
+      → ((c : ℕ) → p.slot ≡ Some c → k.tree.worker.card ≡ Some c → AreRetired machine.words c p.retired (OutThere words lie'))
       → RetiredStaysNoted plan s tree t machine uses lie
       → RetiredStaysNoted plan s tree (record { words = words; homes = t.homes; views = set t.views id (record k { period = p; sight = g }) }) machine uses lie'
   retired_of_period t id k here g p words lie lie' keeps mine h seat c u at slot hand = ⊎_elim
       (λ (e : (seat ≡ id) × (now ≡ u)).
-      subst (λ (x : Known). x.period.slot ≡ Some c → x.tree.worker.card ≡ Some c → AreRetired machine.words c x.period.sought.retired (OutThere words lie')) e.1 (mine c) slot hand)
+      subst (λ (x : Known). x.period.slot ≡ Some c → x.tree.worker.card ≡ Some c → AreRetired machine.words c x.period.retired (OutThere words lie')) e.1 (mine c) slot hand)
       (λ (e : (seat ≢ id) × (get_elem? t.views seat ≡ some u)).
-      retired_are machine.words machine.words c u.period.sought.retired (OutThere t.words lie) (OutThere words lie') refl refl (λ x is. (is.0, keeps x is.0 is.1)) (h seat c u e.1 slot hand))
+      retired_are machine.words machine.words c u.period.retired (OutThere t.words lie) (OutThere words lie') refl refl (λ x is. (is.0, keeps x is.0 is.1)) (h seat c u e.1 slot hand))
       (at_set t.views id seat now u at)
     where
       now : Known
       now = record k { period = p; sight = g }
 
   -- where the pass has noted no more, and has the slot that it had
-  pub retired_so : (t : WholeState) (id : ℕ) (k : Known) → get_elem? t.views id ≡ some k → (g : Sight) (p : Period) → p.slot ≡ k.period.slot → p.sought.retired ≡ k.period.sought.retired
+  pub retired_so : (t : WholeState) (id : ℕ) (k : Known) → get_elem? t.views id ≡ some k → (g : Sight) (p : Period) → p.slot ≡ k.period.slot → p.retired ≡ k.period.retired
       → (words : List ℕ) (lie lie' : ℕ → ℕ)
       → ((x : ℕ) → IsOut plan tree machine uses x → IsNotedThere s t.words lie x → IsNotedThere s words lie' x)
       → RetiredStaysNoted plan s tree t machine uses lie
@@ -75,7 +75,7 @@ module _ (plan : TablePlan) (s : Slots) (tree : TableState) (machine : HasMachin
   retired_so t id k here g p slot same words lie lie' keeps h =
       retired_of_period t id k here g p words lie lie' keeps
       (λ c has hand. subst (λ r. AreRetired machine.words c r (OutThere words lie')) (sym same)
-      (retired_are machine.words machine.words c k.period.sought.retired (OutThere t.words lie) (OutThere words lie') refl refl (λ x is. (is.0, keeps x is.0 is.1)) (h id c k here (sym slot ∙ has) hand))) h
+      (retired_are machine.words machine.words c k.period.retired (OutThere t.words lie) (OutThere words lie') refl refl (λ x is. (is.0, keeps x is.0 is.1)) (h id c k here (sym slot ∙ has) hand))) h
 
   -- a card in hand was claimed
   claimed_hand : (t : WholeState) → trees_of t.views ≡ tree.views → (seat c : ℕ) (k : Known) → get_elem? t.views seat ≡ some k → k.tree.worker.card ≡ Some c → c < machine.words.next
@@ -94,13 +94,13 @@ module _ (plan : TablePlan) (s : Slots) (tree : TableState) (machine : HasMachin
     pub retired_on : (t t' : WholeState) (lie : ℕ → ℕ) → trees_of t.views ≡ tree.views
         → ((slot : ℕ) → slot ≤ s.last → get_or t'.words (slot_word s slot) 0 ≡ get_or t.words (slot_word s slot) 0)
         → ((seat c : ℕ) (u : Known) → get_elem? t'.views seat ≡ some u → u.period.slot ≡ Some c → u.tree.worker.card ≡ Some c
-        → HadInHand t.views c u.period.sought.retired)
+        → HadInHand t.views c u.period.retired)
         → RetiredStaysNoted plan s tree t machine uses lie → RetiredStaysNoted plan s tree' t' next used lie
     retired_on t t' lie views same was h seat c u at slot hand =
         let b = was seat c u at slot hand in
         let info = later.info c (claimed_hand t views b.seat c b.knows b.there b.hand) in
         subst (λ r. AreRetired next.words c r (OutNext t'.words lie)) b.retired
-        (retired_are machine.words next.words c b.knows.period.sought.retired (OutThere t.words lie) (OutNext t'.words lie) info.p info.l
+        (retired_are machine.words next.words c b.knows.period.retired (OutThere t.words lie) (OutNext t'.words lie) info.p info.l
         (λ x is. (out_still x is.0, noted_same plan s t.words t'.words lie same x is.1)) (h b.seat c b.knows b.there b.slot b.hand))
 
 -- a card in hand after a call whose slot the pass had taken was in hand before it: a card that is claimed has none yet

@@ -94,7 +94,6 @@ holds_on s words words' u same later h = record {
   surveyed = (let low = h.surveyed in omega arith);
   rests = h.rests;
   idle = h.idle;
-  stays = h.stays;
 }
 
 -- a pass that knows the same of periods, and is at rest if it announces nothing, knows what is so
@@ -111,5 +110,4 @@ holds_of s words k l same rests idle h = record {
   surveyed = (let low = h.surveyed in let now = ap (λ (p : Period). p.surveyed.clock) same in omega arith);
   rests = λ is. rests (sym (ap (λ (p : Period). p.announced) same) ∙ is);
   idle = λ c is. idle c (sym (ap (λ (p : Period). p.lost) same) ∙ is);
-  stays = λ c is quiet. h.stays c (sym (ap (λ (p : Period). p.lost) same) ∙ is) (sym (ap (λ (p : Period). p.announced) same) ∙ quiet);
 }

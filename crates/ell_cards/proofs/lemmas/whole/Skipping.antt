@@ -107,7 +107,7 @@ module _ (plan : TablePlan) (s : Slots) (placed : plan.slots ≡ Some s) where
     claimed c node may aside won is =
         subst (λ b. IsWhole plan (claimed_to t id k (after_claim b c node k.tree) (cut_word (if b then c + 1 else get_or t.words 0 0)))) is
         (subst (λ n. IsWhole plan (claimed_to t id k (after_claim (n == c) c node k.tree) (cut_word (if n == c then c + 1 else n)))) found
-        (tied_whole plan t h id k here (call.Claim c node) may tt s placed aside unlost tt (λ none. tt) k.period k.sight (marked_so plan t h id k here (call.Claim c node) may) (nothing refl tt (λ some d flags. absurd flags))))
+        (tied_whole plan t h id k here (call.Claim c node) may tt s placed aside unlost tt (λ none. tt) k.period k.sight (marked_so plan t h id k here (call.Claim c node) may) (nothing refl (λ some d flags. absurd flags))))
 
     pub claim_won : (c : ℕ) (node : NewNode) → May plan (call.Claim c node) k.tree → LaysAside k → get_or t.words 0 0 ≡ c
         → IsWhole plan (claimed_to t id k (after_claim true c node k.tree) (c + 1))
@@ -128,7 +128,7 @@ module _ (plan : TablePlan) (s : Slots) (placed : plan.slots ≡ Some s) where
     read_next n is word =
         subst (λ m. IsWhole plan (claimed_to t id k (after call.Next n k.tree) m)) (cut_same n word)
         (subst (λ m. IsWhole plan (claimed_to t id k (after call.Next m k.tree) (cut_word m))) (found ∙ is)
-        (tied_whole plan t h id k here call.Next tt tt s placed tt unlost tt (λ none. tt) k.period k.sight (marked_so plan t h id k here call.Next tt) (nothing refl tt (λ some d flags. absurd flags))))
+        (tied_whole plan t h id k here call.Next tt tt s placed tt unlost tt (λ none. tt) k.period k.sight (marked_so plan t h id k here call.Next tt) (nothing refl (λ some d flags. absurd flags))))
 
   -- what was written before at the claim word and in the seat is gone
   written_again : (t : WholeState) (id : ℕ) (k : Known) (w v : View) (a n : ℕ) → claimed_to (claimed_to t id k w a) id (record k { tree = w }) v n ≡ claimed_to t id k v n
@@ -293,7 +293,7 @@ claim_goes plan p c node may low lays k is slotted unlost id t h homes here smal
     (exchange_does plan (call.Claim c node) c (c + 1) (record { whole = c + 1; is = refl; cut = sym (cut_same (c + 1) low); all = λ none. refl }))
     (λ there none. tt) (λ fill. absurd fill)
     (subst (λ v. MayTell plan (call.Claim c node) v (λ n w. (w ≡ after_claimed_row (n == c) c c node p.view) × IsInside plan w)) (sym is) (claim_tells plan c node p.view))
-    (λ n word. nothing refl tt (λ some d flags. absurd flags)) tt id t h homes here small in
+    (λ n word. nothing refl (λ some d flags. absurd flags)) tt id t h homes here small in
     (x.0, x.1, x.2, x.3, ((x.4.0.0, x.4.0.1, fresh), x.4.1, x.4.2, x.4.3))
   where
     by : (o : Option Slots) → plan.slots ≡ o → (get_or t.words 0 0 == c) ≡ true → o ≢ None → p.slot ≢ Some c

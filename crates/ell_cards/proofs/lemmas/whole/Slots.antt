@@ -12,7 +12,7 @@ use Rattle.ell_grace.specs.Periods.{GraceIsSound}
 use Rattle.ell_grace.proofs.lemmas.Grace.{grace_goes_on, taken_cards_were_gone}
 use Rattle.ell_cards.specs.declared.view.Known.{Known}
 use Rattle.ell_cards.specs.declared.view.Period.{Period}
-use Rattle.ell_cards.specs.declared.view.Seek.{Seek}
+use Rattle.ell_cards.specs.declared.view.Retired.{Retired}
 use Rattle.ell_cards.specs.declared.view.Slots.{Slots}
 use Rattle.ell_cards.specs.Periods.{WholeState, clock_word, place_word, slot_word, slots_size, stamp_at, pending_by, period_in, word_at_place, announced_by, place_says, last_reading, after_read, after_stamp, after_taking, LieInSlots, HasPlace, own, spare, StandsAs, PeriodHolds, PeriodsAreSound, grace_of}
 use Rattle.ell_cards.specs.SlotWords.{slot_of, turn_of, turn_in, stamp_in, free_word, card_by, freed_by, taken_word}
@@ -103,7 +103,6 @@ module _ (s : Slots) (t : WholeState) (id : ℕ) (k : Known) (here : get_elem? t
         surveyed = (let low = surveyed in let same = clock in omega arith);
         rests = λ is. was.rests (sym stands.announced ∙ is);
         idle = λ c is. was.idle c (sym lost ∙ is);
-        stays = λ c is quiet. was.stays c (sym lost ∙ is) (sym stands.announced ∙ quiet);
       }
 
   same_word : (q : ℕ) → word_at_place s words q ≡ word_at_place s t.words q
@@ -177,14 +176,14 @@ module _ (s : Slots) (t : WholeState) (id : ℕ) (k : Known) (here : get_elem? t
     found = get_or t.words (slot_word s slot) 0
 
     -- it reads that, whatever its search has read then
-    pub slot_read : (sought : Seek)
-        → PeriodsAreSound s (record { words = set t.words (slot_word s slot) (get_or t.words (slot_word s slot) 0); homes = t.homes; views = set t.views id (record k { period = record (after_read slot (get_or t.words (slot_word s slot) 0) k.period) { sought = sought } }) })
+    pub slot_read : (retired : Retired)
+        → PeriodsAreSound s (record { words = set t.words (slot_word s slot) (get_or t.words (slot_word s slot) 0); homes = t.homes; views = set t.views id (record k { period = record (after_read slot (get_or t.words (slot_word s slot) 0) k.period) { retired = retired } }) })
         lie dead began was_dead
-    slot_read sought =
-        slots_after s t id k here lie dead began was_dead h (set t.words (slot_word s slot) (get_or t.words (slot_word s slot) 0)) (record (after_read slot found k.period) { sought = sought })
+    slot_read retired =
+        slots_after s t id k here lie dead began was_dead h (set t.words (slot_word s slot) (get_or t.words (slot_word s slot) 0)) (record (after_read slot found k.period) { retired = retired })
         (record { place = refl; other = refl; other_says = refl; announced = refl }) refl (h.each id k here).reading (h.each id k here).surveyed refl refl refl refl (again (clock_word s)) (λ q. again (place_word s q))
         lie dead was.pending was.free h.sound
-        (part_same t.views id k here (record k { period = record (after_read slot found k.period) { sought = sought } }) (λ p. pending_by p.stamp) refl)
+        (part_same t.views id k here (record k { period = record (after_read slot found k.period) { retired = retired } }) (λ p. pending_by p.stamp) refl)
         (stamps_same s lie t.words (set t.words (slot_word s slot) (get_or t.words (slot_word s slot) 0)) (λ x low. again (slot_word s x)))
       where
         again : (j : ℕ) → get_or (set t.words (slot_word s slot) (get_or t.words (slot_word s slot) 0)) j 0 ≡ get_or t.words j 0
@@ -218,13 +217,13 @@ module _ (s : Slots) (t : WholeState) (id : ℕ) (k : Known) (here : get_elem? t
       stamp_was c lies = stamp_there s lie t.words c slot found inside lies refl
 
     -- a word that sets nothing free becomes one that does not either
-    pub slot_noted : (sought : Seek) (n' : ℕ) → get_or t.words (slot_word s slot) 0 % 8 ≢ 0 → n' % 8 ≢ 0
-        → PeriodsAreSound s (record { words = set t.words (slot_word s slot) n'; homes = t.homes; views = set t.views id (record k { period = record (k.period) { sought = sought } }) }) lie dead began was_dead
-    slot_noted sought n' some_bit some_bit' =
-        slots_after s t id k here lie dead began was_dead h (turned n') (record (k.period) { sought = sought })
+    pub slot_noted : (retired : Retired) (n' : ℕ) → get_or t.words (slot_word s slot) 0 % 8 ≢ 0 → n' % 8 ≢ 0
+        → PeriodsAreSound s (record { words = set t.words (slot_word s slot) n'; homes = t.homes; views = set t.views id (record k { period = record (k.period) { retired = retired } }) }) lie dead began was_dead
+    slot_noted retired n' some_bit some_bit' =
+        slots_after s t id k here lie dead began was_dead h (turned n') (record (k.period) { retired = retired })
         (record { place = refl; other = refl; other_says = refl; announced = refl }) refl (h.each id k here).reading (h.each id k here).surveyed refl refl refl refl (turned_clock n') (turned_place n')
         lie dead was.pending was.free h.sound
-        (part_same t.views id k here (record k { period = record (k.period) { sought = sought } }) (λ p. pending_by p.stamp) refl)
+        (part_same t.views id k here (record k { period = record (k.period) { retired = retired } }) (λ p. pending_by p.stamp) refl)
         stays
       where
         stays : (c : ℕ) → stamp_at s lie (turned n') c ≡ stamp_at s lie t.words c
@@ -234,14 +233,14 @@ module _ (s : Slots) (t : WholeState) (id : ℕ) (k : Known) (here : get_elem? t
         ]
 
     -- the card that lies there is set free with the stamp that the pass has for it
-    pub slot_freed : (sought : Seek) (reading : ℕ) → slot_of (lie slot) ≡ slot → k.period.stamp ≡ Some (record { card = lie slot; reading = reading })
-        → PeriodsAreSound s (record { words = set t.words (slot_word s slot) (free_word reading); homes = t.homes; views = set t.views id (record k { period = record (k.period) { sought = sought } }) }) lie dead began was_dead
-    slot_freed sought reading home has =
-        slots_after s t id k here lie dead began was_dead h (turned n') (record (k.period) { sought = sought })
+    pub slot_freed : (retired : Retired) (reading : ℕ) → slot_of (lie slot) ≡ slot → k.period.stamp ≡ Some (record { card = lie slot; reading = reading })
+        → PeriodsAreSound s (record { words = set t.words (slot_word s slot) (free_word reading); homes = t.homes; views = set t.views id (record k { period = record (k.period) { retired = retired } }) }) lie dead began was_dead
+    slot_freed retired reading home has =
+        slots_after s t id k here lie dead began was_dead h (turned n') (record (k.period) { retired = retired })
         (record { place = refl; other = refl; other_says = refl; announced = refl }) refl (h.each id k here).reading (h.each id k here).surveyed refl refl refl refl (turned_clock n') (turned_place n')
         lie dead was.pending (put was.free card (Some reading))
         (grace_goes_on s.places was (record was { free = put was.free card (Some reading) }) h.sound (frees id card reading pending refl))
-        (part_same t.views id k here (record k { period = record (k.period) { sought = sought } }) (λ p. pending_by p.stamp) refl)
+        (part_same t.views id k here (record k { period = record (k.period) { retired = retired } }) (λ p. pending_by p.stamp) refl)
         stamp
       where
         n' : ℕ

@@ -2,8 +2,7 @@
 use Rattle.std.proofs.Common.{◌≡◌, ◌-◌, ℕ, zero, suc, Option, Some, None, List, [], ◌∷◌, length, get_or, refl, sym, ap, ◌∙◌, subst}
 use Rattle.atomic_table.specs.Table.{opening}
 use Rattle.ell_layout.specs.Layout.{address, table_size}
-use mathlib.Core.Option.{some, some-injective, some-ne-none}
-use lib.ListN.{get_elem?}
+use mathlib.Core.Option.{some-injective, some-ne-none}
 use Rattle.ell_layout.specs.Start.{words_at_start}
 use Rattle.ell_layout.specs.Words.{words_of}
 use Rattle.ell_cards.specs.declared.view.Known.{Known}
@@ -15,7 +14,6 @@ use Rattle.ell_cards.specs.Models.{TablePlan, last_slot, last_slot_of}
 use Rattle.ell_cards.specs.Periods.{AreWholeWords, period_by}
 use Rattle.ell_core.proofs.lemmas.outcomes.Decide.{some_not_none}
 use Rattle.ell_cards.specs.Seeing.{HasSeen, AllHaveSeen, AreSilent}
-use Rattle.ell_cards.specs.Seeking.{no_seek}
 use Rattle.ell_cards.specs.Shown.{IsWord, FieldIsWhole, StoresAreWhole}
 use Rattle.ell_cards.specs.Sights.{no_sight}
 use Rattle.ell_cards.specs.Starts.{MayStart, SlotsFit}
@@ -28,9 +26,7 @@ use Rattle.ell_cards.proofs.lemmas.ties.Opens.{tree_opened, reached_opened, peri
 use Rattle.ell_cards.proofs.lemmas.whole.Lifts.{unplanned_fits}
 use Rattle.ell_cards.proofs.lemmas.whole.Opens.{with_zeros}
 use Rattle.ell_cards.proofs.lemmas.whole.OwnCalls.{apart_first}
-use Rattle.ell_cards.proofs.lemmas.whole.Searches.{searches_opened}
 use Rattle.ell_cards.proofs.lemmas.whole.Seeing.{has_none}
-use Rattle.ell_cards.proofs.lemmas.whole.Takings.{takings_opened}
 
 -- the first pass has seen nothing, and made no call
 nothing_seen : (seat : ℕ) → HasSeen [] seat no_sight
@@ -85,15 +81,5 @@ whole_first plan may cards words small size are is = by plan.slots refl may.slot
           );
           periods = subst (λ o. PeriodsAre plan o tree (opening words [] (first_known plan))) (sym placed)
               (subst (λ o. PeriodsAre plan (Some s) tree (opening words [] (record { tree = first_of plan; period = period_by o; sight = no_sight }))) (sym placed)
-              (has, leaks_opened plan s cards words may fit all are small opens, searches_opened s (opening words [] (record { tree = first_of plan; period = period_by (Some s); sight = no_sight })) (only (first_of plan)), takings_opened s (opening words [] (record { tree = first_of plan; period = period_by (Some s); sight = no_sight })) has.lie (idle_first (first_of plan) refl)));
+              (has, leaks_opened plan s cards words may fit all are small opens));
         }
-      where
-        -- the first pass has read nothing, and is in no period
-        only : (v : View) (j : ℕ) (u : Known) → get_elem? (record { tree = v; period = period_by (Some s); sight = no_sight } ∷ []) j ≡ some u → (u.period.sought ≡ no_seek) × (u.period.announced ≡ None)
-        only v zero u at = subst (λ (x : Known). (x.period.sought ≡ no_seek) × (x.period.announced ≡ None)) (some-injective (record { tree = v; period = period_by (Some s); sight = no_sight }) u at) (refl, refl)
-        only v (suc j) u at = absurd (some-ne-none u (sym at))
-
-        -- nor is it about to set anything free, and it has nothing in hand
-        idle_first : (v : View) → v.worker.operation ≡ None → (j : ℕ) (u : Known) → get_elem? (record { tree = v; period = period_by (Some s); sight = no_sight } ∷ []) j ≡ some u → (u.period.stamp ≡ None) × (u.tree.worker.operation ≡ None)
-        idle_first v free zero u at = subst (λ (x : Known). (x.period.stamp ≡ None) × (x.tree.worker.operation ≡ None)) (some-injective (record { tree = v; period = period_by (Some s); sight = no_sight }) u at) (refl, free)
-        idle_first v free (suc j) u at = absurd (some-ne-none u (sym at))

@@ -14,7 +14,6 @@ use Rattle.ell_grace.specs.Periods.{GraceIsSound}
 use Rattle.ell_grace.proofs.lemmas.Grace.{grace_goes_on}
 use Rattle.ell_cards.specs.declared.view.Known.{Known}
 use Rattle.ell_cards.specs.declared.view.Period.{Period}
-use Rattle.ell_cards.specs.declared.view.Seek.{Seek}
 use Rattle.ell_cards.specs.declared.view.Sight.{Sight}
 use Rattle.ell_cards.specs.declared.view.Slots.{Slots}
 use Rattle.ell_cards.specs.declared.view.Survey.{Survey}
@@ -138,41 +137,19 @@ module _ (s : Slots) (t : WholeState) (id : ℕ) (k : Known) (here : get_elem? t
     same_holds : PeriodHolds s again k
     same_holds = holds_on s t.words again k (λ q has. same_at (place_word s q)) (let clock = same_at (clock_word s) in omega arith) (h.each id k here)
 
-    -- whatever it knows of what it sought
-    module _ (sought : Seek) where
-      abbrev seeks : Known
-      seeks = record k { period = record (k.period) { sought = sought } }
-
-      seeking_place : (q : ℕ) → HasPlace seeks.period q → HasPlace k.period q
-      seeking_place q (own e) = own e
-      seeking_place q (spare e) = spare e
-
-      seeks_holds : PeriodHolds s again seeks
-      seeks_holds = record {
-        place = same_holds.place;
-        other = same_holds.other;
-        two = same_holds.two;
-        none = same_holds.none;
-        reading = same_holds.reading;
-        surveyed = same_holds.surveyed;
-        rests = same_holds.rests;
-        idle = same_holds.idle;
-        stays = same_holds.stays;
-      }
-
-      pub periods_sought : PeriodsAreSound s (record { words = again; homes = t.homes; views = set t.views id seeks }) lie dead began was_dead
-      periods_sought =
-          periods_after s t id k here k.sight lie dead began was_dead h again seeks.period (same_at (clock_word s)) (λ j u other at q has. same_at (place_word s q)) (λ q has. inl (seeking_place q has)) lie dead began was_dead
-          (λ r a at an. h.since id r a k here at an) (λ j r a u other there at an. h.since j r a u there at an)
-          (grace_same s.places (grace_of s t lie dead began was_dead)
-          (grace_of s (record { words = again; homes = t.homes; views = set t.views id seeks }) lie dead began was_dead)
-          (same_at (clock_word s)) (λ c. refl) same_word (λ q. refl) (λ q c. refl)
-          (part_same t.views id k here seeks (λ p. pending_by p.stamp) refl)
-          (part_same t.views id k here seeks (λ p. p.least) refl)
-          (λ j q. part_same t.views id k here seeks (λ p. nat_lt q p.looked) refl j)
-          (part_same t.views id k here seeks (λ p. p.safe) refl)
-          same_stamps h.sound)
-          seeks_holds
+    pub periods_again : PeriodsAreSound s (record { words = again; homes = t.homes; views = set t.views id k }) lie dead began was_dead
+    periods_again =
+        periods_after s t id k here k.sight lie dead began was_dead h again k.period (same_at (clock_word s)) (λ j u other at q has. same_at (place_word s q)) (λ q has. inl has) lie dead began was_dead
+        (λ r a at an. h.since id r a k here at an) (λ j r a u other there at an. h.since j r a u there at an)
+        (grace_same s.places (grace_of s t lie dead began was_dead)
+        (grace_of s (record { words = again; homes = t.homes; views = set t.views id k }) lie dead began was_dead)
+        (same_at (clock_word s)) (λ c. refl) same_word (λ q. refl) (λ q c. refl)
+        (part_same t.views id k here k (λ p. pending_by p.stamp) refl)
+        (part_same t.views id k here k (λ p. p.least) refl)
+        (λ j q. part_same t.views id k here k (λ p. nat_lt q p.looked) refl j)
+        (part_same t.views id k here k (λ p. p.safe) refl)
+        same_stamps h.sound)
+        same_holds
 
   -- the pass reads the clock
   abbrev reading_now : ℕ
@@ -202,7 +179,6 @@ module _ (s : Slots) (t : WholeState) (id : ℕ) (k : Known) (here : get_elem? t
     surveyed = now.surveyed;
     rests = now.rests;
     idle = now.idle;
-    stays = now.stays;
   }
 
   pub periods_read : PeriodsAreSound s (record { words = set t.words (clock_word s) (get_or t.words (clock_word s) 0); homes = t.homes; views = set t.views id reads }) lie dead began was_dead
@@ -362,7 +338,6 @@ module _ (s : Slots) (t : WholeState) (id : ℕ) (k : Known) (here : get_elem? t
       surveyed = surveyed_low s.places (k.period.looked + 1) k.period.reading _ k.period.surveyed _ now.reading now.surveyed;
       rests = now.rests;
       idle = now.idle;
-      stays = now.stays;
     }
 
     pub periods_seen : PeriodsAreSound s (record { words = set t.words (place_word s q) (get_or t.words (place_word s q) 0); homes = t.homes; views = set t.views id sees }) lie dead began was_dead
@@ -483,7 +458,6 @@ module _ (s : Slots) (t : WholeState) (id : ℕ) (k : Known) (here : get_elem? t
         surveyed = (let same = turned_clock q (reading + 2) below in let low = mine.surveyed in omega arith);
         rests = λ is. absurd (some_not_none refl is);
         idle = mine.idle;
-        stays = λ c is quiet. some_not_none refl quiet;
       }
     where
       below : q < s.places
@@ -494,9 +468,9 @@ module _ (s : Slots) (t : WholeState) (id : ℕ) (k : Known) (here : get_elem? t
       gains r (spare is) = inl (spare is)
 
   -- the announcement of a pass at rest is taken away
-  pub periods_retracted : (q : ℕ) → k.period.place ≡ Some q → IsAtRest k.tree → k.period.lost ≡ None
+  pub periods_retracted : (q : ℕ) → k.period.place ≡ Some q → IsAtRest k.tree
       → PeriodsAreSound s (record { words = set t.words (place_word s q) 1; homes = t.homes; views = set t.views id (record k { period = after_retract k.period }) }) lie dead began was_dead
-  periods_retracted q placed rest unlost =
+  periods_retracted q placed rest =
       periods_after s t id k here k.sight lie dead began was_dead h (turned q 1 below) (after_retract k.period) (turned_clock q 1 below) (others_have_none q 1 below (own placed)) gains
       lie dead began was_dead
       (λ r a at an. absurd (some_not_none an refl)) (λ j r a u other there at an. h.since j r a u there at an)
@@ -511,7 +485,6 @@ module _ (s : Slots) (t : WholeState) (id : ℕ) (k : Known) (here : get_elem? t
         surveyed = (let same = turned_clock q 1 below in let low = mine.surveyed in omega arith);
         rests = λ is. rest;
         idle = mine.idle;
-        stays = λ c is. absurd (some_not_none is unlost);
       }
     where
       below : q < s.places
@@ -539,7 +512,6 @@ module _ (s : Slots) (t : WholeState) (id : ℕ) (k : Known) (here : get_elem? t
         surveyed = (let same = turned_clock q 1 below in let low = mine.surveyed in omega arith);
         rests = mine.rests;
         idle = mine.idle;
-        stays = mine.stays;
       }
     where
       nobody : IsNobodys t q
@@ -567,7 +539,6 @@ module _ (s : Slots) (t : WholeState) (id : ℕ) (k : Known) (here : get_elem? t
         surveyed = (let same = turned_clock q 0 below in let low = mine.surveyed in omega arith);
         rests = mine.rests;
         idle = mine.idle;
-        stays = mine.stays;
       }
     where
       below : q < s.places
@@ -595,7 +566,6 @@ module _ (s : Slots) (t : WholeState) (id : ℕ) (k : Known) (here : get_elem? t
         surveyed = (let same = turned_clock q 0 below in let low = mine.surveyed in omega arith);
         rests = mine.rests;
         idle = mine.idle;
-        stays = mine.stays;
       }
     where
       below : q < s.places

@@ -72,7 +72,7 @@ next_goes : (plan : TablePlan) (k : Known) (told : ℕ → View → Type 0) → 
 next_goes plan k told unlost tells id s h homes here small =
     let there = tree_here plan s h id k here in
     goes_by plan k call.Next (λ n. n) told (λ n. k.period) tt tt (λ t some. tt) unlost (load_does plan call.Next refl) (λ some none. tt) (λ fill. absurd fill) tells
-    (λ n word. nothing refl tt (λ some d flags. absurd flags)) id s h here small (λ v g. TellsAll plan (shown k.tree) k.sight g)
+    (λ n word. nothing refl (λ some d flags. absurd flags)) id s h here small (λ v g. TellsAll plan (shown k.tree) k.sight g)
     (sees_all plan h.tree h.reached id k.tree there s.views k here refl h.seen h.made h.silent h.apart)
     (λ d may is. sighted_all plan h.tree h.reached id k.tree there s.views k here refl h.seen h.made h.silent h.apart d (next_calm plan k s h id here d is))
     (λ d may is apart. told_all plan k s h id here d may is) plan.slots refl

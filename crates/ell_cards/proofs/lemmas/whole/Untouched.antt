@@ -67,7 +67,7 @@ module _ (plan : TablePlan) (s : Slots) (tree : TableState) (t : WholeState) (h 
   -- whoever is in a period began that when the card was dead, and whoever is in none is at rest; and a call touches a card that
   -- lies in its slot
   untouched : (seat : ℕ) (k : Known) → get_elem? t.views seat ≡ some k → get_elem? tree.views seat ≡ some k.tree → (c : Call) → May plan c k.tree
-      → MayInMemory s k.period.slot k.period.sought.retired k.tree c → (d : ℕ) → slot_of d ≡ slot → (f : Field) → word_of c ≢ address d f
+      → MayInMemory s k.period.slot k.period.retired k.tree c → (d : ℕ) → slot_of d ≡ slot → (f : Field) → word_of c ≢ address d f
   untouched seat k here there c may mem d at f is = by k.period.announced refl
     where
       -- it is that card

@@ -4,7 +4,7 @@ use Rattle.std.proofs.lemmas.Bool.{false≢true}
 use Rattle.std.proofs.lemmas.Bool.Decides.{nat_tests}
 use Rattle.ell_cards.specs.declared.card_nodes.CardNodes.{CardNodes}
 use Rattle.ell_cards.specs.CardNodes.{NotesToo, all_noted, has_node, noting_first, noting_second, noting_third}
-use Rattle.ell_cards.specs.Seeking.{how_many_noted, is_done, one_if}
+use Rattle.ell_cards.specs.Retiring.{how_many_noted, is_done, one_if}
 use Rattle.ell_cards.specs.SlotWords.{is_noted, taken_word, turn_in, turn_of}
 
 -- where a word is to note one node more, or not: its turn is as it was, and so is what it notes of the two others

@@ -186,7 +186,7 @@ returns-in-Err-Spent-clause-not_done g c =
     let l = c.loop-round in
     let new = c.replace.new.pass in
     let op = put_by key c.in-Some.value l.was in
-    let laid : LaidDown t op l.pass new × NoneIsLeft t.plan op 1 new = search rules in
+    let laid : LaidDown t op l.pass new × NoneIsLeft t.plan new = search rules in
     record {
       untouched = untouched_trans c.args.pass.now l.pass new l.invariant.untouched (untouched_laid t op l.pass new laid.0);
       last = record { op = op; on = put_on key c.in-Some.value l.was; nothing = inl laid.0.nothing };

@@ -5,7 +5,6 @@ use Rattle.ell_cards.specs.declared.view.Act.{Act}
 use Rattle.ell_cards.specs.Seeing.{SeesBegin}
 use Rattle.ell_tree.specs.Ends.{changes_by, try_steps_in}
 use Rattle.ell_tree.specs.Hindrances.{way_of}
-use Rattle.ell_tree.proofs.lemmas.Claiming.{still_none}
 use Rattle.ell_tree.proofs.lemmas.Counts.{took_in, took_in_within, took_in_trans, rounds_first, rounds_later, round_steps, rounds_steps}
 use Rattle.ell_tree.proofs.lemmas.Halting.{begun_meets, begun_count}
 use Rattle.ell_tree.proofs.lemmas.Hindrances.{root_hindered, one_hindered, halts_hindered}
@@ -223,7 +222,7 @@ returns-in-Spent-clause-ends g c =
         no_card = lays.no_card;
         sees = sees;
       },
-      still_none c.args.table.now.plan op c.try_once.new.pass c.leave.new.pass lays.next lays.sought lays.safe lays.took c.in-Spent.ensures.ends.1,
+      λ empty. lays.next ∙ c.in-Spent.ensures.ends.1 empty,
       begun_meets (way_of op tried) a tried c.leave.new.pass.view met halts.way lays.hindrances lays.knows,
     )
 

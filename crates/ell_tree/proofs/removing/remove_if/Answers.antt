@@ -138,7 +138,7 @@ returns-in-Err-Spent-clause-not_done g c =
     let op = Delete c.args.key in
     let l = c.loop-round in
     let new = c.remove_or_read.new.pass in
-    let laid : LaidDown t op l.pass new × NoneIsLeft t.plan op 1 new = search rules in
+    let laid : LaidDown t op l.pass new × NoneIsLeft t.plan new = search rules in
     record {
       untouched = untouched_trans c.args.pass.now l.pass new l.invariant.untouched (untouched_laid t op l.pass new laid.0);
       last = record { op = op; on = refl; nothing = inl laid.0.nothing };

@@ -6,7 +6,6 @@ use Rattle.ell_cards.proofs.lemmas.runs.Tries.{more_tries}
 use Rattle.ell_tree.specs.Ends.{AnswersAs, TakesValue, is_value}
 use Rattle.ell_tree.specs.Searches.{there_at}
 use Rattle.ell_tree.specs.declared.trying.Tried.TheVariants.{Hindered, Spent}
-use Rattle.ell_tree.proofs.lemmas.Claiming.{still_none}
 use Rattle.ell_tree.proofs.lemmas.Computing.{untouched_still}
 use Rattle.ell_tree.proofs.lemmas.Hindrances.{halts_hindered, one_hindered}
 use Rattle.ell_tree.proofs.lemmas.Keeping.{share_trans}
@@ -116,7 +115,7 @@ returns-in-Spent-clause-removes g c =
     let d = c.delete_at.new.pass in
     let ended = ends_after b s.new.pass d _ s.ensures.keeps_but_search t op Spent c.in-Spent.ensures.ends in
     let lays = c.leave-in-Spent.ensures.lays op ended.0.stops.busy in
-    (halts_laid t op c.args.pass.now b d c.leave-in-Spent.new.pass _ c.begin.ensures.begins c.begin.ensures.sees ended.0 lays, still_none t.plan op d c.leave-in-Spent.new.pass lays.next lays.sought lays.safe lays.took ended.1)
+    (halts_laid t op c.args.pass.now b d c.leave-in-Spent.new.pass _ c.begin.ensures.begins c.begin.ensures.sees ended.0 lays, λ empty. lays.next ∙ ended.1 empty)
 
 pub returns-in-Hindered-clause-removes : goal.returns-in-Hindered-clause-removes
 returns-in-Hindered-clause-removes g c =

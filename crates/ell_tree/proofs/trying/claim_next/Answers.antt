@@ -1,7 +1,7 @@
-use Rattle.std.proofs.Common.{rules, refl, ◌≢◌, None, ap, ◌∙◌, arith}
+use Rattle.std.proofs.Common.{rules, refl, ◌≢◌, None, Some, ap, ◌∙◌, arith}
 use Rattle.std.proofs.lemmas.Option.{same_Some}
 use Rattle.ell_cards.specs.Models.{PassModel, new_node}
-use Rattle.ell_tree.proofs.lemmas.Claiming.{none_found, numbers_at_end, may_claim_there, may_lay_aside, may_fill, row_goes, keeps_slot, taken_claims, in_vain, lost_claims}
+use Rattle.ell_tree.proofs.lemmas.Claiming.{may_claim_there, may_lay_aside, may_fill, row_goes, keeps_slot, taken_claims, in_vain, lost_claims}
 use Rattle.ell_tree.proofs.lemmas.LettingGo.{lets_aside_go}
 use Rattle.ell_tree.proofs.trying.claim_next.Goals as goal
 
@@ -52,16 +52,14 @@ returns-else-take_slot-clause-claims g c =
     let places : c.args.table.now.plan.slots ≢ None = λ none. search rules in
     in_vain c.args.pass.now c.next-first.new.pass c.next_takeable.new.pass c.next-first.result (new_node c.args.table.now.plan c.args.node_key) c.next-first.ensures.step c.next_takeable.ensures.same c.next-first.ensures.least
     c.claim_up_to.new.pass c.in-Some.card c.in-Some.ensures.found.0 c.args.table.now.plan c.take_slot.new.pass places (c.places_are_in_flat_trees.ensures places) c.if-not-claim_up_to.ensures.step
-    c.if-not-claim_up_to.ensures.fresh (c.take_slot.ensures.kept c.if-take_slot.false) c.next_takeable.ensures.missed (c.in-Some.ensures.sought places)
-    (c.take_slot.ensures.missed c.if-take_slot.false c.in-Some.ensures.found.2) (c.take_slot.ensures.few c.if-take_slot.false c.in-Some.ensures.found.2)
+    c.if-not-claim_up_to.ensures.fresh (c.take_slot.ensures.kept c.if-take_slot.false)
 
 -- all numbers were given out
 pub returns-then-first-last_card-clause-claims : goal.returns-then-first-last_card-clause-claims
 returns-then-first-last_card-clause-claims g c =
     let past = c.if-first-last_card.true in (
       search rules,
-      numbers_at_end c.args.table.now.plan c.args.op c.next-first.new.pass c.next-first.result (ap (λ (p : PassModel). p.view.next) c.next-first.ensures.step)
-          (omega (arith, past, c.last_card.ensures.cards)) c.next-first.ensures.room,
+      λ empty. ap (λ (p : PassModel). p.view.next) c.next-first.ensures.step ∙ ap (λ n. Some n) (omega (arith, past, c.last_card.ensures.cards, c.next-first.ensures.room)),
       search rules,
       lets_aside_go c.args.table.now.plan c.args.pass.now c.next-first.new.pass (ap (λ (p : PassModel). p.view.worker.card) c.next-first.ensures.step)
           (ap (λ (p : PassModel). p.view.worker.flagged) c.next-first.ensures.step) (ap (λ (p : PassModel). p.slot) c.next-first.ensures.step) c.requires.hand,
@@ -74,9 +72,7 @@ returns-in_default-clause-claims g c =
     let first = c.next-first.ensures.step in
     let same = c.next_takeable.ensures.same in (
       search rules,
-      none_found c.args.table.now.plan c.args.op c.next_takeable.new.pass c.next-first.result c.next-first.new.pass.view.made c.is_delete.result there
-          (ap (λ (p : PassModel). p.view.next) same ∙ ap (λ (p : PassModel). p.view.next) first) (ap (λ (p : PassModel). p.view.made) same) c.is_delete.ensures
-          (c.next_takeable.ensures.none c.in_default.is),
+      λ empty. absurd (there empty),
       search rules,
       lets_aside_go c.args.table.now.plan c.args.pass.now c.next_takeable.new.pass (ap (λ (p : PassModel). p.view.worker.card) same ∙ ap (λ (p : PassModel). p.view.worker.card) first)
           (ap (λ (p : PassModel). p.view.worker.flagged) same ∙ ap (λ (p : PassModel). p.view.worker.flagged) first)

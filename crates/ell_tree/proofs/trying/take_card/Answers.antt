@@ -81,7 +81,7 @@ returns-clause-keeps g c =
 pub returns-clause-claims : goal.returns-clause-claims
 returns-clause-claims g c =
     asked_in_vain c.args.table.now.plan c.loop.counter c.args.pass.now c.loop.pass c.args.op c.args.place c.args.node_key c.loop.invariant.asked
-    (omega (arith, c.loop-test.false, c.loop.auto.counter-end, c.loop.invariant.end))
+    (omega (arith, claims_some c.args.table.now.plan.slots, c.loop-test.false, c.loop.invariant.end))
 
 pub returns-clause-limit : goal.returns-clause-limit
 returns-clause-limit g c =

@@ -3,7 +3,7 @@ use prog.Atomic.{either}
 use Rattle.ell_cards.specs.Calls.{Exchange}
 use Rattle.ell_cards.proofs.lemmas.seats.Opened.{owed, stepped}
 use Rattle.ell_cards.proofs.lemmas.whole.Calling.Notes.{nothing}
-use Rattle.ell_cards.proofs.lemmas.whole.Calling.{exchange_calm, quiet_begins, none_flags, exchange_does, exchange_stores}
+use Rattle.ell_cards.proofs.lemmas.whole.Calling.{exchange_calm, none_flags, exchange_does, exchange_stores}
 use Rattle.ell_cards.proofs.lemmas.whole.Lifts.{stores_word, plain_shown}
 use Rattle.ell_cards.proofs.lemmas.whole.Places.{same_place}
 use Rattle.ell_cards.proofs.table.CardTable.exchange_as.Goals as goal
@@ -13,7 +13,7 @@ compare_exchange-found-requires g c =
     let does = c.requires.exchanges in
     owed _ _ _ _ c.self.view_is c.pass.view_is c.requires.own c.self.invariant.0 c.self.invariant.8 c.pass.inside.seat.me.0 refl c.pass.inside.seat.id refl refl c.pass.inside.seat.me.1 c.pass.inside.keys.items c.pass.inside.share c.pass.inside.standing c.args.word
     (λ n. either (n == c.args.expected) c.args.value n) g.J.Telling.then (λ n. c.pass.inside.seat.me.0.period) c.args.call c.self.invariant.1 c.pass.invariant.1 c.pass.invariant.0 c.pass.invariant.2 (stores_word c.args.call (Exchange c.args.expected does.whole) does.is tt (plain_shown c.args.call (exchange_stores c.args.call c.args.expected does.whole does.is))) c.requires.word c.requires.may
-    c.requires.kept (exchange_does c.args.self.now.plan c.args.call c.args.expected c.args.value does) (λ placed none. c.requires.quiet) (λ fill. absurd (exchange_stores c.args.call c.args.expected does.whole does.is fill)) c.requires.tells (λ n small. nothing refl (quiet_begins c.args.call c.requires.quiet) (λ some d flags. absurd (none_flags c.args.call c.requires.unflagging d flags))) (exchange_calm c.args.call c.args.expected does.whole does.is)
+    c.requires.kept (exchange_does c.args.self.now.plan c.args.call c.args.expected c.args.value does) (λ placed none. c.requires.quiet) (λ fill. absurd (exchange_stores c.args.call c.args.expected does.whole does.is fill)) c.requires.tells (λ n small. nothing refl (λ some d flags. absurd (none_flags c.args.call c.requires.unflagging d flags))) (exchange_calm c.args.call c.args.expected does.whole does.is)
 
 pub invariant_of-pass : goal.invariant_of-pass
 invariant_of-pass g c =

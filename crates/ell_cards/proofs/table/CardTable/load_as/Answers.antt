@@ -2,7 +2,7 @@ use Rattle.std.proofs.Common.{◌∙◌, refl, ap}
 use Rattle.ell_cards.specs.Calls.{Load}
 use Rattle.ell_cards.proofs.lemmas.seats.Opened.{owed, stepped}
 use Rattle.ell_cards.proofs.lemmas.whole.Calling.Notes.{nothing}
-use Rattle.ell_cards.proofs.lemmas.whole.Calling.{quiet_begins, load_flags, load_does, load_stores}
+use Rattle.ell_cards.proofs.lemmas.whole.Calling.{load_flags, load_does, load_stores}
 use Rattle.ell_cards.proofs.lemmas.whole.Lifts.{stores_word, plain_shown}
 use Rattle.ell_cards.proofs.lemmas.whole.Places.{same_place}
 use Rattle.ell_cards.proofs.table.CardTable.load_as.Goals as goal
@@ -12,7 +12,7 @@ load-requires g c =
     owed _ _ _ _ c.self.view_is c.pass.view_is c.requires.own c.self.invariant.0 c.self.invariant.8 c.pass.inside.seat.me.0 refl c.pass.inside.seat.id refl refl c.pass.inside.seat.me.1 c.pass.inside.keys.items c.pass.inside.share c.pass.inside.standing c.args.word
     (λ n. n) g.J.Telling.then (λ n. c.pass.inside.seat.me.0.period) c.args.call c.self.invariant.1 c.pass.invariant.1 c.pass.invariant.0 c.pass.invariant.2 (stores_word c.args.call Load c.requires.atomic tt (plain_shown c.args.call (load_stores c.args.call c.requires.atomic))) c.requires.word c.requires.may
     c.requires.kept (load_does c.args.self.now.plan c.args.call c.requires.atomic)
-    (λ placed none. c.requires.quiet) (λ fill. absurd (load_stores c.args.call c.requires.atomic fill)) c.requires.tells (λ n small. nothing refl (quiet_begins c.args.call c.requires.quiet) (λ some d flags. absurd (load_flags c.args.call c.requires.atomic d flags))) c.requires.calm
+    (λ placed none. c.requires.quiet) (λ fill. absurd (load_stores c.args.call c.requires.atomic fill)) c.requires.tells (λ n small. nothing refl (λ some d flags. absurd (load_flags c.args.call c.requires.atomic d flags))) c.requires.calm
 
 pub invariant_of-pass : goal.invariant_of-pass
 invariant_of-pass g c =

@@ -1,7 +1,7 @@
 use Rattle.std.specs.Prelude.{◌≡◌, ◌≤◌, [], Some, false}
 use Rattle.ell_cards.specs.Noting.{MayNote}
 use Rattle.ell_cards.specs.Periods.{StandsAs}
-use Rattle.ell_cards.specs.Seeking.{how_many_noted, is_done, retires_if}
+use Rattle.ell_cards.specs.Retiring.{how_many_noted, is_done, retires_if}
 use Rattle.ell_cards.specs.SlotWords.{slot_of}
 use Rattle.ell_cards.proofs.table.CardTable.note_dead.Given as goal
 
@@ -15,7 +15,7 @@ invariant-loop g l = record {
   slot : l.seat.me.0.period.slot ≡ l.fn.seat.me.0.period.slot;
   lost : l.seat.me.0.period.lost ≡ l.fn.seat.me.0.period.lost;
   read : l.seat.me.0.period.read ≡ Some (record { slot = slot_of l.fn.card; word = l.word });
-  sought : l.seat.me.0.period.sought ≡ retires_if (is_done l.fn.taken_out l.fn.card l.fn.nodes l.word) l.fn.taken_out l.fn.nodes l.fn.seat.me.0.period.sought;
+  retired : l.seat.me.0.period.retired ≡ retires_if (is_done l.fn.taken_out l.fn.card l.fn.nodes l.word) l.fn.taken_out l.fn.nodes l.fn.seat.me.0.period.retired;
   may : is_done l.fn.taken_out l.fn.card l.fn.nodes l.word ≡ false → MayNote l.fn.seat.me.0.tree l.fn.taken_out l.fn.card l.fn.nodes l.word;
   more : is_done l.fn.taken_out l.fn.card l.fn.nodes l.word ≡ false → l.counter ≤ how_many_noted l.word;
   safe : l.seat.me.0.period.safe ≡ l.fn.seat.me.0.period.safe;

@@ -1,4 +1,4 @@
-use Rattle.std.proofs.Common.{◌≢◌, ◌≤◌, ◌==◌, None, Some, sym, ap, ◌∙◌, subst}
+use Rattle.std.proofs.Common.{◌==◌, Some, sym, ap, ◌∙◌, subst}
 use Rattle.ell_cards.specs.declared.view.Period.{Period}
 use Rattle.ell_cards.specs.declared.view.View.{View}
 use Rattle.ell_cards.specs.Noting.{MayNote, MayNoteNext, MayRetire}
@@ -18,8 +18,7 @@ exchange_noted-requires-clause-rule g c =
     frees_slot c.args.self.now.plan c.args.slots c.requires.slots c.args.taken_out c.args.card c.args.nodes c.requires.slot c.stamp-reading.new.seat.me.0
     (subst (λ (v : View). MayRetire (shown v) c.args.taken_out c.args.card c.args.nodes) same c.requires.retires)
     c.args.word c.stamp-reading.result (ap (λ (p : Period). p.read) c.stamp-reading.ensures.stamp ∙ c.requires.read)
-    (subst (λ (v : View). MayNote v c.args.taken_out c.args.card c.args.nodes c.args.word) same c.requires.may) c.requires.last
-    (subst (λ (p : Period). p.announced ≢ None → p.began ≤ c.stamp-reading.result) (sym c.stamp-reading.ensures.stamp) c.stamp-reading.ensures.late)
+    (subst (λ (v : View). MayNote v c.args.taken_out c.args.card c.args.nodes c.args.word) same c.requires.may)
     (ap (λ (p : Period). p.stamp) c.stamp-reading.ensures.stamp ∙ ap (λ y. Some (record { card = card_by y c.args.word; reading = c.stamp-reading.result })) c.slot_of.ensures)
 
 pub returns-clause-period : goal.returns-clause-period

@@ -1,7 +1,7 @@
 use Rattle.std.specs.Prelude.{◌≡◌, false}
 use Rattle.ell_cards.specs.Noting.{MayNote}
 use Rattle.ell_cards.specs.Periods.{after_noting_read}
-use Rattle.ell_cards.specs.Seeking.{is_done}
+use Rattle.ell_cards.specs.Retiring.{is_done}
 use Rattle.ell_cards.proofs.table.CardTable.read_to_note.Given as goal
 
 abbrev pub ghosts-load_noted : goal.ghosts-load_noted

@@ -12,7 +12,7 @@ invariant-loop-place g l = record {
   tree : l.seat.me.0.tree ≡ l.fn.seat.me.0.tree;
   stands : StandsAs l.fn.seat.me.0.period l.seat.me.0.period;
   slot : l.seat.me.0.period.slot ≡ l.fn.seat.me.0.period.slot;
-  sought : l.seat.me.0.period.sought ≡ l.fn.seat.me.0.period.sought;
+  retired : l.seat.me.0.period.retired ≡ l.fn.seat.me.0.period.retired;
   lost : l.seat.me.0.period.lost ≡ l.fn.seat.me.0.period.lost;
   looked : l.seat.me.0.period.looked ≡ l.place;
   least : l.seat.me.0.period.least ≡ l.least;

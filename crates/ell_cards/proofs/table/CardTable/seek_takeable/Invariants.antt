@@ -1,14 +1,11 @@
 use Rattle.std.specs.Prelude.{◌≡◌, ◌≤◌, true}
 use Rattle.ell_cards.specs.SlotWords.{has_slot_in}
-use Rattle.ell_cards.proofs.lemmas.whole.Seeking.{RowSoFar}
 use Rattle.ell_cards.proofs.table.CardTable.seek_takeable.Given as goal
 
 -- so many slots were read in a row
 abbrev pub invariant-loop-read : goal.invariant-loop-read
 invariant-loop-read g l = record {
-  pass : l.pass ≡ record l.fn.pass { sought = l.pass.sought };
-  missed : l.pass.sought.missed ≡ l.fn.pass.sought.missed;
+  pass : l.pass ≡ l.fn.pass;
   from : l.fn.card ≤ l.next;
   slot : has_slot_in l.slots.last l.next ≡ true;
-  row : RowSoFar l.slots l.fn.card l.fn.for_delete l.fn.pass.view.made l.fn.pass.safe l.next l.read l.pass.sought;
 }

@@ -1,4 +1,4 @@
-use Rattle.std.proofs.Common.{◌≡◌, ◌≢◌, ◌==◌, ◌+◌, ◌*◌, ◌≤◌, None, Some, inr, ap, ◌∙◌, sym, subst}
+use Rattle.std.proofs.Common.{◌≡◌, ◌==◌, ◌+◌, ◌*◌, ◌≤◌, Some, inr, ap, ◌∙◌, sym, subst}
 use prog.Atomic.{either}
 use Rattle.ell_cards.specs.declared.view.Period.{Period}
 use Rattle.ell_cards.specs.Periods.{after_freeing, after_stamp, slot_word}
@@ -26,7 +26,6 @@ period_exchange-requires-clause-rule g c =
     (frees_aside c.args.self.now.plan c.args.slots c.requires.slots k c.args.card c.stamp-reading.result
     (ap (λ (p : Period). p.lost) c.stamp-reading.ensures.stamp ∙ c.requires.lost)
     (ap (λ (p : Period). p.slot) c.stamp-reading.ensures.stamp ∙ c.requires.taken)
-    (subst (λ (p : Period). p.announced ≢ None → p.began ≤ c.stamp-reading.result) (sym c.stamp-reading.ensures.stamp) c.stamp-reading.ensures.late)
     (ap (λ (p : Period). p.stamp) c.stamp-reading.ensures.stamp
     ∙ ap (λ d. Some (record { card = d; reading = c.stamp-reading.result })) (card_there c.args.card c.slot_of.result c.turn_of.result c.slot_of.ensures c.turn_of.ensures))) in
     subst (λ i. MayGoOn c.args.self.now.plan k i (λ n. either (n == 8 * c.turn_of.result + 7) (8 * c.stamp-reading.result) n) (λ n p. p ≡ after_freeing k.period)) (sym word) now

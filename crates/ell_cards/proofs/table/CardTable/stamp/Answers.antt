@@ -14,6 +14,3 @@ returns-clause-low g c = c.stamp_load.ensures.told.1
 
 pub returns-clause-inside : goal.returns-clause-inside
 returns-clause-inside g c = c.stamp_load.ensures.told.2
-
-pub returns-clause-late : goal.returns-clause-late
-returns-clause-late g c = c.stamp_load.ensures.told.3
