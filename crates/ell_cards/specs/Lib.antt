@@ -35,6 +35,8 @@ pub mod TurnEffects
 pub mod Starts
 -- the places of passes and the clock: where their words stand, and what passes know of grace periods
 pub mod Periods
+-- what the steps on the words of periods and of slots leave as it was
+pub mod Frames
 -- cards that were laid aside
 pub mod Aside
 -- what is dead in a table's tree, and was when periods began

@@ -1,13 +1,14 @@
 //! Grace periods: where a table has places, a pass tells at its own when it is in an operation or a look, and a number is
 //! safe if every pass that is in one began it when the clock was that at least. Their steps are on words of their own, and are
 //! not counted.
-ghost use Rattle.std.specs.Prelude.{◌≡◌, ℕ, ◌≢◌, ◌⊎◌, ◌≤◌, ◌<◌, ◌+◌, ◌%◌, ◌==◌, max, if◌then◌else◌, is_some, None, Some, [], true, false, IfSome};
+ghost use Rattle.std.specs.Prelude.{◌≡◌, ℕ, ◌≢◌, ◌⊎◌, ◌≤◌, ◌<◌, ◌+◌, ◌%◌, ◌==◌, max, if◌then◌else◌, is_some, None, Some, true, false, IfSome};
 ghost use prog.Atomic.{either};
 ghost use Rattle.ell_word.specs.Node.{greatest_card};
 ghost use Rattle.ell_grace.specs.Grace.{least_with};
 ghost use Rattle.ell_cards.specs.Models.{last_slot_of};
+ghost use Rattle.ell_cards.specs.Frames.{IsSeatOf, IsSeatWithSlots, KeepsSafe, LeavesTree, StandsStill};
 ghost use Rattle.ell_cards.specs.Inside.{PlaceFits};
-ghost use Rattle.ell_cards.specs.Periods.{IsAtRest, LooksAnew, StandsAs, after_announce, after_retract, after_clock, after_give, after_look_at, after_release, after_take, after_tick, announced_by, clock_word, last_reading, place_word, slots_size};
+ghost use Rattle.ell_cards.specs.Periods.{IsAtRest, LooksAnew, after_announce, after_retract, after_clock, after_give, after_look_at, after_release, after_take, after_tick, announced_by, clock_word, last_reading, place_word, slots_size};
 ghost use Rattle.ell_cards.specs.Stepping.{MayGoOn};
 ghost use Rattle.ell_cards.specs.Shown.{shown};
 
@@ -95,14 +96,11 @@ impl<M: Memory> CardTable<M> {
     // Loads a word of the periods.
     #[inline(always)]
     pub(crate) fn period_load<J: PeriodTelling>(&self, seat: &mut Seat<M>, word: usize) -> u64
-        requires own { seat.old.table_id ≡ self.now.id }
-        requires empty { seat.old.me.1 ≡ [] }
+        requires seat { IsSeatOf self.now seat.old }
         requires word { word < self.now.id.words }
         requires rule { MayGoOn self.now.plan seat.old.me.0 word (λ n. n) J.then }
         ensures told { J.then result seat.new.me.0.period }
-        ensures tree { seat.new.me.0.tree ≡ seat.old.me.0.tree }
-        ensures sight { seat.new.me.0.sight ≡ seat.old.me.0.sight }
-        ensures seat { (seat.new.table_id ≡ seat.old.table_id) × (seat.new.me.1 ≡ []) }
+        ensures leaves { LeavesTree seat.old seat.new }
     {
         self.table.load::<InPeriod<J>>(seat, word)
     }
@@ -110,14 +108,11 @@ impl<M: Memory> CardTable<M> {
     // Stores a word of the periods.
     #[inline(always)]
     fn period_store<J: PeriodTelling>(&self, seat: &mut Seat<M>, word: usize, value: u64)
-        requires own { seat.old.table_id ≡ self.now.id }
-        requires empty { seat.old.me.1 ≡ [] }
+        requires seat { IsSeatOf self.now seat.old }
         requires word { word < self.now.id.words }
         requires rule { MayGoOn self.now.plan seat.old.me.0 word (λ n. value) (λ n. J.then value) }
         ensures told { J.then value seat.new.me.0.period }
-        ensures tree { seat.new.me.0.tree ≡ seat.old.me.0.tree }
-        ensures sight { seat.new.me.0.sight ≡ seat.old.me.0.sight }
-        ensures seat { (seat.new.table_id ≡ seat.old.table_id) × (seat.new.me.1 ≡ []) }
+        ensures leaves { LeavesTree seat.old seat.new }
     {
         self.table.store::<InPeriod<J>>(seat, word, value)
     }
@@ -131,14 +126,11 @@ impl<M: Memory> CardTable<M> {
         expected: u64,
         value: u64,
     ) -> u64
-        requires own { seat.old.table_id ≡ self.now.id }
-        requires empty { seat.old.me.1 ≡ [] }
+        requires seat { IsSeatOf self.now seat.old }
         requires word { word < self.now.id.words }
         requires rule { MayGoOn self.now.plan seat.old.me.0 word (λ n. either (n == expected) value n) J.then }
         ensures told { J.then result seat.new.me.0.period }
-        ensures tree { seat.new.me.0.tree ≡ seat.old.me.0.tree }
-        ensures sight { seat.new.me.0.sight ≡ seat.old.me.0.sight }
-        ensures seat { (seat.new.table_id ≡ seat.old.table_id) × (seat.new.me.1 ≡ []) }
+        ensures leaves { LeavesTree seat.old seat.new }
     {
         self.table
             .compare_exchange::<InPeriod<J>>(seat, word, expected, value)
@@ -168,48 +160,36 @@ impl<M: Memory> CardTable<M> {
 
     // Reads the clock, which never goes back.
     fn read_clock(&self, seat: &mut Seat<M>, slots: Slots) -> u64
-        requires own { seat.old.table_id ≡ self.now.id }
-        requires empty { seat.old.me.1 ≡ [] }
-        requires slots { self.now.plan.slots ≡ Some slots }
+        requires seat { IsSeatWithSlots self.now slots seat.old }
         ensures clock { seat.new.me.0.period ≡ after_clock result seat.old.me.0.period }
         ensures low { result ≤ last_reading }
         ensures later { (n : ℕ) → seat.old.me.0.period.reading ≡ Some n → n ≤ result }
         ensures since { seat.old.me.0.period.surveyed.clock ≤ result }
-        ensures tree { seat.new.me.0.tree ≡ seat.old.me.0.tree }
-        ensures sight { seat.new.me.0.sight ≡ seat.old.me.0.sight }
-        ensures seat { (seat.new.table_id ≡ seat.old.table_id) × (seat.new.me.1 ≡ []) }
+        ensures leaves { LeavesTree seat.old seat.new }
     {
         self.period_load::<Brand>(seat, self.clock_address(slots))
     }
 
     // Announces a reading of the clock at the place of a pass that announces nothing.
     fn announce(&self, seat: &mut Seat<M>, slots: Slots, place: u64, reading: u64)
-        requires own { seat.old.table_id ≡ self.now.id }
-        requires empty { seat.old.me.1 ≡ [] }
-        requires slots { self.now.plan.slots ≡ Some slots }
+        requires seat { IsSeatWithSlots self.now slots seat.old }
         requires place { seat.old.me.0.period.place ≡ Some place }
         requires reading { seat.old.me.0.period.reading ≡ Some reading }
         requires low { reading ≤ last_reading }
         requires quiet { seat.old.me.0.period.announced ≡ None }
         ensures announced { (clock : ℕ) × (reading ≤ clock) × (seat.new.me.0.period ≡ after_announce reading clock seat.old.me.0.period) }
-        ensures tree { seat.new.me.0.tree ≡ seat.old.me.0.tree }
-        ensures sight { seat.new.me.0.sight ≡ seat.old.me.0.sight }
-        ensures seat { (seat.new.table_id ≡ seat.old.table_id) × (seat.new.me.1 ≡ []) }
+        ensures leaves { LeavesTree seat.old seat.new }
     {
         self.period_store::<Brand>(seat, self.place_address(slots, place), reading + 2)
     }
 
     // Takes the announcement of a pass at rest away from its place.
     fn retract(&self, seat: &mut Seat<M>, slots: Slots, place: u64)
-        requires own { seat.old.table_id ≡ self.now.id }
-        requires empty { seat.old.me.1 ≡ [] }
-        requires slots { self.now.plan.slots ≡ Some slots }
+        requires seat { IsSeatWithSlots self.now slots seat.old }
         requires place { seat.old.me.0.period.place ≡ Some place }
         requires rest { IsAtRest (shown seat.old.me.0.tree) }
         ensures announced { seat.new.me.0.period ≡ after_retract seat.old.me.0.period }
-        ensures tree { seat.new.me.0.tree ≡ seat.old.me.0.tree }
-        ensures sight { seat.new.me.0.sight ≡ seat.old.me.0.sight }
-        ensures seat { (seat.new.table_id ≡ seat.old.table_id) × (seat.new.me.1 ≡ []) }
+        ensures leaves { LeavesTree seat.old seat.new }
     {
         self.period_store::<Brand>(seat, self.place_address(slots, place), 1)
     }
@@ -217,19 +197,15 @@ impl<M: Memory> CardTable<M> {
     // Begins a period, if there are places and the pass is in none: it reads the clock, and announces that.
     #[inline(always)]
     pub(crate) fn enter(&self, standing: &mut Standing, seat: &mut Seat<M>)
-        requires own { seat.old.table_id ≡ self.now.id }
-        requires empty { seat.old.me.1 ≡ [] }
+        requires seat { IsSeatOf self.now seat.old }
         requires fits { PlaceFits standing.old seat.old.table_id.words seat.old.me.0.period }
         ensures inside { is_some seat.new.me.0.period.announced ≡ is_some self.now.plan.slots }
         ensures fits { PlaceFits standing.new seat.new.table_id.words seat.new.me.0.period }
-        ensures safe { seat.new.me.0.period.safe ≡ seat.old.me.0.period.safe }
-        ensures surveyed { seat.new.me.0.period.surveyed ≡ seat.old.me.0.period.surveyed }
+        ensures keeps { KeepsSafe seat.old.me.0.period seat.new.me.0.period }
         ensures slot { seat.new.me.0.period.slot ≡ seat.old.me.0.period.slot }
         ensures retired { seat.new.me.0.period.retired ≡ seat.old.me.0.period.retired }
         ensures lost { seat.new.me.0.period.lost ≡ seat.old.me.0.period.lost }
-        ensures tree { seat.new.me.0.tree ≡ seat.old.me.0.tree }
-        ensures sight { seat.new.me.0.sight ≡ seat.old.me.0.sight }
-        ensures seat { (seat.new.table_id ≡ seat.old.table_id) × (seat.new.me.1 ≡ []) }
+        ensures leaves { LeavesTree seat.old seat.new }
     {
         let _ = &self.table;
         if standing.announces {
@@ -263,16 +239,12 @@ impl<M: Memory> CardTable<M> {
 
     // Takes a place that no pass has, if it is free. Returns `true` if it was.
     fn take_place(&self, seat: &mut Seat<M>, slots: Slots, place: u64) -> bool
-        requires own { seat.old.table_id ≡ self.now.id }
-        requires empty { seat.old.me.1 ≡ [] }
-        requires slots { self.now.plan.slots ≡ Some slots }
+        requires seat { IsSeatWithSlots self.now slots seat.old }
         requires there { place < slots.places }
         requires none { seat.old.me.0.period.other ≡ None }
         ensures taken { result ≡ true → seat.new.me.0.period ≡ after_take place 0 seat.old.me.0.period }
         ensures lost { result ≡ false → seat.new.me.0.period ≡ seat.old.me.0.period }
-        ensures tree { seat.new.me.0.tree ≡ seat.old.me.0.tree }
-        ensures sight { seat.new.me.0.sight ≡ seat.old.me.0.sight }
-        ensures seat { (seat.new.table_id ≡ seat.old.table_id) × (seat.new.me.1 ≡ []) }
+        ensures leaves { LeavesTree seat.old seat.new }
     {
         self.period_exchange::<Brand>(seat, self.place_address(slots, place), 0, 1) == 0
     }
@@ -280,14 +252,11 @@ impl<M: Memory> CardTable<M> {
     // Takes a place that no pass has, if there are places and one is free. It looks at each once, first at the one behind the
     // place that was found last, so that many places are found in a row with few looks at those that are taken.
     pub(crate) fn find_place(&self, seat: &mut Seat<M>, found: u64) -> Option<u64>
-        requires own { seat.old.table_id ≡ self.now.id }
-        requires empty { seat.old.me.1 ≡ [] }
+        requires seat { IsSeatOf self.now seat.old }
         requires none { seat.old.me.0.period.other ≡ None }
         ensures taken { IfSome result (λ q. (seat.new.me.0.period ≡ after_take q 0 seat.old.me.0.period) × (self.now.plan.slots ≢ None)) }
         ensures lost { result ≡ None → seat.new.me.0.period ≡ seat.old.me.0.period }
-        ensures tree { seat.new.me.0.tree ≡ seat.old.me.0.tree }
-        ensures sight { seat.new.me.0.sight ≡ seat.old.me.0.sight }
-        ensures seat { (seat.new.table_id ≡ seat.old.table_id) × (seat.new.me.1 ≡ []) }
+        ensures leaves { LeavesTree seat.old seat.new }
     {
         let slots = self.slots?;
         for looks in 0..slots.places {
@@ -301,14 +270,11 @@ impl<M: Memory> CardTable<M> {
 
     // Gives the other place of a pass back, if it has one.
     pub(crate) fn give_back(&self, seat: &mut Seat<M>, place: Option<u64>)
-        requires own { seat.old.table_id ≡ self.now.id }
-        requires empty { seat.old.me.1 ≡ [] }
+        requires seat { IsSeatOf self.now seat.old }
         requires other { seat.old.me.0.period.other ≡ place }
         requires none { self.now.plan.slots ≡ None → place ≡ None }
         ensures given { seat.new.me.0.period ≡ (if is_some place then after_give seat.old.me.0.period else seat.old.me.0.period) }
-        ensures tree { seat.new.me.0.tree ≡ seat.old.me.0.tree }
-        ensures sight { seat.new.me.0.sight ≡ seat.old.me.0.sight }
-        ensures seat { (seat.new.table_id ≡ seat.old.table_id) × (seat.new.me.1 ≡ []) }
+        ensures leaves { LeavesTree seat.old seat.new }
     {
         let (Some(slots), Some(place)) = (self.slots, place) else {
             return;
@@ -318,30 +284,22 @@ impl<M: Memory> CardTable<M> {
 
     // Gives the place of a pass back that announces nothing, as the pass is given up.
     pub(crate) fn give_up(&self, seat: &mut Seat<M>, slots: Slots, place: u64)
-        requires own { seat.old.table_id ≡ self.now.id }
-        requires empty { seat.old.me.1 ≡ [] }
-        requires slots { self.now.plan.slots ≡ Some slots }
+        requires seat { IsSeatWithSlots self.now slots seat.old }
         requires place { seat.old.me.0.period.place ≡ Some place }
         requires quiet { seat.old.me.0.period.announced ≡ None }
         ensures free { seat.new.me.0.period ≡ after_release seat.old.me.0.period }
-        ensures tree { seat.new.me.0.tree ≡ seat.old.me.0.tree }
-        ensures sight { seat.new.me.0.sight ≡ seat.old.me.0.sight }
-        ensures seat { (seat.new.table_id ≡ seat.old.table_id) × (seat.new.me.1 ≡ []) }
+        ensures leaves { LeavesTree seat.old seat.new }
     {
         self.period_store::<Brand>(seat, self.place_address(slots, place), 0)
     }
 
     // Lets the clock go on by one from a reading of it, unless it has gone on since.
     fn tick(&self, seat: &mut Seat<M>, slots: Slots, reading: u64)
-        requires own { seat.old.table_id ≡ self.now.id }
-        requires empty { seat.old.me.1 ≡ [] }
-        requires slots { self.now.plan.slots ≡ Some slots }
+        requires seat { IsSeatWithSlots self.now slots seat.old }
         requires read { seat.old.me.0.period.reading ≡ Some reading }
         requires low { reading < last_reading }
         ensures period { seat.new.me.0.period ≡ after_tick reading seat.old.me.0.period }
-        ensures tree { seat.new.me.0.tree ≡ seat.old.me.0.tree }
-        ensures sight { seat.new.me.0.sight ≡ seat.old.me.0.sight }
-        ensures seat { (seat.new.table_id ≡ seat.old.table_id) × (seat.new.me.1 ≡ []) }
+        ensures leaves { LeavesTree seat.old seat.new }
     {
         self.period_exchange::<Brand>(seat, self.clock_address(slots), reading, reading + 1);
     }
@@ -349,21 +307,14 @@ impl<M: Memory> CardTable<M> {
     // Reads the clock, and lets it go on, unless it stops there: by then it is past what it was when the pass looked at
     // all places last.
     pub(crate) fn advance(&self, seat: &mut Seat<M>, slots: Slots)
-        requires own { seat.old.table_id ≡ self.now.id }
-        requires empty { seat.old.me.1 ≡ [] }
-        requires slots { self.now.plan.slots ≡ Some slots }
+        requires seat { IsSeatWithSlots self.now slots seat.old }
         ensures on { IfSome seat.new.me.0.period.reading (λ n.
             (seat.old.me.0.period.surveyed.clock < n) ⊎ (n ≡ last_reading)) }
         ensures read { seat.new.me.0.period.reading ≢ None }
-        ensures stands { StandsAs seat.old.me.0.period seat.new.me.0.period }
-        ensures safe { seat.new.me.0.period.safe ≡ seat.old.me.0.period.safe }
-        ensures surveyed { seat.new.me.0.period.surveyed ≡ seat.old.me.0.period.surveyed }
-        ensures slot { seat.new.me.0.period.slot ≡ seat.old.me.0.period.slot }
+        ensures still { StandsStill seat.old.me.0.period seat.new.me.0.period }
+        ensures keeps { KeepsSafe seat.old.me.0.period seat.new.me.0.period }
         ensures retired { seat.new.me.0.period.retired ≡ seat.old.me.0.period.retired }
-        ensures lost { seat.new.me.0.period.lost ≡ seat.old.me.0.period.lost }
-        ensures tree { seat.new.me.0.tree ≡ seat.old.me.0.tree }
-        ensures sight { seat.new.me.0.sight ≡ seat.old.me.0.sight }
-        ensures seat { (seat.new.table_id ≡ seat.old.table_id) × (seat.new.me.1 ≡ []) }
+        ensures leaves { LeavesTree seat.old seat.new }
     {
         let reading = self.read_clock(seat, slots);
         if reading < LAST_READING {
@@ -373,15 +324,11 @@ impl<M: Memory> CardTable<M> {
 
     // Looks at the next place, and returns its word.
     fn look_at(&self, seat: &mut Seat<M>, slots: Slots, place: u64) -> u64
-        requires own { seat.old.table_id ≡ self.now.id }
-        requires empty { seat.old.me.1 ≡ [] }
-        requires slots { self.now.plan.slots ≡ Some slots }
+        requires seat { IsSeatWithSlots self.now slots seat.old }
         requires next { place ≡ seat.old.me.0.period.looked }
         requires there { place < slots.places }
         ensures looked { seat.new.me.0.period ≡ after_look_at slots.places result seat.old.me.0.period }
-        ensures tree { seat.new.me.0.tree ≡ seat.old.me.0.tree }
-        ensures sight { seat.new.me.0.sight ≡ seat.old.me.0.sight }
-        ensures seat { (seat.new.table_id ≡ seat.old.table_id) × (seat.new.me.1 ≡ []) }
+        ensures leaves { LeavesTree seat.old seat.new }
     {
         self.period_load::<Brand>(seat, self.place_address(slots, place))
     }
@@ -389,21 +336,15 @@ impl<M: Memory> CardTable<M> {
     // Reads the clock, and looks at all places. Returns the least number that it saw, which is the pass's safe number
     // from now on, unless the last one is greater.
     fn scan(&self, seat: &mut Seat<M>, slots: Slots) -> u64
-        requires own { seat.old.table_id ≡ self.now.id }
-        requires empty { seat.old.me.1 ≡ [] }
-        requires slots { self.now.plan.slots ≡ Some slots }
+        requires seat { IsSeatWithSlots self.now slots seat.old }
         ensures safe { seat.new.me.0.period.safe ≡ max result seat.old.me.0.period.safe }
         ensures least { seat.new.me.0.period.surveyed.least ≡ result }
         ensures later { (n : ℕ) → seat.old.me.0.period.reading ≡ Some n → n ≤ seat.new.me.0.period.surveyed.clock }
         ensures since { seat.old.me.0.period.surveyed.clock ≤ seat.new.me.0.period.surveyed.clock }
         ensures low { seat.new.me.0.period.surveyed.clock ≤ last_reading }
-        ensures stands { StandsAs seat.old.me.0.period seat.new.me.0.period }
-        ensures slot { seat.new.me.0.period.slot ≡ seat.old.me.0.period.slot }
+        ensures still { StandsStill seat.old.me.0.period seat.new.me.0.period }
         ensures retired { seat.new.me.0.period.retired ≡ seat.old.me.0.period.retired }
-        ensures lost { seat.new.me.0.period.lost ≡ seat.old.me.0.period.lost }
-        ensures tree { seat.new.me.0.tree ≡ seat.old.me.0.tree }
-        ensures sight { seat.new.me.0.sight ≡ seat.old.me.0.sight }
-        ensures seat { (seat.new.table_id ≡ seat.old.table_id) × (seat.new.me.1 ≡ []) }
+        ensures leaves { LeavesTree seat.old seat.new }
     {
         let _ = &self.table;
         let clock = self.read_clock(seat, slots);

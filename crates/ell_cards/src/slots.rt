@@ -3,13 +3,14 @@
 //! the clock as its stamp, and a pass takes the slot for another card once that stamp is safe. The numbers of a later
 //! turn that child words do not tell from the first have no slots. The steps are not counted.
 ghost use prog.Atomic.{either};
-ghost use Rattle.std.specs.Prelude.{◌==◌, ◌≡◌, ◌≢◌, ◌+◌, ◌*◌, ◌<◌, ◌≤◌, ◌%◌, ◌⊎◌, ◌||◌, ℕ, IfSome, None, Some, [], true, false};
+ghost use Rattle.std.specs.Prelude.{◌==◌, ◌≡◌, ◌≢◌, ◌+◌, ◌*◌, ◌<◌, ◌≤◌, ◌%◌, ◌⊎◌, ◌||◌, ℕ, IfSome, None, Some, true, false};
 ghost use Rattle.ell_word.specs.Node.{card, turn_size};
 ghost use Rattle.ell_cards.specs.Ages.{MayStamp};
 ghost use Rattle.ell_cards.specs.CardNodes.{NotesToo, has_node, node_alone};
 ghost use Rattle.ell_cards.specs.Dead.{HasTakenOut};
+ghost use Rattle.ell_cards.specs.Frames.{IsSeatOf, IsSeatWithSlots, KeepsSafe, LeavesTree, StandsStill};
 ghost use Rattle.ell_cards.specs.Guards.{MayFill};
-ghost use Rattle.ell_cards.specs.Periods.{clock_word, StandsAs, LostIs, after_freeing, after_noting, after_noting_read, after_read, after_stamp, after_taking, has_slot, last_reading, slot_word};
+ghost use Rattle.ell_cards.specs.Periods.{clock_word, LostIs, after_freeing, after_noting, after_noting_read, after_read, after_stamp, after_taking, has_slot, last_reading, slot_word};
 ghost use Rattle.ell_cards.specs.Retiring.{is_done, none_retired, retires_if, with_retired};
 ghost use Rattle.ell_cards.specs.Noting.{AreTakenOut, HasNoted, MayNote, MayNoteNext, MayRetire, NeverCome, retires_in};
 ghost use Rattle.ell_cards.specs.SlotWords.{card_by, has_slot_in, is_noted, slot_of, stamp_in, turn_of};
@@ -43,14 +44,10 @@ impl<M: Memory> CardTable<M> {
     // Reads the word of a slot.
     #[inline(always)]
     fn read_slot(&self, seat: &mut Seat<M>, slots: Slots, slot: u64) -> u64
-        requires own { seat.old.table_id ≡ self.now.id }
-        requires empty { seat.old.me.1 ≡ [] }
-        requires slots { self.now.plan.slots ≡ Some slots }
+        requires seat { IsSeatWithSlots self.now slots seat.old }
         requires slot { slot ≤ slots.last }
         ensures read { seat.new.me.0.period ≡ after_read slot result seat.old.me.0.period }
-        ensures tree { seat.new.me.0.tree ≡ seat.old.me.0.tree }
-        ensures sight { seat.new.me.0.sight ≡ seat.old.me.0.sight }
-        ensures seat { (seat.new.table_id ≡ seat.old.table_id) × (seat.new.me.1 ≡ []) }
+        ensures leaves { LeavesTree seat.old seat.new }
     {
         self.period_load::<Brand>(seat, self.slot_address(slots, slot))
     }
@@ -64,14 +61,10 @@ impl<M: Memory> CardTable<M> {
         slot: u64,
         word: u64,
     ) -> u64
-        requires own { seat.old.table_id ≡ self.now.id }
-        requires empty { seat.old.me.1 ≡ [] }
-        requires slots { self.now.plan.slots ≡ Some slots }
+        requires seat { IsSeatWithSlots self.now slots seat.old }
         requires rule { MayGoOn self.now.plan seat.old.me.0 (clock_word slots) (λ n. n) J.then }
         ensures told { J.then result seat.new.me.0.period }
-        ensures tree { seat.new.me.0.tree ≡ seat.old.me.0.tree }
-        ensures sight { seat.new.me.0.sight ≡ seat.old.me.0.sight }
-        ensures seat { (seat.new.table_id ≡ seat.old.table_id) × (seat.new.me.1 ≡ []) }
+        ensures leaves { LeavesTree seat.old seat.new }
     {
         let _ = (slot, word);
         self.period_load::<J>(seat, self.clock_address(slots))
@@ -80,16 +73,12 @@ impl<M: Memory> CardTable<M> {
     // Reads the clock for the card that lies in a slot by this word: whose nodes the pass knows to be dead, or which it
     // has laid aside. A card whose slot the pass has taken has a slot of the table.
     fn stamp(&self, seat: &mut Seat<M>, slots: Slots, slot: u64, word: u64) -> u64
-        requires own { seat.old.table_id ≡ self.now.id }
-        requires empty { seat.old.me.1 ≡ [] }
-        requires slots { self.now.plan.slots ≡ Some slots }
+        requires seat { IsSeatWithSlots self.now slots seat.old }
         requires dead { MayStamp seat.old.me.0 (card_by slot word) }
         ensures stamp { seat.new.me.0.period ≡ after_stamp (card_by slot word) result seat.old.me.0.period }
         ensures low { result ≤ last_reading }
         ensures inside { (c : ℕ) → seat.old.me.0.period.slot ≡ Some c → slot_of c ≤ slots.last }
-        ensures tree { seat.new.me.0.tree ≡ seat.old.me.0.tree }
-        ensures sight { seat.new.me.0.sight ≡ seat.old.me.0.sight }
-        ensures seat { (seat.new.table_id ≡ seat.old.table_id) × (seat.new.me.1 ≡ []) }
+        ensures leaves { LeavesTree seat.old seat.new }
     {
         self.stamp_load::<Brand>(seat, slots, slot, word)
     }
@@ -104,15 +93,11 @@ impl<M: Memory> CardTable<M> {
         nodes: CardNodes,
         taken_out: bool,
     ) -> u64
-        requires own { seat.old.table_id ≡ self.now.id }
-        requires empty { seat.old.me.1 ≡ [] }
-        requires slots { self.now.plan.slots ≡ Some slots }
+        requires seat { IsSeatWithSlots self.now slots seat.old }
         requires slot { slot_of card ≤ slots.last }
         requires rule { MayGoOn self.now.plan seat.old.me.0 (slot_word slots (slot_of card)) (λ n. n) J.then }
         ensures told { J.then result seat.new.me.0.period }
-        ensures tree { seat.new.me.0.tree ≡ seat.old.me.0.tree }
-        ensures sight { seat.new.me.0.sight ≡ seat.old.me.0.sight }
-        ensures seat { (seat.new.table_id ≡ seat.old.table_id) × (seat.new.me.1 ≡ []) }
+        ensures leaves { LeavesTree seat.old seat.new }
     {
         let _ = (nodes, taken_out);
         self.period_load::<J>(seat, self.slot_address(slots, slot_of(card)))
@@ -131,16 +116,12 @@ impl<M: Memory> CardTable<M> {
         word: u64,
         other: u64,
     ) -> u64
-        requires own { seat.old.table_id ≡ self.now.id }
-        requires empty { seat.old.me.1 ≡ [] }
-        requires slots { self.now.plan.slots ≡ Some slots }
+        requires seat { IsSeatWithSlots self.now slots seat.old }
         requires slot { slot_of card ≤ slots.last }
         requires rule { MayGoOn self.now.plan seat.old.me.0 (slot_word slots (slot_of card))
             (λ n. either (n == word) other n) J.then }
         ensures told { J.then result seat.new.me.0.period }
-        ensures tree { seat.new.me.0.tree ≡ seat.old.me.0.tree }
-        ensures sight { seat.new.me.0.sight ≡ seat.old.me.0.sight }
-        ensures seat { (seat.new.table_id ≡ seat.old.table_id) × (seat.new.me.1 ≡ []) }
+        ensures leaves { LeavesTree seat.old seat.new }
     {
         let _ = (nodes, taken_out);
         self.period_exchange::<J>(seat, self.slot_address(slots, slot_of(card)), word, other)
@@ -157,17 +138,13 @@ impl<M: Memory> CardTable<M> {
         nodes: CardNodes,
         taken_out: bool,
     ) -> u64
-        requires own { seat.old.table_id ≡ self.now.id }
-        requires empty { seat.old.me.1 ≡ [] }
-        requires slots { self.now.plan.slots ≡ Some slots }
+        requires seat { IsSeatWithSlots self.now slots seat.old }
         requires slot { slot_of card ≤ slots.last }
         requires retires { MayRetire (shown seat.old.me.0.tree) taken_out card nodes }
         ensures read { seat.new.me.0.period ≡ after_noting_read taken_out card nodes result seat.old.me.0.period }
         ensures may { is_done taken_out card nodes result ≡ false →
             MayNote seat.old.me.0.tree taken_out card nodes result }
-        ensures tree { seat.new.me.0.tree ≡ seat.old.me.0.tree }
-        ensures sight { seat.new.me.0.sight ≡ seat.old.me.0.sight }
-        ensures seat { (seat.new.table_id ≡ seat.old.table_id) × (seat.new.me.1 ≡ []) }
+        ensures leaves { LeavesTree seat.old seat.new }
     {
         self.load_noted::<Brand>(seat, slots, card, nodes, taken_out)
     }
@@ -184,9 +161,7 @@ impl<M: Memory> CardTable<M> {
         word: u64,
         noted: u64,
     ) -> u64
-        requires own { seat.old.table_id ≡ self.now.id }
-        requires empty { seat.old.me.1 ≡ [] }
-        requires slots { self.now.plan.slots ≡ Some slots }
+        requires seat { IsSeatWithSlots self.now slots seat.old }
         requires slot { slot_of card ≤ slots.last }
         requires retires { MayRetire (shown seat.old.me.0.tree) taken_out card nodes }
         requires read { seat.old.me.0.period.read ≡ Some (record { slot = slot_of card; word = word }) }
@@ -196,9 +171,7 @@ impl<M: Memory> CardTable<M> {
         ensures period { seat.new.me.0.period ≡
             after_noting (result == word) taken_out card nodes result seat.old.me.0.period }
         ensures next { MayNoteNext seat.old.me.0.tree taken_out card nodes word result }
-        ensures tree { seat.new.me.0.tree ≡ seat.old.me.0.tree }
-        ensures sight { seat.new.me.0.sight ≡ seat.old.me.0.sight }
-        ensures seat { (seat.new.table_id ≡ seat.old.table_id) × (seat.new.me.1 ≡ []) }
+        ensures leaves { LeavesTree seat.old seat.new }
     {
         self.exchange_noted::<Brand>(seat, slots, card, nodes, taken_out, word, noted)
     }
@@ -213,9 +186,7 @@ impl<M: Memory> CardTable<M> {
         taken_out: bool,
         word: u64,
     ) -> u64
-        requires own { seat.old.table_id ≡ self.now.id }
-        requires empty { seat.old.me.1 ≡ [] }
-        requires slots { self.now.plan.slots ≡ Some slots }
+        requires seat { IsSeatWithSlots self.now slots seat.old }
         requires slot { slot_of card ≤ slots.last }
         requires retires { MayRetire (shown seat.old.me.0.tree) taken_out card nodes }
         requires read { seat.old.me.0.period.read ≡ Some (record { slot = slot_of card; word = word }) }
@@ -225,9 +196,7 @@ impl<M: Memory> CardTable<M> {
             (seat.new.me.0.period ≡ after_noting (result == word) taken_out card nodes result
             (after_stamp (card_by (slot_of card) word) reading seat.old.me.0.period)) }
         ensures next { MayNoteNext seat.old.me.0.tree taken_out card nodes word result }
-        ensures tree { seat.new.me.0.tree ≡ seat.old.me.0.tree }
-        ensures sight { seat.new.me.0.sight ≡ seat.old.me.0.sight }
-        ensures seat { (seat.new.table_id ≡ seat.old.table_id) × (seat.new.me.1 ≡ []) }
+        ensures leaves { LeavesTree seat.old seat.new }
     {
         let reading = self.stamp(seat, slots, slot_of(card), word);
         self.exchange_noted::<Brand>(seat, slots, card, nodes, taken_out, word, 8 * reading)
@@ -245,27 +214,20 @@ impl<M: Memory> CardTable<M> {
         taken_out: bool,
         word: u64,
     ) -> u64
-        requires own { seat.old.table_id ≡ self.now.id }
-        requires empty { seat.old.me.1 ≡ [] }
-        requires slots { self.now.plan.slots ≡ Some slots }
+        requires seat { IsSeatWithSlots self.now slots seat.old }
         requires slot { slot_of card ≤ slots.last }
         requires retires { MayRetire (shown seat.old.me.0.tree) taken_out card nodes }
         requires read { seat.old.me.0.period.read ≡ Some (record { slot = slot_of card; word = word }) }
         requires may { MayNote seat.old.me.0.tree taken_out card nodes word }
-        ensures stands { StandsAs seat.old.me.0.period seat.new.me.0.period }
-        ensures slot { seat.new.me.0.period.slot ≡ seat.old.me.0.period.slot }
-        ensures lost { seat.new.me.0.period.lost ≡ seat.old.me.0.period.lost }
+        ensures still { StandsStill seat.old.me.0.period seat.new.me.0.period }
         ensures retired { seat.new.me.0.period.retired ≡
             retires_if (result == word || is_done taken_out card nodes result) taken_out nodes
             seat.old.me.0.period.retired }
         ensures read { result ≢ word →
             seat.new.me.0.period.read ≡ Some (record { slot = slot_of card; word = result }) }
         ensures next { MayNoteNext seat.old.me.0.tree taken_out card nodes word result }
-        ensures safe { seat.new.me.0.period.safe ≡ seat.old.me.0.period.safe }
-        ensures surveyed { seat.new.me.0.period.surveyed ≡ seat.old.me.0.period.surveyed }
-        ensures tree { seat.new.me.0.tree ≡ seat.old.me.0.tree }
-        ensures sight { seat.new.me.0.sight ≡ seat.old.me.0.sight }
-        ensures seat { (seat.new.table_id ≡ seat.old.table_id) × (seat.new.me.1 ≡ []) }
+        ensures keeps { KeepsSafe seat.old.me.0.period seat.new.me.0.period }
+        ensures leaves { LeavesTree seat.old seat.new }
     {
         let noted = nodes.noted_in(word);
         if noted % 8 == 0 {
@@ -286,20 +248,13 @@ impl<M: Memory> CardTable<M> {
         nodes: CardNodes,
         taken_out: bool,
     ) -> bool
-        requires own { seat.old.table_id ≡ self.now.id }
-        requires empty { seat.old.me.1 ≡ [] }
-        requires slots { self.now.plan.slots ≡ Some slots }
+        requires seat { IsSeatWithSlots self.now slots seat.old }
         requires slot { slot_of card ≤ slots.last }
         requires retires { MayRetire (shown seat.old.me.0.tree) taken_out card nodes }
-        ensures stands { StandsAs seat.old.me.0.period seat.new.me.0.period }
-        ensures slot { seat.new.me.0.period.slot ≡ seat.old.me.0.period.slot }
-        ensures lost { seat.new.me.0.period.lost ≡ seat.old.me.0.period.lost }
+        ensures still { StandsStill seat.old.me.0.period seat.new.me.0.period }
         ensures retired { seat.new.me.0.period.retired ≡ with_retired taken_out nodes seat.old.me.0.period.retired }
-        ensures safe { seat.new.me.0.period.safe ≡ seat.old.me.0.period.safe }
-        ensures surveyed { seat.new.me.0.period.surveyed ≡ seat.old.me.0.period.surveyed }
-        ensures tree { seat.new.me.0.tree ≡ seat.old.me.0.tree }
-        ensures sight { seat.new.me.0.sight ≡ seat.old.me.0.sight }
-        ensures seat { (seat.new.table_id ≡ seat.old.table_id) × (seat.new.me.1 ≡ []) }
+        ensures keeps { KeepsSafe seat.old.me.0.period seat.new.me.0.period }
+        ensures leaves { LeavesTree seat.old seat.new }
     {
         let mut word = self.read_to_note(seat, slots, card, nodes, taken_out);
         for _ in 0..3u64 {
@@ -318,16 +273,12 @@ impl<M: Memory> CardTable<M> {
     // Sets the slot free of a card that the pass has laid aside: nobody else knows of the card, so the slot's word
     // notes no node.
     fn set_free(&self, seat: &mut Seat<M>, slots: Slots, card: u64)
-        requires own { seat.old.table_id ≡ self.now.id }
-        requires empty { seat.old.me.1 ≡ [] }
-        requires slots { self.now.plan.slots ≡ Some slots }
+        requires seat { IsSeatWithSlots self.now slots seat.old }
         requires lost { seat.old.me.0.period.lost ≡ Some card }
         requires taken { seat.old.me.0.period.slot ≡ Some card }
         ensures period { (reading : ℕ) ×
             (seat.new.me.0.period ≡ after_freeing (after_stamp card reading seat.old.me.0.period)) }
-        ensures tree { seat.new.me.0.tree ≡ seat.old.me.0.tree }
-        ensures sight { seat.new.me.0.sight ≡ seat.old.me.0.sight }
-        ensures seat { (seat.new.table_id ≡ seat.old.table_id) × (seat.new.me.1 ≡ []) }
+        ensures leaves { LeavesTree seat.old seat.new }
     {
         let word = 8 * turn_of(card) + 7;
         let reading = self.stamp(seat, slots, slot_of(card), word);
@@ -338,18 +289,12 @@ impl<M: Memory> CardTable<M> {
     /// Sets the slot of a card free if the pass has laid the card aside, as it lost the card's flag. It does nothing if
     /// the table has no places.
     pub(crate) fn free_aside(&self, seat: &mut Seat<M>, card: u64, lost: bool)
-        requires own { seat.old.table_id ≡ self.now.id }
-        requires empty { seat.old.me.1 ≡ [] }
+        requires seat { IsSeatOf self.now seat.old }
         requires lost { LostIs self.now.plan.slots lost card seat.old.me.0.period }
-        ensures stands { StandsAs seat.old.me.0.period seat.new.me.0.period }
-        ensures slot { seat.new.me.0.period.slot ≡ seat.old.me.0.period.slot }
-        ensures lost { seat.new.me.0.period.lost ≡ None }
+        ensures still { StandsStill (after_freeing seat.old.me.0.period) seat.new.me.0.period }
+        ensures keeps { KeepsSafe seat.old.me.0.period seat.new.me.0.period }
         ensures retired { seat.new.me.0.period.retired ≡ seat.old.me.0.period.retired }
-        ensures safe { seat.new.me.0.period.safe ≡ seat.old.me.0.period.safe }
-        ensures surveyed { seat.new.me.0.period.surveyed ≡ seat.old.me.0.period.surveyed }
-        ensures tree { seat.new.me.0.tree ≡ seat.old.me.0.tree }
-        ensures sight { seat.new.me.0.sight ≡ seat.old.me.0.sight }
-        ensures seat { (seat.new.table_id ≡ seat.old.table_id) × (seat.new.me.1 ≡ []) }
+        ensures leaves { LeavesTree seat.old seat.new }
     {
         let Some(slots) = self.slots else {
             return;
@@ -429,9 +374,7 @@ impl<M: Memory> CardTable<M> {
     // Takes the slot of a card in hand that was set free with a stamp below the pass's safe number, if the slot's
     // word is this still. Returns `true` if it was.
     fn take_free(&self, seat: &mut Seat<M>, slots: Slots, card: u64, word: u64) -> bool
-        requires own { seat.old.table_id ≡ self.now.id }
-        requires empty { seat.old.me.1 ≡ [] }
-        requires slots { self.now.plan.slots ≡ Some slots }
+        requires seat { IsSeatWithSlots self.now slots seat.old }
         requires slot { has_slot_in slots.last card ≡ true }
         requires low { slots.last < turn_size }
         requires hand { HoldsWaiting seat.old.me.0.tree card }
@@ -441,9 +384,7 @@ impl<M: Memory> CardTable<M> {
         ensures taken { result ≡ true → seat.new.me.0.period ≡ after_taking card seat.old.me.0.period }
         ensures lost { result ≡ false →
             (n : ℕ) × (seat.new.me.0.period ≡ after_read (slot_of card) n seat.old.me.0.period) }
-        ensures tree { seat.new.me.0.tree ≡ seat.old.me.0.tree }
-        ensures sight { seat.new.me.0.sight ≡ seat.old.me.0.sight }
-        ensures seat { (seat.new.table_id ≡ seat.old.table_id) × (seat.new.me.1 ≡ []) }
+        ensures leaves { LeavesTree seat.old seat.new }
     {
         let address = self.slot_address(slots, slot_of(card));
         self.period_exchange::<Brand>(seat, address, word, 8 * turn_of(card) + 7) == word

@@ -11,7 +11,7 @@ period_store-requires-clause-rule g c =
     subst (λ i. MayGoOn c.args.self.now.plan k i (λ _. n)
     (λ _ p. (reading : ℕ) × (reading + 2 ≡ n) × (clock : ℕ) × (reading ≤ clock) × (p ≡ after_announce reading clock k.period))) (sym c.place_address.ensures.word)
     (λ id t h homes here small.
-    let x = announces c.args.self.now.plan c.args.slots c.requires.slots k c.args.place c.args.reading c.requires.place c.requires.quiet c.requires.reading id t h homes here small in
+    let x = announces c.args.self.now.plan c.args.slots c.requires.seat.slots k c.args.place c.args.reading c.requires.place c.requires.quiet c.requires.reading id t h homes here small in
     (x.0, x.1, x.2, x.3, ((c.args.reading, refl, x.4.0.0, x.4.0.1, x.4.0.2), x.4.1, x.4.2, x.4.3)))
 
 pub returns-clause-announced : goal.returns-clause-announced

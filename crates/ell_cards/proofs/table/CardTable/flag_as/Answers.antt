@@ -29,10 +29,10 @@ invariant_of-pass g c =
     (now.2.1 ∙ c.requires.notes c.compare_exchange-found.result old) in
     let words = ap (λ i. i.words) now.0 in (
       stepped _ _ _ _ c.self.view_is c.pass.view_is c.requires.own c.self.invariant.0 c.self.invariant.8 c.pass.inside.keys.items c.pass.inside.share _ _ _ g.J.Noting.then
-          c.self.invariant.2 c.pass.invariant.0 (ap (λ i. i.words) freed.seat.0 ∙ words) c.requires.keeps (subst (λ v. g.J.Noting.then c.compare_exchange-found.result (shown v)) (sym freed.tree) now.2.0),
-      freed.seat.1,
+          c.self.invariant.2 c.pass.invariant.0 (ap (λ i. i.words) freed.leaves.table ∙ words) c.requires.keeps (subst (λ v. g.J.Noting.then c.compare_exchange-found.result (shown v)) (sym freed.leaves.tree) now.2.0),
+      freed.leaves.empty,
       still_place c.pass.inside.standing c.pass.inside.seat.table_id.words c.free_aside.new.seat.table_id.words old c.free_aside.new.seat.me.0.period
-          (ap (λ i. i.words) freed.seat.0 ∙ words) (stands_on flagged.0 freed.stands) (freed.safe ∙ flagged.1) (freed.slot ∙ flagged.2) freed.lost c.pass.invariant.2,
+          (ap (λ i. i.words) freed.leaves.table ∙ words) (stands_on flagged.0 (record { place = freed.still.stands.place; other = freed.still.stands.other; other_says = freed.still.stands.other_says; announced = freed.still.stands.announced })) (freed.keeps.safe ∙ flagged.1) (freed.still.slot ∙ flagged.2) freed.still.lost c.pass.invariant.2,
     )
 
 pub free_aside-requires-clause-lost : goal.free_aside-requires-clause-lost

@@ -10,7 +10,7 @@ period_load-requires-clause-rule g c =
     let k = c.args.seat.now.me.0 in
     let plan = c.args.self.now.plan in
     subst (λ i. MayGoOn plan k i (λ n. n) (λ n p. (s : Slots) → plan.slots ≡ Some s → p ≡ after_look_at s.places n k.period)) (sym c.place_address.ensures.word)
-    (looks_at plan c.args.slots c.requires.slots k c.args.place c.requires.next c.requires.there)
+    (looks_at plan c.args.slots c.requires.seat.slots k c.args.place c.requires.next c.requires.there)
 
 pub returns-clause-looked : goal.returns-clause-looked
-returns-clause-looked g c = c.period_load.ensures.told c.args.slots c.requires.slots
+returns-clause-looked g c = c.period_load.ensures.told c.args.slots c.requires.seat.slots

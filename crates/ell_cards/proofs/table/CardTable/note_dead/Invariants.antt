@@ -1,6 +1,6 @@
-use Rattle.std.specs.Prelude.{◌≡◌, ◌≤◌, [], Some, false}
+use Rattle.std.specs.Prelude.{◌≡◌, ◌≤◌, Some, false}
+use Rattle.ell_cards.specs.Frames.{KeepsSafe, LeavesTree, StandsStill}
 use Rattle.ell_cards.specs.Noting.{MayNote}
-use Rattle.ell_cards.specs.Periods.{StandsAs}
 use Rattle.ell_cards.specs.Retiring.{how_many_noted, is_done, retires_if}
 use Rattle.ell_cards.specs.SlotWords.{slot_of}
 use Rattle.ell_cards.proofs.table.CardTable.note_dead.Given as goal
@@ -9,17 +9,11 @@ use Rattle.ell_cards.proofs.table.CardTable.note_dead.Given as goal
 -- are, it may note them there, and the word notes as many nodes as it has tried to exchange words.
 abbrev pub invariant-loop : goal.invariant-loop
 invariant-loop g l = record {
-  seat : l.seat.table_id ≡ l.fn.seat.table_id;
-  empty : l.seat.me.1 ≡ [];
-  stands : StandsAs l.fn.seat.me.0.period l.seat.me.0.period;
-  slot : l.seat.me.0.period.slot ≡ l.fn.seat.me.0.period.slot;
-  lost : l.seat.me.0.period.lost ≡ l.fn.seat.me.0.period.lost;
+  leaves : LeavesTree l.fn.seat l.seat;
+  still : StandsStill l.fn.seat.me.0.period l.seat.me.0.period;
+  keeps : KeepsSafe l.fn.seat.me.0.period l.seat.me.0.period;
   read : l.seat.me.0.period.read ≡ Some (record { slot = slot_of l.fn.card; word = l.word });
   retired : l.seat.me.0.period.retired ≡ retires_if (is_done l.fn.taken_out l.fn.card l.fn.nodes l.word) l.fn.taken_out l.fn.nodes l.fn.seat.me.0.period.retired;
   may : is_done l.fn.taken_out l.fn.card l.fn.nodes l.word ≡ false → MayNote l.fn.seat.me.0.tree l.fn.taken_out l.fn.card l.fn.nodes l.word;
   more : is_done l.fn.taken_out l.fn.card l.fn.nodes l.word ≡ false → l.counter ≤ how_many_noted l.word;
-  safe : l.seat.me.0.period.safe ≡ l.fn.seat.me.0.period.safe;
-  surveyed : l.seat.me.0.period.surveyed ≡ l.fn.seat.me.0.period.surveyed;
-  sight : l.seat.me.0.sight ≡ l.fn.seat.me.0.sight;
-  tree : l.seat.me.0.tree ≡ l.fn.seat.me.0.tree;
 }

@@ -14,8 +14,8 @@ stamp-reading-requires-clause-dead g c =
 
 pub exchange_noted-requires-clause-rule : goal.exchange_noted-requires-clause-rule
 exchange_noted-requires-clause-rule g c =
-    let same = sym c.stamp-reading.ensures.tree in
-    frees_slot c.args.self.now.plan c.args.slots c.requires.slots c.args.taken_out c.args.card c.args.nodes c.requires.slot c.stamp-reading.new.seat.me.0
+    let same = sym c.stamp-reading.ensures.leaves.tree in
+    frees_slot c.args.self.now.plan c.args.slots c.requires.seat.slots c.args.taken_out c.args.card c.args.nodes c.requires.slot c.stamp-reading.new.seat.me.0
     (subst (λ (v : View). MayRetire (shown v) c.args.taken_out c.args.card c.args.nodes) same c.requires.retires)
     c.args.word c.stamp-reading.result (ap (λ (p : Period). p.read) c.stamp-reading.ensures.stamp ∙ c.requires.read)
     (subst (λ (v : View). MayNote v c.args.taken_out c.args.card c.args.nodes c.args.word) same c.requires.may)
@@ -31,4 +31,4 @@ returns-clause-period g c = (
 
 pub returns-clause-next : goal.returns-clause-next
 returns-clause-next g c =
-    subst (λ (v : View). MayNoteNext v c.args.taken_out c.args.card c.args.nodes c.args.word c.exchange_noted.result) c.stamp-reading.ensures.tree c.exchange_noted.ensures.told.1
+    subst (λ (v : View). MayNoteNext v c.args.taken_out c.args.card c.args.nodes c.args.word c.exchange_noted.result) c.stamp-reading.ensures.leaves.tree c.exchange_noted.ensures.told.1

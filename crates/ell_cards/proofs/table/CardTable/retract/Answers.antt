@@ -8,7 +8,7 @@ pub period_store-requires-clause-rule : goal.period_store-requires-clause-rule
 period_store-requires-clause-rule g c =
     let k = c.args.seat.now.me.0 in
     subst (λ i. MayGoOn c.args.self.now.plan k i (λ _. 1) (λ _ p. p ≡ after_retract k.period)) (sym c.place_address.ensures.word)
-    (retracts c.args.self.now.plan c.args.slots c.requires.slots k c.args.place c.requires.place c.requires.rest)
+    (retracts c.args.self.now.plan c.args.slots c.requires.seat.slots k c.args.place c.requires.place c.requires.rest)
 
 pub returns-clause-announced : goal.returns-clause-announced
 returns-clause-announced g c = c.period_store.ensures.told

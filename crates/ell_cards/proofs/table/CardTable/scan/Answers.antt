@@ -5,15 +5,10 @@ use Rattle.ell_cards.proofs.table.CardTable.scan.Goals as goal
 -- a table with places has one, so there is one to look at first
 pub loop-place-init : goal.loop-place-init
 loop-place-init g c =
-    let some = some_places _ _ c.self.view_is c.self.invariant.0 c.self.invariant.8 c.args.slots c.requires.slots in record {
-      seat = search rules;
-      empty = search rules;
-      sight = search rules;
-      tree = search rules;
-      stands = search rules;
-      slot = search rules;
+    let some = some_places _ _ c.self.view_is c.self.invariant.0 c.self.invariant.8 c.args.slots c.requires.seat.slots in record {
+      leaves = search rules;
+      still = search rules;
       retired = search rules;
-      lost = search rules;
       looked = search rules;
       least = search rules;
       unsettled = search rules;

@@ -1,19 +1,15 @@
-use Rattle.std.specs.Prelude.{◌≡◌, ℕ, ◌<◌, ◌≤◌, Some, [], max}
-use Rattle.ell_cards.specs.Periods.{StandsAs, last_reading}
+use Rattle.std.specs.Prelude.{◌≡◌, ℕ, ◌<◌, ◌≤◌, Some, max}
+use Rattle.ell_cards.specs.Frames.{LeavesTree, StandsStill}
+use Rattle.ell_cards.specs.Periods.{last_reading}
 use Rattle.ell_cards.proofs.table.CardTable.scan.Given as goal
 
 -- So many places were looked at since the clock was read, and this is the least number that was seen. If there are no more places, that
 -- is what the pass has seen at all places, and the number is the safe one, unless the last one is greater.
 abbrev pub invariant-loop-place : goal.invariant-loop-place
 invariant-loop-place g l = record {
-  seat : l.seat.table_id ≡ l.fn.seat.table_id;
-  empty : l.seat.me.1 ≡ [];
-  sight : l.seat.me.0.sight ≡ l.fn.seat.me.0.sight;
-  tree : l.seat.me.0.tree ≡ l.fn.seat.me.0.tree;
-  stands : StandsAs l.fn.seat.me.0.period l.seat.me.0.period;
-  slot : l.seat.me.0.period.slot ≡ l.fn.seat.me.0.period.slot;
+  leaves : LeavesTree l.fn.seat l.seat;
+  still : StandsStill l.fn.seat.me.0.period l.seat.me.0.period;
   retired : l.seat.me.0.period.retired ≡ l.fn.seat.me.0.period.retired;
-  lost : l.seat.me.0.period.lost ≡ l.fn.seat.me.0.period.lost;
   looked : l.seat.me.0.period.looked ≡ l.place;
   least : l.seat.me.0.period.least ≡ l.least;
   unsettled : l.place < l.slots.places → l.seat.me.0.period.safe ≡ l.fn.seat.me.0.period.safe;

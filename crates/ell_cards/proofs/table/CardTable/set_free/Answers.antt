@@ -23,7 +23,7 @@ period_exchange-requires-clause-rule g c =
     let word = c.slot_address-address.ensures.word ∙ ap (λ slot. slot_word c.args.slots slot) c.slot_of-2.ensures in
     let now = subst (λ turn. MayGoOn c.args.self.now.plan k (slot_word c.args.slots (slot_of c.args.card)) (λ n. either (n == taken_word turn) (free_word c.stamp-reading.result) n) (λ n p. p ≡ after_freeing k.period))
     (sym c.turn_of.ensures)
-    (frees_aside c.args.self.now.plan c.args.slots c.requires.slots k c.args.card c.stamp-reading.result
+    (frees_aside c.args.self.now.plan c.args.slots c.requires.seat.slots k c.args.card c.stamp-reading.result
     (ap (λ (p : Period). p.lost) c.stamp-reading.ensures.stamp ∙ c.requires.lost)
     (ap (λ (p : Period). p.slot) c.stamp-reading.ensures.stamp ∙ c.requires.taken)
     (ap (λ (p : Period). p.stamp) c.stamp-reading.ensures.stamp

@@ -20,11 +20,11 @@ split_seat-other-requires g c =
     let is = c.find_place-place.ensures in
     let key = g.M.Memory.key c.self.inside.table in
     let found = found_is _ _ _ _ c.pass.invariant.2.other is.taken is.lost in
-    let same = ap shown is.tree ∙ ap (λ (m : PassModel). m.view) c.pass.view_is in
+    let same = ap shown is.leaves.tree ∙ ap (λ (m : PassModel). m.view) c.pass.view_is in
     let may = subst MaySplit (sym same) c.requires.may in
     let size = c.self.invariant.0 in
     let enough = size_some key in (
-      is.seat.0 ∙ of_table _ _ _ _ c.self.view_is c.pass.view_is c.requires.own c.self.invariant.0 c.self.invariant.8,
+      is.leaves.table ∙ of_table _ _ _ _ c.self.view_is c.pass.view_is c.requires.own c.self.invariant.0 c.self.invariant.8,
       omega arith,
       whole_splits key seat.me.0 g.J.SplitBy.keys found.quiet (record { free = may.free; may = may.may }) seat.id,
     )
@@ -34,8 +34,8 @@ invariant_of-left g c =
     let is = c.find_place-place.ensures in
     let now = c.split_seat-other.ensures in
     let tree = c.find_place-place.new.seat.me.0.tree in
-    let same = ap shown is.tree ∙ ap (λ (m : PassModel). m.view) c.pass.view_is in
-    let words = ap (λ i. i.words) (now.0 ∙ is.seat.0) in
+    let same = ap shown is.leaves.tree ∙ ap (λ (m : PassModel). m.view) c.pass.view_is in
+    let words = ap (λ i. i.words) (now.0 ∙ is.leaves.table) in
     let found = found_is _ _ _ _ c.pass.invariant.2.other is.taken is.lost in
     let shares = c.requires.shares c.pass.inside.share (subst (λ (p : PassModel). HasShare c.pass.inside.share p.view) c.pass.view_is c.pass.invariant.0.share) in (
       subst (λ (m : Me (Unit {0}) Known). PassFits c.args.left.items c.parted.result.0 c.split_seat-other.new.seat.table_id.words (shown m.0.tree)) (sym now.2)
@@ -43,7 +43,7 @@ invariant_of-left g c =
           (shown (left_view g.J.SplitBy.keys tree)) c.pass.invariant.0 words
           (subst (λ s. HasShare s (shown (left_view g.J.SplitBy.keys tree))) (sym c.parted.ensures.left) (subst (λ v. HasShare (record { units = c.pass.inside.share.units - given_share c.pass.inside.share.units; counts = c.pass.inside.share.counts }) (left_view g.J.SplitBy.keys v)) (sym same) shares.0))
           (subst (λ v. MayHave c.args.pass.view c.args.left.items (left_view g.J.SplitBy.keys v)) (sym same) c.requires.left)),
-      ap (λ (m : Me (Unit {0}) Known). m.1) now.2 ∙ is.seat.1,
+      ap (λ (m : Me (Unit {0}) Known). m.1) now.2 ∙ is.leaves.empty,
       subst (λ (m : Me (Unit {0}) Known). PlaceFits c.parted-apart.new.self c.split_seat-other.new.seat.table_id.words m.0.period) (sym now.2)
           (left_place_fits _ _ _ _ _ _ _ _ words found c.parted-apart.ensures.own c.pass.invariant.2),
     )
@@ -53,8 +53,8 @@ invariant_of-right g c =
     let is = c.find_place-place.ensures in
     let now = c.split_seat-other.ensures in
     let tree = c.find_place-place.new.seat.me.0.tree in
-    let same = ap shown is.tree ∙ ap (λ (m : PassModel). m.view) c.pass.view_is in
-    let words = ap (λ i. i.words) (now.3 ∙ is.seat.0) in
+    let same = ap shown is.leaves.tree ∙ ap (λ (m : PassModel). m.view) c.pass.view_is in
+    let words = ap (λ i. i.words) (now.3 ∙ is.leaves.table) in
     let found = found_is _ _ _ _ c.pass.invariant.2.other is.taken is.lost in
     let plan = c.args.self.now.plan in
     let size = words ∙ (own_size _ _ _ _ c.self.view_is c.pass.view_is c.requires.own c.self.invariant.0 c.self.invariant.8

@@ -7,7 +7,7 @@ use Rattle.ell_cards.proofs.table.CardTable.take_free.Goals as goal
 
 pub period_exchange-requires-clause-rule : goal.period_exchange-requires-clause-rule
 period_exchange-requires-clause-rule g c =
-    takes_any c.args.self.now.plan c.args.slots c.requires.slots c.args.seat.now.me.0 c.args.card c.requires.hand (slot_inside c.args.slots.last c.args.card c.requires.slot) c.requires.slot c.requires.unlost c.requires.low c.args.word c.slot_address-address.result
+    takes_any c.args.self.now.plan c.args.slots c.requires.seat.slots c.args.seat.now.me.0 c.args.card c.requires.hand (slot_inside c.args.slots.last c.args.card c.requires.slot) c.requires.slot c.requires.unlost c.requires.low c.args.word c.slot_address-address.result
     c.turn_of.result c.requires.free c.requires.safe (c.slot_address-address.ensures.word ∙ ap (slot_word c.args.slots) c.slot_of.ensures) c.turn_of.ensures
 
 pub returns-clause-taken : goal.returns-clause-taken

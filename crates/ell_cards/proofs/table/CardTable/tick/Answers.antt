@@ -10,4 +10,4 @@ period_exchange-requires-clause-rule g c =
     let k = c.args.seat.now.me.0 in
     let reading = c.args.reading in
     subst (λ i. MayGoOn c.args.self.now.plan k i (λ n. either (n == reading) (reading + 1) n) (λ n p. p ≡ after_tick reading k.period)) (sym c.clock_address.ensures.word)
-    (tick_goes_on c.args.self.now.plan c.args.slots c.requires.slots k reading c.requires.read c.requires.low)
+    (tick_goes_on c.args.self.now.plan c.args.slots c.requires.seat.slots k reading c.requires.read c.requires.low)

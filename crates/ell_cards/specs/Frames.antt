@@ -1,0 +1,35 @@
+use Rattle.std.specs.Prelude.{◌≡◌, Some, []}
+use Rattle.ell_cards.specs.declared.view.Period.{Period}
+use Rattle.ell_cards.specs.declared.view.Slots.{Slots}
+use Rattle.ell_cards.specs.Memories.{SeatModel}
+use Rattle.ell_cards.specs.Models.{TableModel}
+use Rattle.ell_cards.specs.Periods.{StandsAs}
+
+-- a seat steps on the words of a table, and holds no slot of the memory
+pub record IsSeatOf (table : TableModel) (seat : SeatModel) : Type 0 where
+  pub own : seat.table_id ≡ table.id
+  pub empty : seat.me.1 ≡ []
+
+-- and the table has these places and slots
+pub record IsSeatWithSlots (table : TableModel) (s : Slots) (seat : SeatModel) : Type 0 where
+  pub own : seat.table_id ≡ table.id
+  pub empty : seat.me.1 ≡ []
+  pub slots : table.plan.slots ≡ Some s
+
+-- a seat knows of the tree and of its history what it knew, and is a seat of the same table, which holds no slot
+pub record LeavesTree (old new : SeatModel) : Type 0 where
+  pub tree : new.me.0.tree ≡ old.me.0.tree
+  pub sight : new.me.0.sight ≡ old.me.0.sight
+  pub table : new.table_id ≡ old.table_id
+  pub empty : new.me.1 ≡ []
+
+-- what a pass announces, the slot that it has taken, and the card that it has laid aside are as they were
+pub record StandsStill (old new : Period) : Type 0 where
+  pub stands : StandsAs old new
+  pub slot : new.slot ≡ old.slot
+  pub lost : new.lost ≡ old.lost
+
+-- and so are its safe number and what it saw when it looked at all places last
+pub record KeepsSafe (old new : Period) : Type 0 where
+  pub safe : new.safe ≡ old.safe
+  pub surveyed : new.surveyed ≡ old.surveyed
