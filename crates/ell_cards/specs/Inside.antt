@@ -1,9 +1,10 @@
-use Rattle.std.specs.Prelude.{◌≡◌, ◌≢◌, ◌↔◌, ℕ, ◌≤◌, List, [], None, true, false, is_some, Some}
+use Rattle.std.specs.Prelude.{◌≡◌, ◌≢◌, ◌↔◌, ℕ, ◌+◌, ◌≤◌, List, [], None, true, false, is_some, Some}
 use Rattle.std.specs.List.Sorted.{IsStrictlyIncreasing}
 use Rattle.atomic_table.specs.Seated.{TableId}
 use Rattle.atomic_table.specs.Table.{Me}
 use Rattle.ell_layout.specs.Layout.{table_size}
 use Rattle.ell_cards.specs.declared.pass.Pass.TheInside.{Inside}
+use Rattle.ell_cards.specs.declared.table.CardTable.TheInside.{Inside as TableInside}
 use Rattle.ell_word.specs.Node.{greatest_card, greatest_number}
 use Rattle.ell_cards.specs.declared.pass.Standing.{Standing}
 use Rattle.ell_cards.specs.declared.share.Share.{Share}
@@ -13,8 +14,11 @@ use Rattle.ell_cards.specs.declared.view.Slots.{Slots}
 use Rattle.ell_cards.specs.declared.view.View.{View}
 use Rattle.ell_cards.specs.Changes.{ledger_keys}
 use Rattle.ell_cards.specs.Naming.{IsNamed, IsPlaced}
-use Rattle.ell_cards.specs.Periods.{slots_size}
+use Rattle.ell_cards.specs.Depths.{deepest}
+use Rattle.ell_cards.specs.Models.{TablePlan, flat_from}
+use Rattle.ell_cards.specs.Periods.{slots_size, whole_size}
 use Rattle.ell_cards.specs.Shown.{shown}
+use Rattle.ell_cards.specs.Starts.{SlotsFit}
 use Rattle.ell_cards.specs.SlotWords.{slot_of}
 
 -- the share of a pass as its code keeps it is that of its view, and it counts where some keys are shared
@@ -62,11 +66,26 @@ pub record PlaceFits (standing : Standing) (words : ℕ) (p : Period) : Type 0 w
   pub slot : (c : ℕ) → p.slot ≡ Some c → HasSlotThere words c
   pub lost : p.lost ≡ None
 
--- a pass fits by what is shown of what its seat knows, and its seat holds no slot
-abbrev pub IsPass : {A B C : Type 0} → Inside A B C → Type 0
-IsPass p =
-    PassFits p.keys.items p.share p.seat.table_id.words (shown p.seat.me.0.tree) × (p.seat.me.1 ≡ [])
-    × PlaceFits p.standing p.seat.table_id.words p.seat.me.0.period
+-- a pass fits by what is shown of what its seat knows, its seat holds no slot of memory, and its place fits
+pub record IsPass {A B C : Type 0} (p : Inside A B C) : Type 0 where
+  pub fits : PassFits p.keys.items p.share p.seat.table_id.words (shown p.seat.me.0.tree)
+  pub bare : p.seat.me.1 ≡ []
+  pub stands : PlaceFits p.standing p.seat.table_id.words p.seat.me.0.period
+
+-- what the code of a table keeps is of its plan: it has the words that the plan asks for, and no slots of memory; its
+-- slots and places fit the plan; and its last card has a number, and no internal node is much deeper than there are
+-- numbers, or, where cards do not come back, than there are cards with words
+pub record FitsPlan {A B C : Type 0} (plan : TablePlan) (id : TableId) (t : TableInside A B C) : Type 0 where
+  pub words : id.words ≡ whole_size plan
+  pub bare : id.slots ≡ 0
+  pub last_card : t.last_card ≡ plan.last_card
+  pub shared : t.shared ≡ plan.shared
+  pub first_block : t.first_block ≡ flat_from plan
+  pub slots : t.slots ≡ plan.slots
+  pub fit : SlotsFit plan plan.slots
+  pub limit : plan.last_card ≤ greatest_number
+  pub depth : deepest plan ≤ greatest_number + 64
+  pub plain_depth : plan.slots ≡ None → deepest plan ≤ greatest_card + 64
 
 -- a table as it is made, and its first seat
 pub record IsNewTable (size : ℕ) (table seat : TableId) (me : Me (Unit {0}) Known) (k : Known) : Type 0 where

@@ -37,6 +37,8 @@ pub mod Starts
 pub mod Periods
 -- what the steps on the words of periods and of slots leave as it was
 pub mod Frames
+-- the kinds of trees, and the plan by which each opens
+pub mod Kinds
 -- cards that were laid aside
 pub mod Aside
 -- what is dead in a table's tree, and was when periods began

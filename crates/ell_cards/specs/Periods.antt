@@ -4,7 +4,6 @@ use mathlib.Core.Option.{Option as Maybe}
 use lib.ListN.{get_elem?}
 use Rattle.atomic_table.specs.Table.{State}
 use Rattle.ell_layout.specs.Layout.{table_size}
-use Rattle.ell_word.specs.Node.{greatest_number}
 use Rattle.ell_grace.specs.Grace.{Grace, least_with}
 use Rattle.ell_grace.specs.Periods.{GraceIsSound}
 use Rattle.ell_cards.specs.declared.card_nodes.CardNodes.{CardNodes}
@@ -93,14 +92,6 @@ pub record AreOpeningWords (s : Slots) (given : ℕ) (cards words : List ℕ) : 
 abbrev pub AreWholeWords : Option Slots → ℕ → List ℕ → List ℕ → Type 0
 AreWholeWords None given cards words = words ≡ cards
 AreWholeWords (Some s) given cards words = AreOpeningWords s given cards words
-
--- the cards and the places of a table of cards up to a last one, none for no places, and the number of the last
--- card to which its claims may come, if each card could have words
-abbrev pub slots_of : ℕ → ℕ → Option Slots
-slots_of last places = if places == 0 then None else Some (record { last = last; places = places })
-
-abbrev pub last_for : ℕ → ℕ → ℕ
-last_for last places = if places == 0 then last else greatest_number
 
 -- how many words a table has, with places or without them
 abbrev pub size_by : Option Slots → ℕ → ℕ

@@ -34,13 +34,20 @@ pub record IsSharedIn (plan : TablePlan) (key : ℕ) : Type 0 where
 abbrev pub most_places : ℕ
 most_places = 1000000
 
--- a table without places may have words for all cards that it has numbers for; one with places has at least one, all
--- numbers that there are, and words for the cards of the start keys
+-- the cards of a table may come back in these slots: it has at least one place, all numbers that there are, words for
+-- the cards of the start keys, and a flat tree
+pub record MayReuse (plan : TablePlan) (s : Slots) : Type 0 where
+  pub some : 1 ≤ s.places
+  pub few : s.places ≤ most_places
+  pub numbers : plan.last_card ≡ greatest_number
+  pub start : length plan.start ≤ s.last
+  pub low : s.last ≤ greatest_card
+  pub flat : plan.flat ≡ true
+
+-- a table without slots may have words for all cards that it has numbers for
 abbrev pub SlotsFit : TablePlan → Option Slots → Type 0
 SlotsFit plan None = plan.last_card ≤ greatest_card
-SlotsFit plan (Some s) =
-    (1 ≤ s.places) × (s.places ≤ most_places) × (plan.last_card ≡ greatest_number) × (length plan.start ≤ s.last)
-    × (s.last ≤ greatest_card) × (plan.flat ≡ true)
+SlotsFit plan (Some s) = MayReuse plan s
 
 -- what a table may open with: real keys, ascending; start keys, ascending, each of them or shared; and cards for these,
 -- not more than there are numbers for

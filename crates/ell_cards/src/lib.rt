@@ -45,4 +45,4 @@ pub use lifetime::is_card_count;
 pub use memory::Memory;
 pub use pass::Pass;
 pub use table::CardTable;
-pub use view::{Answered, Hindrance, Known, Plan, TableKind, Told, View};
+pub use view::{Answered, Hindrance, Known, Plan, Told, TreeKind, View};

@@ -1,5 +1,5 @@
 //! How a table begins, and how its passes part and come together.
-ghost use Rattle.std.specs.Prelude.{is_some, ℕ, slice_index, ◌≡◌, ◌≢◌, ◌⊎◌, ◌≤◌, ◌<◌, ◌+◌, ◌*◌, ◌↔◌, if◌then◌else◌, IsTrue, [], filter, not, max, true, length, None, IfOk, IfErr, OnOk, IfSome};
+ghost use Rattle.std.specs.Prelude.{is_some, ℕ, slice_index, ◌≡◌, ◌≢◌, ◌≤◌, ◌<◌, ◌+◌, ◌*◌, ◌↔◌, if◌then◌else◌, IsTrue, [], filter, not, max, true, length, None, IfOk, IfErr, OnOk, IfSome};
 ghost use Rattle.std.specs.List.{All};
 ghost use Rattle.std.specs.List.Sorted.{IsStrictlyIncreasing};
 ghost use Rattle.std.specs.Map.{keys_of};
@@ -15,11 +15,12 @@ ghost use Rattle.ell_cards.specs.Models.{flat_from, Steps, StepsOut, IsFree, IsC
 ghost use Rattle.ell_cards.specs.Changes.{left_view, right_view, joined_view};
 ghost use Rattle.ell_cards.specs.Inside.{IsNewTable};
 ghost use Rattle.ell_cards.specs.Stepping.{MaySplit, MayHave, PartsShare};
-ghost use Rattle.ell_cards.specs.Periods.{AreWholeWords, most_claims, last_for, slot_word, slots_of, slots_size, whole_size, words_of_free_slots};
+ghost use Rattle.ell_cards.specs.Periods.{AreWholeWords, most_claims, slot_word, slots_size, whole_size, words_of_free_slots};
 ghost use Rattle.ell_cards.specs.Shown.{IsWord};
 ghost use Rattle.ell_cards.specs.Sights.{joined_sight};
 ghost use Rattle.ell_cards.specs.SlotWords.{taken_word};
-ghost use Rattle.ell_cards.specs.Starts.{MayStart, OpensBy, most_places};
+ghost use Rattle.ell_cards.specs.Starts.{MayStart, OpensBy};
+ghost use Rattle.ell_cards.specs.Kinds.{HasRoomForPasses, MayStartWith, opened_plan};
 ghost use Rattle.ell_cards.specs.Whole.{IsWhole, first_known};
 ghost use Rattle.atomic_table.specs.Table.{opening};
 
@@ -32,50 +33,42 @@ use crate::rule::{Joined, PartedBy, SplitBy};
 use crate::share::{Share, WHOLE_SHARE};
 use crate::slot_words::{FREE_FROM_START, USED_FROM_START};
 use crate::table::CardTable;
-use crate::view::{Plan, Slots, TableKind};
+use crate::view::{Plan, Slots, TreeKind};
 use atomic_table::Table;
 use ell_layout::{table_size, write_opening};
 use ell_ops::{NoMemory, united_keys};
-use ell_word::{CARDS_MAX, NUMBER_MAX, card_of, is_internal};
+use ell_word::{CARDS_MAX, card_of, is_internal};
 use std::alloc::{AllocError, Allocator};
 use std::marker::Brand;
 
 impl<A: Allocator + Copy> CardTable<FixedMemory<A>> {
-    /// Creates a table of this kind, of a tree that has these start keys with their values, balanced, with this many
+    /// Creates a table of a tree of this kind that has these start keys with their values, balanced, with this many
     /// cards to be claimed, 1 to `CARDS_MAX`, and one pass that owns these keys: those of them that are start keys
     /// are present, the others absent. The tree of the start keys has a card for each of them, so the number of the
-    /// last card is the number of cards asked for plus that of the start keys. The last card of a table with places
-    /// has the number `NUMBER_MAX`, but only the cards asked for and those of the start keys have words and may be
+    /// last card is the number of cards asked for plus that of the start keys. The last card of a tree whose cards come
+    /// back has the number `NUMBER_MAX`, but only the cards asked for and those of the start keys have words and may be
     /// claimed. `BadCards` is returned exactly if the number of cards asked for is not 1 to `CARDS_MAX`, and
     /// `NoMemory` if an allocation fails. Conditions: the keys are strictly ascending, and at most `KEY_MAX`; the
-    /// start keys are strictly ascending, at most `START_MAX`, and each is among the keys or shared; there are at
-    /// most 1,000,000 places, and a tree with places is flat.
+    /// start keys are strictly ascending, at most `START_MAX`, and each is among the keys or shared; and the kind has
+    /// room for 1 to 1,000,000 passes, if cards come back.
     pub fn reserve(
         alloc: A,
+        kind: TreeKind,
         start: &[(u64, u64)],
         keys: &[u64],
         cards: u64,
-        kind: TableKind,
     ) -> Result<(CardTable<FixedMemory<A>>, Pass<FixedMemory<A>>), CardFault>
         requires ascending { IsStrictlyIncreasing keys.now }
         requires real { All (λ k. k ≤ greatest_key) keys.now }
         requires start_ascending { IsStrictlyIncreasing (keys_of start.now) }
-        requires given { All (λ k. (set_of keys.now k ≡ true) ⊎ ((kind.shared ≡ true) × (k ≤ greatest_key))) (keys_of start.now) }
+        requires given { MayStartWith kind keys.now (keys_of start.now) }
         requires few { length start.now ≤ most_start }
-        requires places { kind.places ≤ most_places }
-        requires flat { kind.places ≢ 0 → kind.flat ≡ true }
+        requires passes { HasRoomForPasses kind }
         // It succeeds only with 1 to 1,000,000 cards.
         ensures cards { OnOk result (IsCardCount cards) }
-        // The table has this plan, and the pass knows what a first pass does: it owns the keys, of which the start keys
-        // are present, has made no step, and has the safe number 0.
-        ensures opened { IfOk result (OpensBy (record {
-          keys = keys.now;
-          start = start.now;
-          last_card = last_for (last_card start.now cards) kind.places;
-          shared = kind.shared;
-          flat = kind.flat;
-          slots = slots_of (last_card start.now cards) kind.places;
-        })) }
+        // The table has the plan by which such a tree opens, and the pass knows what a first pass does: it owns the
+        // keys, of which the start keys are present, has made no step, and has the safe number 0.
+        ensures opened { IfOk result (OpensBy (opened_plan kind start.now keys.now cards)) }
         // `BadCards` is returned exactly if the number of cards is not 1 to 1,000,000; the only other error is
         // `NoMemory`.
         ensures refused { IfErr result (RefusesCards cards) }
@@ -83,15 +76,14 @@ impl<A: Allocator + Copy> CardTable<FixedMemory<A>> {
         if !is_card_count(cards) {
             return Err(CardFault::BadCards);
         }
-        let last = cards + start.len() as u64;
-        let slots = slots_for(last, kind.places);
+        let room = cards + start.len() as u64;
         let plan = Plan {
-            last_card: last_for(last, kind.places),
             keys: copied(alloc, keys)?,
             start: copied(alloc, start)?,
-            shared: kind.shared,
-            flat: kind.flat,
-            slots,
+            last_card: kind.last_number(room),
+            shared: kind.shares_others(),
+            flat: kind.is_flat(),
+            slots: kind.slots(room),
         };
         Ok(CardTable::open(alloc, plan)?)
     }
@@ -408,24 +400,6 @@ fn start_count<A: Allocator + Copy>(plan: &Plan<A>) -> u64
     ensures { result ≡ length plan.now.start }
 {
     plan.start.len() as u64
-}
-
-// The cards and the places of a table with places, of cards up to this one; none for no places.
-fn slots_for(last: u64, places: u64) -> Option<Slots>
-    ensures { result ≡ slots_of last places }
-{
-    if places == 0 {
-        None
-    } else {
-        Some(Slots { last, places })
-    }
-}
-
-// The number of the last card of a table of cards up to this one, if there are no places, else the greatest number.
-fn last_for(last: u64, places: u64) -> u64
-    ensures { result ≡ last_for last places }
-{
-    if places == 0 { last } else { NUMBER_MAX }
 }
 
 // The opening table. It copies the words, and their first list goes at once.

@@ -51,7 +51,6 @@ impl<M: Memory> CardTable<M> {
         requires may { MayClaim (flat_from self.now.plan) pass.old.view first (new_node self.now.plan node_key) }
         // A card in hand that it lays aside is none whose slot it has taken.
         requires kept { MayInTable self.now.plan pass.old (call.Claim first (new_node self.now.plan node_key)) }
-        requires flat { self.now.plan.flat ≡ true }
         requires places { self.now.plan.slots ≢ None }
         requires order { first ≤ last }
         requires room { last ≤ self.now.plan.last_card }

@@ -6,7 +6,7 @@ ghost use Rattle.ell_core.specs.state.Facts.{card_of_fact};
 ghost use Rattle.ell_word.specs.Node.{greatest_card, greatest_number};
 ghost use Rattle.ell_word.specs.Link.{IsLink, greatest_tag, linked, tag_unit};
 ghost use Rattle.ell_cards.specs.declared.view.Told.TheVariants.{Expects};
-ghost use Rattle.ell_cards.specs.Models.{flat_from, IsTold, Knows, Sees, TableModel, Steps, StepsOn};
+ghost use Rattle.ell_cards.specs.Models.{flat_from, IsTold, Knows, Sees, Steps, StepsOn};
 ghost use Rattle.ell_cards.specs.Apart.{NamesLowBits};
 ghost use Rattle.ell_cards.specs.Changes.{after_fill};
 ghost use Rattle.ell_cards.specs.Naming.{IsNamed, IsPlaced};
@@ -15,11 +15,10 @@ ghost use Rattle.ell_cards.specs.Depths.{IsShallow, deepest};
 ghost use Rattle.ell_cards.specs.Calls.{place_of, slot_address, atomic_of, next_link, Load, Store, Exchange, after, May, Tells};
 ghost use Rattle.ell_cards.specs.Looking.{KeysAreFixed, ReadsItsOwn, MissesItsOwn};
 ghost use Rattle.ell_cards.specs.declared.view.Period.{Period};
-ghost use Rattle.ell_cards.specs.Periods.{after_flagging, whole_size};
+ghost use Rattle.ell_cards.specs.Periods.{after_flagging};
 ghost use Rattle.ell_cards.specs.Tied.{FlagsNone, FlagsCard};
 ghost use Rattle.ell_cards.specs.declared.call.Call.TheVariants as call;
 ghost use Rattle.ell_cards.specs.Seeing.{HasSeenAll, HasSeenMore, IsCalm, Marks};
-ghost use Rattle.ell_cards.specs.Starts.{SlotsFit};
 ghost use Rattle.ell_cards.specs.Shown.{IsNoClaim, StoresWord, cut_word, shown_word};
 ghost use Rattle.ell_cards.specs.Skipping.{MayStepOn};
 ghost use Rattle.ell_cards.specs.SlotWords.{slot_of};
@@ -46,20 +45,14 @@ pub struct CardTable<M: Memory> {
 }
 
 impl<M: Memory> Model for CardTable<M> {
+    ghost use Rattle.ell_cards.specs.Models.{TableModel};
+    ghost use Rattle.ell_cards.specs.Inside.{FitsPlan};
+
     ghost Value = { TableModel };
 
     ghost view = { λ t. record { id = M.table_id t.table; plan = M.key t.table } };
 
-    ghost invariant = { λ t. ((M.table_id t.table).words ≡ whole_size (M.key t.table))
-        × ((M.table_id t.table).slots ≡ 0)
-        × ((M.key t.table).last_card ≤ greatest_number)
-        × (t.last_card ≡ (M.key t.table).last_card)
-        × (t.shared ≡ (M.key t.table).shared)
-        × (t.first_block ≡ flat_from (M.key t.table))
-        × (deepest (M.key t.table) ≤ greatest_number + 64)
-        × (t.slots ≡ (M.key t.table).slots)
-        × SlotsFit (M.key t.table) (M.key t.table).slots
-        × ((M.key t.table).slots ≡ None → deepest (M.key t.table) ≤ greatest_card + 64) };
+    ghost invariant = { λ t. FitsPlan (M.key t.table) (M.table_id t.table) t };
 }
 
 impl<M: Memory> CardTable<M> {

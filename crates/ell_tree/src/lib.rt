@@ -22,7 +22,7 @@ mod tree;
 mod trying;
 
 pub use cursor::About;
-pub use ell_cards::{CardFault, FixedMemory, Memory, Pass as PassOver, SplitFault};
+pub use ell_cards::{CardFault, FixedMemory, Memory, Pass as PassOver, SplitFault, TreeKind};
 pub use ell_core::Exchange;
 pub use ell_layout::table_size;
 pub use ell_ops::{KEY_MAX, NoMemory, distinct_keys};

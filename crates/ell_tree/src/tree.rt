@@ -44,7 +44,7 @@ use std::marker::Model;
 ///
 /// How many steps a call makes at most is told by two numbers of its tree. `cards` is the number of the last card: the
 /// number of cards that the tree was asked for, plus one for each of its start keys. `depth` is the most internal nodes
-/// above an internal node: in a flat tree (`reserve_flat`) 64 if there were no start keys, and 84 at most with a
+/// above an internal node: in a flat tree (`TreeKind::Flat`) 64 if there were no start keys, and 84 at most with a
 /// million of them; in any other tree, `cards`.
 #[derive(Drop)]
 pub struct Tree<M: Memory> {
@@ -108,7 +108,7 @@ impl<M: Memory> Tree<M> {
         self.table.join(left, right)
     }
 
-    /// Gives a pass up. In a tree whose cards come back (`reserve_reusing`), a pass that is given up between its calls
+    /// Gives a pass up. In a tree whose cards come back (`TreeKind::Reusing`), a pass that is given up between its calls
     /// makes room for another, which a later split finds. In any other tree nothing happens. Its keys and its share
     /// stay with nobody, so that a tree that needs them can no longer be closed.
     pub fn release(&self, pass: Pass<M>)

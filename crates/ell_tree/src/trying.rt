@@ -157,7 +157,6 @@ fn claim_up_to<M: Memory>(
     ensures step { Steps pass.old pass.new (after_claimed_row result first card (new_node table.now.plan node_key) pass.old.view) }
     ensures fresh { IsFresh table.now.plan pass.old.slot result card }
 {
-    table.places_are_in_flat_trees();
     if card == first {
         table.claim(pass, first, node_key)
     } else {

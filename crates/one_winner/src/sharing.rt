@@ -13,7 +13,7 @@ ghost use Rattle.ell_tree.specs.Seeing.{AreApart};
 ghost use Rattle.one_winner.specs.Sharing.{AreNew, Fails, SharesEachKey};
 
 use crate::fault::{Lost, RaceFault};
-use ell_tree::{NoGate, Pass, Tree, stories_are_of_one_thread};
+use ell_tree::{NoGate, Pass, Tree, TreeKind, stories_are_of_one_thread};
 use std::alloc::Global;
 
 // How many cards a tree is asked for.
@@ -43,8 +43,8 @@ pub fn open(
     ensures { IfOk result (λ made. AreNew made.0 made.1.0 made.1.1) }
 {
     let (map, pass) = match kind {
-        Kind::Plain => Tree::reserve_shared(alloc, &[], &[], CARDS)?,
-        Kind::Reusing => Tree::reserve_reusing(alloc, &[], &[], CARDS, PASSES)?,
+        Kind::Plain => Tree::open(alloc, TreeKind::Shared, &[], &[], CARDS)?,
+        Kind::Reusing => Tree::open(alloc, TreeKind::Reusing(PASSES), &[], &[], CARDS)?,
     };
     match map.split(pass, &[]) {
         Ok(parts) => Ok((map, parts)),

@@ -6,7 +6,7 @@ ghost use Rattle.shared_counter.specs.Adding.{AreNew, IsCounter, StartsWith, sta
 
 use crate::adding::COUNTER;
 use crate::fault::CountFault;
-use ell_tree::{Pass, Tree};
+use ell_tree::{Pass, Tree, TreeKind};
 use std::alloc::Global;
 
 // How many cards a tree is asked for whose cards do not come back: each addition takes one, and each try that others
@@ -43,8 +43,11 @@ fn reserve(
 {
     let pairs = [(COUNTER, start)];
     match kind {
-        Kind::Plain => Ok(Tree::reserve_shared(alloc, &pairs, &[], CARDS)?),
-        Kind::Reusing => Ok(Tree::reserve_reusing(alloc, &pairs, &[], SLOTS, PASSES)?),
+        Kind::Plain => Ok(Tree::open(alloc, TreeKind::Shared, &pairs, &[], CARDS)?),
+        Kind::Reusing => {
+            let reusing = TreeKind::Reusing(PASSES);
+            Ok(Tree::open(alloc, reusing, &pairs, &[], SLOTS)?)
+        }
     }
 }
 

@@ -9,7 +9,7 @@ use super::parting::{joined, parted};
 use ell_ops::Op::{self, Delete, Find, Insert};
 use ell_ops::{Reply, apply_all};
 use ell_test_gates::{Counting, Weaving, two_threads_meet};
-use ell_tree::{NoGate, Pass, StepGate, Tree};
+use ell_tree::{NoGate, Pass, StepGate, Tree, TreeKind};
 use std::alloc::Global;
 use std::process::Abort;
 use std::thread::{Threads, join};
@@ -20,7 +20,7 @@ fn opened_flat(rt: &(impl Abort + AllocGlobal)) -> (Tree<Global>, Pass<Global>)
     ensures keys { result.0.plan.keys ≡ [] }
     ensures plain { result.0.plan.slots ≡ None }
 {
-    Tree::reserve_flat(rt.alloc(), &[], &[], 10_000).expect(rt, "tree")
+    Tree::open(rt.alloc(), TreeKind::Flat, &[], &[], 10_000).expect(rt, "tree")
 }
 
 /// Makes operations, the finds among them by looks if they are to be: their replies. The gate is told when a look has

@@ -7,7 +7,7 @@ use super::parting::parted;
 use ell_ops::Op::{Delete, Find, Insert, Swap};
 use ell_ops::Reply;
 use ell_test_gates::{Counting, Weaving, two_threads_meet};
-use ell_tree::{NoGate, Pair, Pass, StepGate, Tree};
+use ell_tree::{NoGate, Pair, Pass, StepGate, Tree, TreeKind};
 use std::alloc::Global;
 use std::process::Abort;
 use std::thread::{Threads, join};
@@ -24,7 +24,7 @@ fn opened_reusing(
     ensures { IsSharer result.0 result.1 }
 {
     assert!(rt; 1 <= passes && passes <= 64);
-    Tree::reserve_reusing(rt.alloc(), &[], &[], cards, passes).expect(rt, "tree")
+    Tree::open(rt.alloc(), TreeKind::Reusing(passes), &[], &[], cards).expect(rt, "tree")
 }
 
 // How often a call is made at most until it is answered.

@@ -3,7 +3,7 @@ ghost use Rattle.std.specs.Prelude.{◌≡◌, ◌≤◌};
 ghost use Rattle.ell_cards.specs.Models.{IsFree};
 ghost use Rattle.ell_cards.specs.Starts.{most_places};
 
-use ell_cards::{CardTable, FixedMemory, Pass, TableKind};
+use ell_cards::{CardTable, FixedMemory, Pass, TreeKind};
 use std::alloc::Global;
 use std::process::Abort;
 
@@ -42,15 +42,10 @@ fn with_places(
     rt: &(impl Abort + AllocGlobal),
     places: u64,
 ) -> (CardTable<FixedMemory<Global>>, Pass<FixedMemory<Global>>)
-    requires { places ≤ most_places }
+    requires { (1 ≤ places) × (places ≤ most_places) }
     ensures { (result.1.table ≡ result.0.id) × IsFree result.1.view }
 {
-    let kind = TableKind {
-        shared: true,
-        flat: true,
-        places,
-    };
-    CardTable::reserve(rt.alloc(), &START, &[], 1, kind).expect(rt, "table")
+    CardTable::reserve(rt.alloc(), TreeKind::Reusing(places), &START, &[], 1).expect(rt, "table")
 }
 
 #[test]

@@ -5,7 +5,7 @@ ghost use Rattle.ell_tree.specs.Ledgers.{IsIdlePassOf};
 ghost use Rattle.ell_tree.specs.Meaning.{greatest_key};
 
 use ell_ops::{KEY_MAX, all_fit, ascend};
-use ell_tree::{About, Pair, Pass, START_MAX, StepGate, Tree};
+use ell_tree::{About, Pair, Pass, START_MAX, StepGate, Tree, TreeKind};
 use std::alloc::Global;
 use std::process::Abort;
 
@@ -58,7 +58,7 @@ pub fn opened_for(
 {
     assert!(rt; ascend(start) && all_fit(start) && start.len() <= START_MAX as usize);
     assert!(rt; ascend(owned) && all_fit(owned));
-    let made = Tree::reserve_shared(rt.alloc(), start, owned, cards);
+    let made = Tree::open(rt.alloc(), TreeKind::Shared, start, owned, cards);
     made.expect(rt, "tree")
 }
 

@@ -10,7 +10,7 @@ use crate::handle::Handle;
 use crate::refusal::Refusal;
 use ell_cards::is_card_count;
 use ell_ops::{all_fit, ascend};
-use ell_tree::{Pair, START_MAX, Tree};
+use ell_tree::{Pair, START_MAX, Tree, TreeKind};
 use std::alloc::{AllocError, Global};
 use std::sync::Arc;
 
@@ -33,7 +33,7 @@ impl Handle {
         ensures refused { IfErr result (RefusesTree (as_pairs start.now) cards) }
     {
         let pairs = pairs_to_open(alloc, start, cards)?;
-        let (tree, pass) = Tree::reserve_flat(alloc, &pairs, &[], cards)?;
+        let (tree, pass) = Tree::open(alloc, TreeKind::Flat, &pairs, &[], cards)?;
         let tree = Arc::new(alloc, tree)?;
         Ok(Handle { tree, pass })
     }
@@ -69,8 +69,8 @@ impl Handle {
         ensures refused { IfErr result (RefusesTree (as_pairs start.now) cards) }
     {
         let pairs = pairs_to_open(alloc, start, cards)?;
-        let handles = handles.clamp(1, HANDLES_MAX);
-        let (tree, pass) = Tree::reserve_reusing(alloc, &pairs, &[], cards, handles)?;
+        let kind = TreeKind::Reusing(handles.clamp(1, HANDLES_MAX));
+        let (tree, pass) = Tree::open(alloc, kind, &pairs, &[], cards)?;
         let tree = Arc::new(alloc, tree)?;
         Ok(Handle { tree, pass })
     }

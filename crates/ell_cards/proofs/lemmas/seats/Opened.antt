@@ -63,12 +63,12 @@ module _ (plan : TablePlan) (words : ℕ) (size : words ≡ whole_size plan) (fi
   -- the slots have words
   slots_fit : (o : Option Slots) → words ≡ size_by o plan.last_card → SlotsFit plan o → (last_slot_of o plan.last_card ≤ greatest_card) × (table_size (last_slot_of o plan.last_card) ≤ words)
   slots_fit None is fit = (fit, omega arith)
-  slots_fit (Some s) is fit = (fit.4, omega arith)
+  slots_fit (Some s) is fit = (fit.low, omega arith)
 
   -- a pass names what is in its table
   named_of : (o : Option Slots) → words ≡ size_by o plan.last_card → SlotsFit plan o → (v : View) → ((last : ℕ) → words ≡ table_size last → IsNamed last v) → IsNamed greatest_number v → IsNamed plan.last_card v
   named_of None is fit v named most = named plan.last_card is
-  named_of (Some s) is fit v named most = subst (λ n. IsNamed n v) (sym fit.2) most
+  named_of (Some s) is fit v named most = subst (λ n. IsNamed n v) (sym fit.numbers) most
 
   pub named_in : (keys : List ℕ) (share : Share) (v : View) → PassFits keys share words v → IsNamed plan.last_card v
   named_in keys share v fits = named_of plan.slots size fit v fits.named fits.most

@@ -81,7 +81,7 @@ pub lying_block : (plan : TablePlan) (s : Slots) → plan.slots ≡ Some s → M
     → has_block (flat_from plan) (cut_node x) ≡ has_block (flat_from plan) x
 lying_block plan s placed may x has =
     let fit = subst (SlotsFit plan) placed may.slots in
-    block_told s.last (flat_from plan) x (let most = fit.4 in omega arith) (flat_low plan s fit.3) has
+    block_told s.last (flat_from plan) x (let most = fit.low in omega arith) (flat_low plan s fit.start) has
 
 -- where memory is tied, whichever node a ready pass has met lies in its slot
 module _ (plan : TablePlan) (s : Slots) (tree : TableState) (t : WholeState) (r : HasMachine plan tree) (lie : ℕ → ℕ) (dead : ℕ → Bool) (was_dead : ℕ → ℕ → Bool)

@@ -146,8 +146,8 @@ module _ (plan : TablePlan) (s : Slots) (cards all : List ℕ) (may : MayStart p
 
   pub long_opened : length (cards ++ replicate long 0) ≡ table_size plan.last_card
   long_opened =
-      let last = fit.2 in
-      let most = fit.4 in
+      let last = fit.numbers in
+      let most = fit.low in
       length-append cards (replicate long 0) ∙ (let many = zeros_many long in omega arith)
 
   pub words_opened : words_of (cards ++ replicate long 0) ≡ words_at_start plan.flat plan.start
@@ -163,7 +163,7 @@ module _ (plan : TablePlan) (s : Slots) (cards all : List ℕ) (may : MayStart p
   starts = starts_are_kept plan tree_opened (starts_first plan (cards ++ replicate long 0) may long_opened words_opened)
 
   abbrev ages : AgesAreSound plan s tree_opened opened (lies_opened (length plan.start)) out_opened (λ q x. false)
-  ages = first_ages plan s tree_opened starts (length plan.start) cards all size h rest fit.0 may.limit
+  ages = first_ages plan s tree_opened starts (length plan.start) cards all size h rest fit.some may.limit
 
   -- the claim word is behind the cards of the start keys
   pub next : get_or (cards ++ replicate long 0) 0 0 ≡ length plan.start + 1
@@ -179,15 +179,15 @@ module _ (plan : TablePlan) (s : Slots) (cards all : List ℕ) (may : MayStart p
     dead = out_opened;
     began = λ q. 0;
     was_dead = λ q x. false;
-    periods = first_periods s (length plan.start) cards all size h (first_of plan) rest fit.0;
+    periods = first_periods s (length plan.start) cards all size h (first_of plan) rest fit.some;
     ages = ages;
-    tied = tied_as_it_opens plan s (let most = fit.4 in omega arith) tree_opened ages.now.machine all
+    tied = tied_as_it_opens plan s (let most = fit.low in omega arith) tree_opened ages.now.machine all
         (λ i inside. h.cards_first i inside ∙ sym (with_zeros cards long i))
         (λ i inside. subst (λ n. n < 2 ^ 64) (sym (h.cards_first i inside)) (small i))
-        (length plan.start) next fit.3
+        (length plan.start) next fit.start
         (no_info plan.flat plan.start (cards ++ replicate long 0) (words_same (cards ++ replicate long 0) cards (with_zeros cards long) ∙ are))
         (record { tree = first_of plan; period = period_by (Some s); sight = no_sight }) refl refl out_opened (λ q x. false);
-    flat = fit.5;
+    flat = fit.flat;
     retired = λ seat c u at slot hand. absurd (some_not_none hand (alone_there (record { tree = first_of plan; period = period_by (Some s); sight = no_sight }) (λ (x : Known). x.tree.worker.card ≡ None) refl seat u at));
   }
 

@@ -269,7 +269,7 @@ module _ (plan : TablePlan) (s : WholeState) (h : IsWhole plan s) (id : ℕ) (k 
           by (Some a) says = by_place a says k.period.place refl
 
       pub low_last : sl.last < turn_size
-      low_last = let low = fit.4 in omega arith
+      low_last = let low = fit.low in omega arith
 
       pub room : table_size sl.last ≤ length s.words
       room = let all = has_words.0 in omega arith
@@ -281,7 +281,7 @@ module _ (plan : TablePlan) (s : WholeState) (h : IsWhole plan s) (id : ℕ) (k 
       near : ExpectsNear c (found_by h.tree c)
       near = elim ready [
         | inl rest ↦ rest_near c rest may
-        | inr period ↦ expected_links_are_near plan sl h.tree s has.lie has.dead has.was_dead by_ages h.reached fit.4 id k here tree_here period c may
+        | inr period ↦ expected_links_are_near plan sl h.tree s has.lie has.dead has.was_dead by_ages h.reached fit.low id k here tree_here period c may
       ]
         where
           rest_near : (d : Call) → IsAtRest k.tree → May plan d k.tree → ExpectsNear d (found_by h.tree d)

@@ -1,4 +1,4 @@
-use Rattle.std.proofs.Common.{◌≡◌, ◌≢◌, ℕ, ◌%◌, zero, suc, ◌+◌, ◌*◌, ◌-◌, ◌/◌, ◌<◌, ◌≤◌, ◌==◌, ◌&&◌, nat_lt, nat_le, if◌then◌else◌, Bool, true, false, Option, Some, None, List, [], ◌∷◌, ◌++◌, length, replicate, take, drop, append-nil, get_or, inl, inr, ◌⊎◌, refl, sym, ap, ◌∙◌, subst, arith, length-set, get_or-set_same, get_or-set_other, set, eq-eqb, eqb-true, leb-true, ltb-true, true≢false}
+use Rattle.std.proofs.Common.{◌≡◌, ◌≢◌, ℕ, ◌%◌, zero, suc, ◌+◌, ◌*◌, ◌-◌, ◌/◌, ◌<◌, ◌≤◌, ◌==◌, ◌&&◌, nat_lt, nat_le, if◌then◌else◌, Bool, true, false, Option, Some, None, List, [], ◌∷◌, ◌++◌, length, replicate, take, drop, append-nil, get_or, inl, inr, ◌⊎◌, refl, sym, ap, ◌∙◌, subst, arith, length-set, get_or-set_same, get_or-set_other, set, eqb-true, leb-true, ltb-true}
 use Rattle.std.proofs.lemmas.Bool.{cases_eq, cases_lt, false≢true}
 use Rattle.std.proofs.lemmas.List.{drop_all, take_all, length-append, length-replicate, get_or_past, get_or-replicate, get_or_append_left, get_or-append_right}
 use Rattle.std.proofs.lemmas.Option.{same_Some}
@@ -7,7 +7,7 @@ use lib.ListN.{get_elem?}
 use Rattle.atomic_table.specs.Table.{opening}
 use Rattle.ell_core.proofs.lemmas.outcomes.Decide.{some_not_none}
 use Rattle.ell_grace.proofs.lemmas.Grace.{grace_starts}
-use Rattle.ell_word.specs.Node.{greatest_card, greatest_number, number_bound, turn_size}
+use Rattle.ell_word.specs.Node.{greatest_number, number_bound, turn_size}
 use Rattle.ell_layout.specs.Layout.{address, table_size}
 use Rattle.ell_layout.specs.Words.{words_of, table_words}
 use Rattle.ell_cards.specs.declared.view.Known.{Known}
@@ -16,14 +16,14 @@ use Rattle.ell_cards.specs.declared.view.Slots.{Slots}
 use Rattle.ell_cards.specs.declared.view.View.{View}
 use Rattle.ell_cards.specs.Models.{TablePlan, last_slot, last_slot_of}
 use Rattle.ell_cards.specs.Changes.{first_of}
-use Rattle.ell_cards.specs.Periods.{slots_of, last_for, clock_word, place_word, slot_word, slots_size, stamp_at, pending_by, opening_word, words_of_free_slots, AreOpeningWords, AreWholeWords, size_by, whole_size, period_by, announced_by, period_in, IsAtRest, PeriodHolds, PeriodsAreSound, grace_of}
+use Rattle.ell_cards.specs.Periods.{clock_word, place_word, slot_word, slots_size, stamp_at, pending_by, opening_word, words_of_free_slots, AreOpeningWords, AreWholeWords, size_by, whole_size, period_by, announced_by, period_in, IsAtRest, PeriodHolds, PeriodsAreSound, grace_of}
 use Rattle.ell_cards.specs.Aside.{IsAside}
 use Rattle.ell_cards.specs.Ages.{is_beyond, ForgotWhen, AgesAreSound}
 use Rattle.ell_cards.specs.RunLaws.{StartIsKept}
 use Rattle.ell_cards.specs.Sights.{no_sight}
 use Rattle.ell_cards.specs.SlotWords.{slot_of, card_by, free_word, freed_by, is_noted, taken_word}
 use Rattle.ell_cards.specs.States.{TableState}
-use Rattle.ell_cards.specs.Starts.{MayStart, SlotsFit, most_places}
+use Rattle.ell_cards.specs.Starts.{MayStart}
 use Rattle.ell_cards.proofs.lemmas.runs.Alive.{start_uses}
 
 -- so many zeros are as many
@@ -295,23 +295,3 @@ whole_length plan may cards words size are = by plan.slots size are
     by : (o : Option Slots) → length cards ≡ table_size (last_slot_of o plan.last_card) → AreWholeWords o (length plan.start) cards words → length words ≡ size_by o plan.last_card
     by None size are = ap length are ∙ size
     by (Some s) size are = are.size
-
--- the cards and places of a table fit its plan
-pub slots_fit : (plan : TablePlan) (last places : ℕ) → plan.slots ≡ slots_of last places → plan.last_card ≡ last_for last places → places ≤ most_places → length plan.start ≤ last → last ≤ greatest_card
-    → (places ≢ 0 → plan.flat ≡ true) → SlotsFit plan plan.slots
-slots_fit plan last places slots number few room most flat = subst (SlotsFit plan) (sym slots) (by (places == 0) refl)
-  where
-    by : (b : Bool) → (places == 0) ≡ b → SlotsFit plan (if b then None else Some (record { last = last; places = places }))
-    by true none = let is : plan.last_card ≡ last = number ∙ ap (λ b. if b then last else greatest_number) none in omega arith
-    by false other =
-        let some_place : places ≢ 0 = λ e. true≢false (sym (eq-eqb places 0 e) ∙ other) in
-        let is : plan.last_card ≡ greatest_number = number ∙ ap (λ b. if b then last else greatest_number) other in
-        (omega arith, few, is, room, most, flat some_place)
-
--- and its cards are as many as there are numbers for, and enough for the start keys
-pub last_fits : (last places start : ℕ) → start ≤ last → last ≤ greatest_card → (start ≤ last_for last places) × (last_for last places ≤ greatest_number)
-last_fits last places start room most = by (places == 0)
-  where
-    by : (b : Bool) → (start ≤ (if b then last else greatest_number)) × ((if b then last else greatest_number) ≤ greatest_number)
-    by true = (room, omega arith)
-    by false = (omega arith, omega arith)

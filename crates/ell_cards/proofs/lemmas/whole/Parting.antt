@@ -90,7 +90,7 @@ whole_splits plan k keys quiet may id s h here =
         (record { words = s.words; homes = s.homes; views = set s.views id (record k { tree = left_view keys k.tree; period = after_give k.period }) ++ record { tree = right_view keys k.tree; period = given_period k.period; sight = given_sight k.sight } ∷ [] })
     by tree there same None fit periods = tt
     by tree there same (Some sl) fit (h, was) =
-        let tie = split_goes plan sl tree s h.lie h.dead h.was_dead (let low = fit.4 in omega arith) (record { ages = h.ages; tied = h.tied }) id k here there keys may.free may.may in (
+        let tie = split_goes plan sl tree s h.lie h.dead h.was_dead (let low = fit.low in omega arith) (record { ages = h.ages; tied = h.tied }) id k here there keys may.free may.may in (
           record {
             lie = h.lie;
             lies = h.lies;
@@ -166,7 +166,7 @@ whole_joins plan k l free other_free unlost id other s h here aside there =
         (record { words = s.words; homes = s.homes; views = set (set s.views id (joined_known k l)) other spent_known })
     by tree ours theirs same None fit periods there = tt
     by tree ours theirs same (Some sl) fit (h, was) there =
-        let tie = join_goes plan sl tree s h.lie h.dead h.was_dead (let low = fit.4 in omega arith) (record { ages = h.ages; tied = h.tied }) id other k l here there ours theirs
+        let tie = join_goes plan sl tree s h.lie h.dead h.was_dead (let low = fit.low in omega arith) (record { ages = h.ages; tied = h.tied }) id other k l here there ours theirs
         (λ e. aside (sym e)) free other_free in (
           record {
             lie = h.lie;

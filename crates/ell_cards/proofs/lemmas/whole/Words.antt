@@ -1,9 +1,19 @@
-use Rattle.std.proofs.Common.{◌≡◌, ℕ, ◌<◌, ◌≤◌, Option, Some, sym, ap, ◌∙◌, subst, arith}
+use Rattle.std.proofs.Common.{◌≡◌, ◌≢◌, ℕ, ◌<◌, ◌≤◌, Option, Some, None, true, refl, sym, ap, ◌∙◌, subst, arith}
 use Rattle.ell_word.specs.Node.{greatest_card}
 use Rattle.ell_cards.specs.declared.view.Slots.{Slots}
-use Rattle.ell_cards.specs.Models.{TableModel}
+use Rattle.ell_cards.specs.Models.{TablePlan, TableModel}
 use Rattle.ell_cards.specs.Periods.{clock_word, place_word, size_by, slots_size, whole_size}
 use Rattle.ell_cards.specs.Starts.{SlotsFit}
+
+-- slots that fit a plan are of a flat tree
+flat_by : (plan : TablePlan) (o : Option Slots) → SlotsFit plan o → o ≢ None → plan.flat ≡ true
+flat_by plan None fit some = absurd (some refl)
+flat_by plan (Some s) fit some = fit.flat
+
+-- and so is the tree of a table of which contracts see this
+pub flat_there : (t u : TableModel) → t ≡ u → SlotsFit t.plan t.plan.slots → u.plan.slots ≢ None → u.plan.flat ≡ true
+flat_there t u same fit =
+    subst (λ (m : TableModel). m.plan.slots ≢ None → m.plan.flat ≡ true) same (flat_by t.plan t.plan.slots fit)
 
 -- The words of the periods in a table with places, as its code keeps it and as callers see it.
 module _ (t u : TableModel) (same : t ≡ u) (size : t.id.words ≡ whole_size t.plan) (fit : SlotsFit t.plan t.plan.slots) (s : Slots) where
@@ -20,13 +30,13 @@ module _ (t u : TableModel) (same : t ≡ u) (size : t.id.words ≡ whole_size t
 
     -- there are as many cards and places as there may be
     pub last_fits : s.last ≤ greatest_card
-    last_fits = fits.4
+    last_fits = fits.low
 
     pub some_places : 1 ≤ s.places
-    some_places = fits.0
+    some_places = fits.some
 
     pub places_fit : s.places ≤ greatest_card
-    places_fit = let few = fits.1 in omega arith
+    places_fit = let few = fits.few in omega arith
 
     -- the table has so many words
     pub words_are : u.id.words ≡ slots_size s

@@ -32,7 +32,7 @@ returns-clause-ends g c none =
     let there = ends plan whole_state.tree whole_state.reached c.pass.inside.seat.id v seen free whole all in
     let same : whole_state.tree.words ≡ words = sym (subst (λ o. WordsAre o last.0.words whole_state.tree.words) none whole_state.words) ∙ last.2 in
     let number : plan.last_card ≡ c.last_slot.result =
-    sym (ap (λ o. last_slot_of o plan.last_card) none) ∙ (sym (ap (λ o. last_slot_of o plan.last_card) c.self.invariant.7) ∙ (sym (ap (last_slot_of c.self.inside.slots) c.self.invariant.3) ∙ sym c.last_slot.ensures)) in
+    sym (ap (λ o. last_slot_of o plan.last_card) none) ∙ (sym (ap (λ o. last_slot_of o plan.last_card) c.self.invariant.slots) ∙ (sym (ap (last_slot_of c.self.inside.slots) c.self.invariant.last_card) ∙ sym c.last_slot.ensures)) in
     let ended : ClosedModel = record { words = words; last_card = c.last_slot.result } in
     subst (λ (m : TableModel). TableEnds m.plan c.args.pass.view ended) c.self.view_is
     (subst (λ (p : PassModel). TableEnds plan p.view ended) c.pass.view_is

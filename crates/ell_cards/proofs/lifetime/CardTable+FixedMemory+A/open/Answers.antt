@@ -25,29 +25,29 @@ invariant_of-pass g c =
     let knows = table.knows in
     let size = ap (λ i. i.words) table.own ∙ table.words in
     let enough = size_some c.args.plan in
-    let stands = c.first.ensures ∙ ap (λ (p : TablePlan). record { place = (period_by p.slots).place; announces = false; found = 0; safe = 0; numbers = 0 }) c.plan.view_is in (
-      subst (λ (m : Me (Unit {0}) Known). PassFits keys share words (shown m.0.tree)) (sym knows)
+    let stands = c.first.ensures ∙ ap (λ (p : TablePlan). record { place = (period_by p.slots).place; announces = false; found = 0; safe = 0; numbers = 0 }) c.plan.view_is in record {
+      fits = subst (λ (m : Me (Unit {0}) Known). PassFits keys share words (shown m.0.tree)) (sym knows)
           (subst (λ (p : TablePlan). PassFits p.keys (record { units = whole_share; counts = p.shared }) words (first_of c.args.plan)) (sym c.plan.view_is)
-          (first_fits c.args.plan words (omega arith) c.requires.may.ascending)),
-      ap (λ (m : Me (Unit {0}) Known). m.1) knows,
-      subst (λ (m : Me (Unit {0}) Known). PlaceFits c.first.result words m.0.period) (sym knows)
-          (subst (λ (s : Standing). PlaceFits s words (first_period c.args.plan)) (sym stands) (first_place_fits c.args.plan.slots c.args.plan.last_card words size)),
-    )
+          (first_fits c.args.plan words (omega arith) c.requires.may.ascending));
+      bare = ap (λ (m : Me (Unit {0}) Known). m.1) knows;
+      stands = subst (λ (m : Me (Unit {0}) Known). PlaceFits c.first.result words m.0.period) (sym knows)
+          (subst (λ (s : Standing). PlaceFits s words (first_period c.args.plan)) (sym stands) (first_place_fits c.args.plan.slots c.args.plan.last_card words size));
+    }
 
 pub invariant_of-table : goal.invariant_of-table
 invariant_of-table g c =
     let table = c.in_ok-table.ensures.0 in
     let key = c.in_ok-table.ensures.1 in
-    let last = ap (λ (p : TablePlan). p.last_card) key in (
-      table.words ∙ ap whole_size (sym key),
-      table.slots,
-      omega (arith, c.requires.cards, last),
-      ap (λ (p : TablePlan). p.last_card) c.plan.view_is ∙ sym last,
-      ap (λ (p : TablePlan). p.shared) c.plan.view_is ∙ sym (ap (λ (p : TablePlan). p.shared) key),
-      c.first_block-first_block.ensures ∙ ap flat_from (sym key),
-      (let most = deepest_most c.args.plan greatest_number c.requires.cards (let few = c.requires.few in omega arith) in let same = ap deepest key in omega arith),
-      ap (λ (p : TablePlan). p.slots) c.plan.view_is ∙ sym (ap (λ (p : TablePlan). p.slots) key),
-      subst (λ (p : TablePlan). SlotsFit p p.slots) (sym key) c.requires.may.slots,
-      subst (λ (p : TablePlan). p.slots ≡ None → deepest p ≤ greatest_card + 64) (sym key)
-          (λ none. deepest_most c.args.plan greatest_card (subst (SlotsFit c.args.plan) none c.requires.may.slots) c.requires.few),
-    )
+    let last = ap (λ (p : TablePlan). p.last_card) key in record {
+      words = table.words ∙ ap whole_size (sym key);
+      bare = table.slots;
+      limit = omega (arith, c.requires.cards, last);
+      last_card = ap (λ (p : TablePlan). p.last_card) c.plan.view_is ∙ sym last;
+      shared = ap (λ (p : TablePlan). p.shared) c.plan.view_is ∙ sym (ap (λ (p : TablePlan). p.shared) key);
+      first_block = c.first_block-first_block.ensures ∙ ap flat_from (sym key);
+      depth = (let most = deepest_most c.args.plan greatest_number c.requires.cards (let few = c.requires.few in omega arith) in let same = ap deepest key in omega arith);
+      slots = ap (λ (p : TablePlan). p.slots) c.plan.view_is ∙ sym (ap (λ (p : TablePlan). p.slots) key);
+      fit = subst (λ (p : TablePlan). SlotsFit p p.slots) (sym key) c.requires.may.slots;
+      plain_depth = subst (λ (p : TablePlan). p.slots ≡ None → deepest p ≤ greatest_card + 64) (sym key)
+          (λ none. deepest_most c.args.plan greatest_card (subst (SlotsFit c.args.plan) none c.requires.may.slots) c.requires.few);
+    }

@@ -10,7 +10,7 @@ use Rattle.ell_cards.proofs.pass.Pass.owns.Goals as goal
 pub returns : goal.returns
 returns g c =
     let ledger = c.args.self.now.view.worker.ledger in
-    let fits = c.self.invariant.0 in
+    let fits = c.self.invariant.fits in
     let same = c.deref.ensures.value ∙ fits.owned ∙ ap (λ (m : PassModel). ledger_keys m.view.worker.ledger) c.self.view_is in
     let found = search_finds c.deref.result.now c.args.key c.binary_search.result
     (subst IsStrictlyIncreasing (sym c.deref.ensures.value) fits.ascending) c.binary_search.ensures.position in (

@@ -4,6 +4,7 @@ use prog.Atomic.{either}
 use Rattle.ell_cards.specs.Skipping.{IsFresh, RowTells, MayStepOn, after_claimed_row}
 use Rattle.ell_cards.proofs.lemmas.seats.Taken.{steps_by}
 use Rattle.ell_cards.proofs.lemmas.whole.Skipping.{one_back, row_goes_any, row_keeps_pass}
+use Rattle.ell_cards.proofs.lemmas.whole.Words.{flat_there}
 use Rattle.ell_cards.proofs.table.CardTable.claim_row.Goals as goal
 
 pub exchange_claim-requires-clause-rule : goal.exchange_claim-requires-clause-rule
@@ -11,7 +12,7 @@ exchange_claim-requires-clause-rule g c =
     let p = c.args.pass.now in
     let plan = c.args.self.now.plan in
     subst (λ last. MayStepOn plan p 0 (λ n. either (n == c.args.first) (c.args.last + 1) n) (RowTells plan c.args.first last (new_node c.args.self.now.plan c.args.node_key) p)) (sym (one_back c.args.last))
-    (row_goes_any plan c.requires.places c.requires.flat p c.args.first c.args.last (new_node c.args.self.now.plan c.args.node_key) c.requires.order c.requires.room c.requires.may c.requires.kept)
+    (row_goes_any plan c.requires.places (flat_there _ _ c.self.view_is c.self.invariant.fit c.requires.places) p c.args.first c.args.last (new_node c.args.self.now.plan c.args.node_key) c.requires.order c.requires.room c.requires.may c.requires.kept)
 
 pub exchange_claim-requires-clause-keeps : goal.exchange_claim-requires-clause-keeps
 exchange_claim-requires-clause-keeps g c = row_keeps_pass c.args.self.now.plan c.args.pass.now c.args.first (c.args.last + 1 - 1) (new_node c.args.self.now.plan c.args.node_key)

@@ -6,5 +6,5 @@ use Rattle.ell_cards.proofs.table.CardTable.enter.Goals as goal
 
 pub returns-then-standing-clause-inside : goal.returns-then-standing-clause-inside
 returns-then-standing-clause-inside g c =
-    let size = subst (λ (m : TableModel). m.id.words ≡ whole_size m.plan) c.self.view_is c.self.invariant.0 in
+    let size = subst (λ (m : TableModel). m.id.words ≡ whole_size m.plan) c.self.view_is c.self.invariant.words in
     inside_by c.args.self.now.plan c.args.standing.now _ _ (ap (λ i. i.words) c.requires.seat.own ∙ size) c.requires.fits c.if-standing.true

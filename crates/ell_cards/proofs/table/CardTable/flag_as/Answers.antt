@@ -13,8 +13,8 @@ use Rattle.ell_cards.proofs.table.CardTable.flag_as.Goals as goal
 pub compare_exchange-found-requires : goal.compare_exchange-found-requires
 compare_exchange-found-requires g c =
     let period = c.pass.inside.seat.me.0.period in
-    owed _ _ _ _ c.self.view_is c.pass.view_is c.requires.own c.self.invariant.0 c.self.invariant.8 c.pass.inside.seat.me.0 refl c.pass.inside.seat.id refl refl c.pass.inside.seat.me.1 c.pass.inside.keys.items c.pass.inside.share c.pass.inside.standing c.args.word
-    (λ n. either (n == c.args.expected) c.args.value n) g.J.Noting.then (λ n. g.J.Noting.notes n period) c.args.call c.self.invariant.1 c.pass.invariant.1 c.pass.invariant.0 c.pass.invariant.2
+    owed _ _ _ _ c.self.view_is c.pass.view_is c.requires.own c.self.invariant.words c.self.invariant.fit c.pass.inside.seat.me.0 refl c.pass.inside.seat.id refl refl c.pass.inside.seat.me.1 c.pass.inside.keys.items c.pass.inside.share c.pass.inside.standing c.args.word
+    (λ n. either (n == c.args.expected) c.args.value n) g.J.Noting.then (λ n. g.J.Noting.notes n period) c.args.call c.self.invariant.bare c.pass.invariant.bare c.pass.invariant.fits c.pass.invariant.stands
     (stores_word c.args.call (Exchange c.args.expected c.args.value) c.requires.atomic tt (plain_shown c.args.call (exchange_stores c.args.call c.args.expected c.args.value c.requires.atomic))) c.requires.word c.requires.may c.requires.kept
     (exchange_does c.args.self.now.plan c.args.call c.args.expected c.args.value (record { whole = c.args.value; is = c.requires.atomic; cut = sym (cut_same c.args.value (omega arith)); all = λ none. refl }))
     (λ placed none. c.requires.quiet) (λ fill. absurd (exchange_stores c.args.call c.args.expected c.args.value c.requires.atomic fill)) c.requires.tells
@@ -27,18 +27,18 @@ invariant_of-pass g c =
     let old = c.pass.inside.seat.me.0.period in
     let flagged = flagging_stands c.args.self.now.plan.slots (c.compare_exchange-found.result == c.args.expected) c.args.card old c.compare_exchange-found.new.seat.me.0.period
     (now.2.1 ∙ c.requires.notes c.compare_exchange-found.result old) in
-    let words = ap (λ i. i.words) now.0 in (
-      stepped _ _ _ _ c.self.view_is c.pass.view_is c.requires.own c.self.invariant.0 c.self.invariant.8 c.pass.inside.keys.items c.pass.inside.share _ _ _ g.J.Noting.then
-          c.self.invariant.2 c.pass.invariant.0 (ap (λ i. i.words) freed.leaves.table ∙ words) c.requires.keeps (subst (λ v. g.J.Noting.then c.compare_exchange-found.result (shown v)) (sym freed.leaves.tree) now.2.0),
-      freed.leaves.empty,
-      still_place c.pass.inside.standing c.pass.inside.seat.table_id.words c.free_aside.new.seat.table_id.words old c.free_aside.new.seat.me.0.period
-          (ap (λ i. i.words) freed.leaves.table ∙ words) (stands_on flagged.0 (record { place = freed.still.stands.place; other = freed.still.stands.other; other_says = freed.still.stands.other_says; announced = freed.still.stands.announced })) (freed.keeps.safe ∙ flagged.1) (freed.still.slot ∙ flagged.2) freed.still.lost c.pass.invariant.2,
-    )
+    let words = ap (λ i. i.words) now.0 in record {
+      fits = stepped _ _ _ _ c.self.view_is c.pass.view_is c.requires.own c.self.invariant.words c.self.invariant.fit c.pass.inside.keys.items c.pass.inside.share _ _ _ g.J.Noting.then
+          c.self.invariant.limit c.pass.invariant.fits (ap (λ i. i.words) freed.leaves.table ∙ words) c.requires.keeps (subst (λ v. g.J.Noting.then c.compare_exchange-found.result (shown v)) (sym freed.leaves.tree) now.2.0);
+      bare = freed.leaves.empty;
+      stands = still_place c.pass.inside.standing c.pass.inside.seat.table_id.words c.free_aside.new.seat.table_id.words old c.free_aside.new.seat.me.0.period
+          (ap (λ i. i.words) freed.leaves.table ∙ words) (stands_on flagged.0 (record { place = freed.still.stands.place; other = freed.still.stands.other; other_says = freed.still.stands.other_says; announced = freed.still.stands.announced })) (freed.keeps.safe ∙ flagged.1) (freed.still.slot ∙ flagged.2) freed.still.lost c.pass.invariant.stands;
+    }
 
 pub free_aside-requires-clause-lost : goal.free_aside-requires-clause-lost
 free_aside-requires-clause-lost g c =
     let old = c.pass.inside.seat.me.0.period in
     let taken = flag_taken c.args.self.now.plan c.args.pass.now c.args.call c.args.card c.requires.may c.requires.kept c.requires.flags in
     flagging_lost c.args.self.now.plan.slots c.compare_exchange-found.result c.args.expected c.args.card old c.compare_exchange-found.new.seat.me.0.period
-    (c.compare_exchange-found.ensures.2.1 ∙ c.requires.notes c.compare_exchange-found.result old) c.pass.invariant.2.lost
+    (c.compare_exchange-found.ensures.2.1 ∙ c.requires.notes c.compare_exchange-found.result old) c.pass.invariant.stands.lost
     (λ some. ap (λ (m : PassModel). m.slot) c.pass.view_is ∙ taken some)

@@ -9,7 +9,7 @@ pub period_store-requires-clause-rule : goal.period_store-requires-clause-rule
 period_store-requires-clause-rule g c =
     let k = c.args.seat.now.me.0 in
     let s = c.in-Some-Some.slots in
-    let placed = kept_is _ _ c.self.view_is c.self.invariant.0 c.self.invariant.8 s _ c.self.invariant.7 c.in-Some-Some.is-0 in
+    let placed = kept_is _ _ c.self.view_is c.self.invariant.words c.self.invariant.fit s _ c.self.invariant.slots c.in-Some-Some.is-0 in
     subst (λ i. MayGoOn c.args.self.now.plan k i (λ _. 0) (λ _ p. p ≡ after_give k.period)) (sym c.place_address.ensures.word)
     (gives_back c.args.self.now.plan s placed k c.in-Some-Some.place (c.requires.other ∙ c.in-Some-Some.is-1))
 

@@ -10,8 +10,8 @@ use Rattle.ell_cards.proofs.table.CardTable.load_all_as.Goals as goal
 pub load-requires : goal.load-requires
 load-requires g c =
     let old = c.pass.inside.seat.me.0 in
-    let x = next_owed _ _ _ _ c.self.view_is c.pass.view_is c.requires.own c.self.invariant.0 c.self.invariant.8 old refl c.pass.inside.seat.id c.pass.inside.seat.me.1
-    g.J.TellingAll.then c.pass.invariant.2.lost c.self.invariant.1 c.pass.invariant.1 c.requires.tells in (
+    let x = next_owed _ _ _ _ c.self.view_is c.pass.view_is c.requires.own c.self.invariant.words c.self.invariant.fit old refl c.pass.inside.seat.id c.pass.inside.seat.me.1
+    g.J.TellingAll.then c.pass.invariant.stands.lost c.self.invariant.bare c.pass.invariant.bare c.requires.tells in (
       x.0,
       x.1,
       λ s holds homes here small. (let y = x.2 s holds homes here small in
@@ -20,9 +20,9 @@ load-requires g c =
 
 pub invariant_of-pass : goal.invariant_of-pass
 invariant_of-pass g c =
-    let now = c.load.ensures in (
-      stepped _ _ _ _ c.self.view_is c.pass.view_is c.requires.own c.self.invariant.0 c.self.invariant.8 c.pass.inside.keys.items c.pass.inside.share _ _ _ g.J.TellingAll.then
-          c.self.invariant.2 c.pass.invariant.0 (ap (λ i. i.words) now.0) c.requires.keeps now.2.0,
-      now.2.2 ∙ c.pass.invariant.1,
-      same_place _ _ _ _ _ (ap (λ i. i.words) now.0) now.2.1 c.pass.invariant.2,
-    )
+    let now = c.load.ensures in record {
+      fits = stepped _ _ _ _ c.self.view_is c.pass.view_is c.requires.own c.self.invariant.words c.self.invariant.fit c.pass.inside.keys.items c.pass.inside.share _ _ _ g.J.TellingAll.then
+          c.self.invariant.limit c.pass.invariant.fits (ap (λ i. i.words) now.0) c.requires.keeps now.2.0;
+      bare = now.2.2 ∙ c.pass.invariant.bare;
+      stands = same_place _ _ _ _ _ (ap (λ i. i.words) now.0) now.2.1 c.pass.invariant.stands;
+    }

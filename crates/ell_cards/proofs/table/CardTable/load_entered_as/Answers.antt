@@ -19,9 +19,9 @@ load-requires g c =
     let old : PassModel = record { table = inside.seat.table_id; view = shown inside.seat.me.0.tree; steps = inside.steps; label = inside.label; safe = inside.seat.me.0.period.safe; inside = is_some inside.seat.me.0.period.announced; surveyed = inside.seat.me.0.period.surveyed; slot = inside.seat.me.0.period.slot; retired = inside.seat.me.0.period.retired; sight = inside.seat.me.0.sight } in
     let now : PassModel = record { table = seat.table_id; view = shown seat.me.0.tree; steps = inside.steps; label = inside.label; safe = seat.me.0.period.safe; inside = is_some inside.seat.me.0.period.announced; surveyed = seat.me.0.period.surveyed; slot = seat.me.0.period.slot; retired = seat.me.0.period.retired; sight = seat.me.0.sight } in
     let same = (λ t. record { table = is.leaves.table t; view = shown (is.leaves.tree t); steps = inside.steps; label = inside.label; safe = is.keeps.safe t; inside = is_some inside.seat.me.0.period.announced; surveyed = is.keeps.surveyed t; slot = is.slot t; retired = is.retired t; sight = is.leaves.sight t }) ∙ c.pass.view_is in
-    let fits = subst (λ (m : PassModel). PassFits inside.keys.items inside.share m.table.words m.view) (sym (λ t. record { table = is.leaves.table t; view = shown (is.leaves.tree t); steps = inside.steps; label = inside.label; safe = is.keeps.safe t; inside = is_some inside.seat.me.0.period.announced; surveyed = is.keeps.surveyed t; slot = is.slot t; retired = is.retired t; sight = is.leaves.sight t })) c.pass.invariant.0 in
-    let x = owed_marked _ _ now _ c.self.view_is same c.requires.own c.self.invariant.0 c.self.invariant.8 seat.me.0 refl seat.id refl refl seat.me.1 inside.keys.items inside.share c.enter.new.standing c.args.word
-    (λ n. n) g.J.Marking.then (λ n. seat.me.0.period) c.args.call c.self.invariant.1 is.leaves.empty fits is.fits (stores_word c.args.call Load c.requires.atomic tt (plain_shown c.args.call (load_stores c.args.call c.requires.atomic))) c.requires.word c.requires.may
+    let fits = subst (λ (m : PassModel). PassFits inside.keys.items inside.share m.table.words m.view) (sym (λ t. record { table = is.leaves.table t; view = shown (is.leaves.tree t); steps = inside.steps; label = inside.label; safe = is.keeps.safe t; inside = is_some inside.seat.me.0.period.announced; surveyed = is.keeps.surveyed t; slot = is.slot t; retired = is.retired t; sight = is.leaves.sight t })) c.pass.invariant.fits in
+    let x = owed_marked _ _ now _ c.self.view_is same c.requires.own c.self.invariant.words c.self.invariant.fit seat.me.0 refl seat.id refl refl seat.me.1 inside.keys.items inside.share c.enter.new.standing c.args.word
+    (λ n. n) g.J.Marking.then (λ n. seat.me.0.period) c.args.call c.self.invariant.bare is.leaves.empty fits is.fits (stores_word c.args.call Load c.requires.atomic tt (plain_shown c.args.call (load_stores c.args.call c.requires.atomic))) c.requires.word c.requires.may
     c.requires.kept (load_does c.args.self.now.plan c.args.call c.requires.atomic)
     (λ placed none. absurd (placed (none_is c.args.self.now.plan.slots (sym is.inside ∙ ap is_some none)))) (λ fill. absurd (load_stores c.args.call c.requires.atomic fill)) c.requires.tells (λ n small. nothing refl (λ some d flags. absurd (load_flags c.args.call c.requires.atomic d flags))) in (
       x.0,
@@ -38,9 +38,9 @@ invariant_of-pass g c =
     let now = c.load.ensures in
     let model : PassModel = record { table = seat.table_id; view = shown seat.me.0.tree; steps = inside.steps; label = inside.label; safe = seat.me.0.period.safe; inside = is_some inside.seat.me.0.period.announced; surveyed = seat.me.0.period.surveyed; slot = seat.me.0.period.slot; retired = seat.me.0.period.retired; sight = seat.me.0.sight } in
     let same = (λ t. record { table = is.leaves.table t; view = shown (is.leaves.tree t); steps = inside.steps; label = inside.label; safe = is.keeps.safe t; inside = is_some inside.seat.me.0.period.announced; surveyed = is.keeps.surveyed t; slot = is.slot t; retired = is.retired t; sight = is.leaves.sight t }) ∙ c.pass.view_is in
-    let fits = subst (λ (m : PassModel). PassFits inside.keys.items inside.share m.table.words m.view) (sym (λ t. record { table = is.leaves.table t; view = shown (is.leaves.tree t); steps = inside.steps; label = inside.label; safe = is.keeps.safe t; inside = is_some inside.seat.me.0.period.announced; surveyed = is.keeps.surveyed t; slot = is.slot t; retired = is.retired t; sight = is.leaves.sight t })) c.pass.invariant.0 in (
-      stepped _ _ model _ c.self.view_is same c.requires.own c.self.invariant.0 c.self.invariant.8 inside.keys.items inside.share _ _ _ g.J.Marking.then
-          c.self.invariant.2 fits (ap (λ i. i.words) now.0) c.requires.keeps now.2.0,
-      now.2.2 ∙ is.leaves.empty,
-      same_place _ _ _ _ _ (ap (λ i. i.words) now.0) now.2.1 is.fits,
-    )
+    let fits = subst (λ (m : PassModel). PassFits inside.keys.items inside.share m.table.words m.view) (sym (λ t. record { table = is.leaves.table t; view = shown (is.leaves.tree t); steps = inside.steps; label = inside.label; safe = is.keeps.safe t; inside = is_some inside.seat.me.0.period.announced; surveyed = is.keeps.surveyed t; slot = is.slot t; retired = is.retired t; sight = is.leaves.sight t })) c.pass.invariant.fits in record {
+      fits = stepped _ _ model _ c.self.view_is same c.requires.own c.self.invariant.words c.self.invariant.fit inside.keys.items inside.share _ _ _ g.J.Marking.then
+          c.self.invariant.limit fits (ap (λ i. i.words) now.0) c.requires.keeps now.2.0;
+      bare = now.2.2 ∙ is.leaves.empty;
+      stands = same_place _ _ _ _ _ (ap (λ i. i.words) now.0) now.2.1 is.fits;
+    }

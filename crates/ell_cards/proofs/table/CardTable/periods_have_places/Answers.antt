@@ -6,6 +6,6 @@ use Rattle.ell_cards.proofs.table.CardTable.periods_have_places.Goals as goal
 
 pub returns : goal.returns
 returns g c none =
-    let size = own_size _ _ _ _ c.self.view_is c.pass.view_is c.requires.own c.self.invariant.0 c.self.invariant.8 in
+    let size = own_size _ _ _ _ c.self.view_is c.pass.view_is c.requires.own c.self.invariant.words c.self.invariant.fit in
     ap (λ (m : PassModel). m.inside) (sym c.pass.view_is)
-    ∙ outside_by (g.M.Memory.key c.self.inside.table) c.pass.inside.standing _ _ size c.pass.invariant.2 (ap (λ (m : TableModel). m.plan.slots) c.self.view_is ∙ none)
+    ∙ outside_by (g.M.Memory.key c.self.inside.table) c.pass.inside.standing _ _ size c.pass.invariant.stands (ap (λ (m : TableModel). m.plan.slots) c.self.view_is ∙ none)

@@ -5,7 +5,7 @@ use Rattle.ell_cards.proofs.table.CardTable.scan.Goals as goal
 -- a table with places has one, so there is one to look at first
 pub loop-place-init : goal.loop-place-init
 loop-place-init g c =
-    let some = some_places _ _ c.self.view_is c.self.invariant.0 c.self.invariant.8 c.args.slots c.requires.seat.slots in record {
+    let some = some_places _ _ c.self.view_is c.self.invariant.words c.self.invariant.fit c.args.slots c.requires.seat.slots in record {
       leaves = search rules;
       still = search rules;
       retired = search rules;
