@@ -1,7 +1,8 @@
 """Reads the sources of the crates: the functions of crates/*/src with their contracts, and the definitions of crates/*/specs.
 
-A promise is what the comment says that stands directly above an `ensures`, in lines that begin with two slashes. It is about this clause and
-those that follow it, up to the next such comment or the end of the contract.
+A promise is what the comment says that stands directly above an `ensures`, in lines that begin with two slashes, or, where there is none, above
+a definition that the clause cites, as tools/promises says. It is about this clause and those that follow it, up to the next promise or the end of
+the contract.
 """
 import re
 from dataclasses import dataclass, field
@@ -159,6 +160,12 @@ def read_definitions(path):
 def module(name):
     """The definitions of a module of the repository; there are none in one of the kit."""
     return read_definitions(CRATES / Path(*name.split(".")[1:]).with_suffix(".antt"))
+
+
+def said_by(name, definition):
+    """The comment of a definition of such a module, in one line, if it is of a statement and not of a number, a list or the like."""
+    comment, text = module(name).found.get(definition, ("", ""))
+    return " ".join(it.removeprefix("--").strip() for it in comment.splitlines()) if "Type 0" in text else ""
 
 
 def function(path, name):

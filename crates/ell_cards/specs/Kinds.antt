@@ -5,8 +5,8 @@ use Rattle.ell_ops.specs.Meaning.{greatest_key}
 use Rattle.ell_word.specs.Node.{greatest_number}
 use Rattle.ell_core.specs.state.Opening.{last_card}
 use Rattle.ell_cards.specs.declared.view.Slots.{Slots}
-use Rattle.ell_cards.specs.declared.view.TreeKind.{TreeKind}
-use Rattle.ell_cards.specs.declared.view.TreeKind.TheVariants.{Owned, Shared, Flat, Reusing}
+use Rattle.ell_cards.specs.declared.kind.TreeKind.{TreeKind}
+use Rattle.ell_cards.specs.declared.kind.TreeKind.TheVariants.{Owned, Shared, Flat, Reusing}
 use Rattle.ell_cards.specs.Models.{TablePlan}
 use Rattle.ell_cards.specs.Starts.{most_places}
 

@@ -61,8 +61,7 @@ pub record TableModel : Type 0 where
 -- the table that a pass belongs to, what is shown of what it knows, the atomic steps made through it, its label,
 -- its safe number: every pass that is in a period began it when the clock was that at least; and, if the table has
 -- places, whether it is in a period itself, what it saw when it looked at all places last, the card whose slot it has
--- taken last, and what it has noted since of the nodes that this card made dead; and what it knows of the table's
--- history
+-- taken last, and what it has noted for it of dead nodes; and what it knows of the table's history
 pub record PassModel : Type 0 where
   pub table : TableId
   pub view : View

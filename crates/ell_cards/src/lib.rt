@@ -8,6 +8,7 @@ mod fault;
 mod fixed;
 mod glance;
 mod helping;
+mod kind;
 mod laws;
 mod lifetime;
 mod looking;
@@ -32,6 +33,7 @@ pub use closed::Closed;
 pub use fault::{CardFault, SplitFault};
 pub use fixed::FixedMemory;
 pub use glance::{Glance, Stretch};
+pub use kind::TreeKind;
 pub use laws::{
     calls_have_their_point, calls_touch_nothing_gone, histories_are_linearizable,
     laid_down_calls_change_nothing, looks_are_of_one_state, looks_have_places, readings_are_past,
@@ -45,4 +47,4 @@ pub use lifetime::is_card_count;
 pub use memory::Memory;
 pub use pass::Pass;
 pub use table::CardTable;
-pub use view::{Answered, Hindrance, Known, Plan, Told, TreeKind, View};
+pub use view::{Answered, Hindrance, Known, Plan, Told, View};

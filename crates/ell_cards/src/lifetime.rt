@@ -26,6 +26,7 @@ ghost use Rattle.atomic_table.specs.Table.{opening};
 
 use crate::fault::{CardFault, SplitFault};
 use crate::fixed::FixedMemory;
+use crate::kind::TreeKind;
 use crate::memory::{Memory, Seat, join_seat};
 use crate::pass::{Pass, Standing};
 use crate::period::last_slot;
@@ -33,7 +34,7 @@ use crate::rule::{Joined, PartedBy, SplitBy};
 use crate::share::{Share, WHOLE_SHARE};
 use crate::slot_words::{FREE_FROM_START, USED_FROM_START};
 use crate::table::CardTable;
-use crate::view::{Plan, Slots, TreeKind};
+use crate::view::{Plan, Slots};
 use atomic_table::Table;
 use ell_layout::{table_size, write_opening};
 use ell_ops::{NoMemory, united_keys};

@@ -18,17 +18,18 @@ abbrev pub ByItsTake : Op → (Option ℕ → Type 0) → Type 0
 ByItsTake (Delete key) Is = (taken : Option ℕ) × Is taken
 ByItsTake op Is = Is None
 
--- what a pass has seen of a call that takes nothing: that, or, where the call has no answer, more of the history
+-- The call began behind all that the pass had seen of the tree's history, it is a call of what the pass has seen now,
+-- and it is the last one of the pass's calls. A call that has no answer adds none.
 abbrev pub SeesAnswer : Op → PassModel → PassModel → Result Reply NotDone → Type 0
 SeesAnswer op old new (Ok said) = SeesCall op said None old.sight new.sight
 SeesAnswer op old new (Err why) = HasSeenMore old.sight new.sight
 
--- of a delete, by the value that it took, or none
+-- What the pass has seen of the history is as after `insert`, and the call took the value that it returns.
 abbrev pub SeesTake : ℕ → PassModel → PassModel → Result (Option ℕ) NotDone → Type 0
 SeesTake key old new (Ok taken) = SeesCall (Delete key) (yes_if (is_some taken)) taken old.sight new.sight
 SeesTake key old new (Err why) = HasSeenMore old.sight new.sight
 
--- and of one that says only whether it took one
+-- What the pass has seen of the history is as after `insert`, and the call took a value exactly if it says so.
 abbrev pub SeesDelete : ℕ → PassModel → PassModel → Result Bool NotDone → Type 0
 SeesDelete key old new (Ok said) = (taken : Option ℕ) × (is_some taken ≡ said) × SeesTake key old new (Ok taken)
 SeesDelete key old new (Err why) = SeesTake key old new (Err why)
@@ -54,7 +55,8 @@ abbrev pub put_by : ℕ → ℕ → Option ℕ → Op
 put_by key value None = Insert key value
 put_by key value (Some was) = Swap key was value
 
--- what a pass has seen of a call that puts a value at a key, in the place of what it returns: last what put it
+-- Each of its operations is a call of the tree's history, as the pass has seen it, and began behind all that the pass
+-- had seen before. Only the last has changed anything: what put the value.
 abbrev pub SeesPut : ℕ → ℕ → PassModel → PassModel → Result (Option ℕ) NotDone → Type 0
 SeesPut key value old new (Ok was) =
     SeesLast (put_by key value was) (reply_of_change (put_by key value was)) None old.sight new.sight
@@ -65,15 +67,15 @@ abbrev pub SeesRead : ℕ → Option ℕ → PassModel → PassModel → Type 0
 SeesRead key was old new = SeesLast (Find key) (found was) None old.sight new.sight
     ⊎ ((other value : ℕ) × (was ≢ Some other) × SeesLast (Swap key other value) (found was) None old.sight new.sight)
 
--- of a call that puts at a key what is made of the value that it returns: last the swap of that value; where the key is
--- absent, it only found that
+-- Each of its operations is a call of the tree's history, as the pass has seen it, and began behind all that the pass
+-- had seen before. Only the last has changed anything: the swap of the value.
 abbrev pub SeesUpdate : ℕ → (ℕ → ℕ → Type 0) → PassModel → PassModel → Result (Option ℕ) NotDone → Type 0
 SeesUpdate key makes old new (Ok None) = SeesRead key None old new
 SeesUpdate key makes old new (Ok (Some was)) = (value : ℕ) × makes was value × SeesPut key value old new (Ok (Some was))
 SeesUpdate key makes old new (Err why) = SeesNoChange old.sight new.sight
 
--- and of one that removes a key if it finds this value: last the delete, which took it; or it only found what it
--- returns
+-- Each of its operations is a call of the tree's history, as the pass has seen it, and began behind all that the pass
+-- had seen before. Only the last has changed anything: the delete, which took `was`.
 abbrev pub SeesRemove : ℕ → ℕ → PassModel → PassModel → Result (Option ℕ) NotDone → Type 0
 SeesRemove key was old new (Ok there) =
     (there ≡ Some was → SeesLast (Delete key) Yes (Some was) old.sight new.sight)

@@ -20,7 +20,7 @@ claims_in (e ∷ es) = if is_claim e.0 then claims_in es + 1 else claims_in es
 abbrev pub cards_taken : PassModel → ℕ
 cards_taken p = claims_in p.view.won
 
--- it took no card between these
+-- It takes no card.
 abbrev pub TakesNoCard : PassModel → PassModel → Type 0
 TakesNoCard old new = cards_taken new ≡ cards_taken old
 

@@ -57,7 +57,8 @@ abbrev pub ReadsValue : TreeModel → ℕ → Option ℕ → PassModel → PassM
 ReadsValue t key was old new = Concludes t (Find key) (found was) old new
     ⊎ ((other value : ℕ) × (was ≢ Some other) × Concludes t (Swap key other value) (found was) old new)
 
--- a value was put at a key, in one step, in the place of what was there of it
+-- The key had the value that is returned, or none, and has this one instead, by one step. On a key of the pass, this
+-- holds in the pass's map, and on any key as of one thread at the point of the last operation, in every run.
 abbrev pub PutsValue : TreeModel → ℕ → ℕ → PassModel → PassModel → Option ℕ → Type 0
 PutsValue t key value old new was = Concludes t (put_by key value was) (reply_of_change (put_by key value was)) old new
 
@@ -66,7 +67,8 @@ abbrev pub Computes : TreeModel → ℕ → PassModel → PassModel → Option �
 Computes t key old new was None = ReadsValue t key was old new
 Computes t key old new was (Some value) = PutsValue t key value old new was
 
--- a value was updated by what a closure made of it, in one step; a key that was absent is left so
+-- The key had the value that is returned, and has what the closure made of it instead, by one step; an absent key stays
+-- absent. As for `put`, this holds in the pass's map, and as of one thread.
 abbrev pub UpdatesValue : TreeModel → ℕ → (ℕ → ℕ → Type 0) → PassModel → PassModel → Option ℕ → Type 0
 UpdatesValue t key makes old new None = ReadsValue t key None old new
 UpdatesValue t key makes old new (Some was) = (value : ℕ) × makes was value × PutsValue t key value old new (Some was)
@@ -77,7 +79,9 @@ pub record RemovesValue (t : TreeModel) (key value : ℕ) (old new : PassModel) 
   pub took : TakesValue t key old new (Some value)
   pub sees : SeesLast (Delete key) Yes (Some value) old.sight new.sight
 
--- a key was removed if it was found with this value, and was left as it was found otherwise
+-- If the answer is `was`, the key was deleted, and the value that it had at that point is `was`. Otherwise the answer
+-- is what the key had at the point of a find, and the call has changed nothing. As for `put`, this holds in the pass's
+-- map, and as of one thread.
 pub record RemovesIf (t : TreeModel) (key was : ℕ) (old new : PassModel) (there : Option ℕ) : Type 0 where
   pub removed : there ≡ Some was → RemovesValue t key was old new
   pub left : there ≢ Some was → Concludes t (Find key) (found there) old new
@@ -103,7 +107,8 @@ abbrev pub RanOut : TablePlan → PassModel → NotDone → Type 0
 RanOut plan new Busy = Unit {0}
 RanOut plan new Spent = NoneIsLeft plan new
 
--- a call of several operations on a key has ended without an answer, and has changed nothing
+-- A call without an answer changes nothing of what the pass has, and has nothing in hand. Its last operation changes
+-- nothing in any run. `Spent` is returned only if no card is left, as by an insert or a delete.
 pub record IsNotDone (t : TreeModel) (key : ℕ) (old new : PassModel) (not_done : NotDone) : Type 0 where
   pub untouched : IsUntouched old new
   pub last : LastChangesNothing t key new.view
@@ -134,12 +139,12 @@ RemovesOrReads t key was old new (Ok (Lost there)) =
     IsUntouched old new × Concludes t (Find key) (found there) old new × (Owns old key → present_in old key ≢ Some was)
 RemovesOrReads t key was old new (Err why) = LaidDown t (Delete key) old new × RanOut t.plan new why
 
--- so many tries were made: each was hindered, or was answered by what another pass had changed
+-- `Busy` is returned only after all tries: each was hindered, or answered by what another pass had changed.
 abbrev pub AreTried : ℕ → PassModel → PassModel → Type 0
 AreTried tries old new =
     old.view.hindered + tries_in old.sight.mine + tries ≤ new.view.hindered + tries_in new.sight.mine
 
--- so many tries were made: each was hindered, or the key was read anew; and the key was read before
+-- `Busy` is returned only after all tries: each was hindered, or the key was read anew.
 abbrev pub AreTriedOrRead : ℕ → PassModel → PassModel → Type 0
 AreTriedOrRead tries old new = old.view.hindered + answers old + tries < new.view.hindered + answers new
 

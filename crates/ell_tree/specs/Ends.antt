@@ -121,9 +121,8 @@ abbrev pub changed_by : Op → Result (Option ℕ) NotDone → Result Bool NotDo
 changed_by op (Ok had) = Ok (changes_by op had)
 changed_by op (Err why) = Err why
 
--- the value that a delete of a key took, if it took one: of an own key, just that which the pass had. Whoever may
--- change the key, in every run of the tree in which the pass now knows this, the key had just this value at the call's
--- point
+-- The value is the one that it took: for a key of the pass, the value that the pass had; for any key, the one that it
+-- had at the call's point, in every run.
 pub record TakesValue (t : TreeModel) (key : ℕ) (old new : PassModel) (taken : Option ℕ) : Type 0 where
   pub mine : Owns old key → taken ≡ present_in old key
   pub took : IfSome taken (IsTakenInRuns t.plan new.view key)
@@ -135,7 +134,10 @@ TakesIfDelete t (Insert key value) old new had = Unit {0}
 TakesIfDelete t (Delete key) old new had = TakesValue t key old new had × SeesTake key old new (Ok had)
 TakesIfDelete t (Swap key was value) old new there = Unit {0}
 
--- how an insert, a delete or a swap ends; whatever was in its way is over
+-- On a key of the pass, it answers as a map that has the pass's keys, which becomes the map after the call. On any key,
+-- the answer is that of one thread at one point of the call, in every run. A call without an answer changes nothing in
+-- any run: `Busy` is returned only after as many hindrances as tries, and `Spent` only if no card is left, as the claim
+-- word says, or, where cards come back, no slot was found. What was in its way is over.
 abbrev pub Ends : TreeModel → ℕ → Op → PassModel → PassModel → Result Reply NotDone → Type 0
 Ends t tries op old new (Ok said) = Answers t op said old new × Meets old.view new.view
 Ends t tries op old new (Err why) =

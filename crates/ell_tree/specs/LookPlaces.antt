@@ -41,9 +41,10 @@ LastStands start upto None = SeesEachFound start 0 upto (λ key. None)
 LastStands start upto (Some pair) =
     SeesLookSo start (λ seen order began. (pair.0 < upto) × StandsAmong start pair (pair.0 + 1) upto seen order began)
 
--- what a pass has seen of a search for the one, and for the other
+-- What the pass has seen of the history is as after `scan`.
 abbrev pub SeesNext : TreeModel → ℕ → Option (ℕ × ℕ) → PassModel → PassModel → Type 0
 SeesNext t from there old new = NextStands (contents_of t.plan.start) from there old.sight new.sight
 
+-- What the pass has seen of the history is as after `scan`.
 abbrev pub SeesLast : TreeModel → ℕ → Option (ℕ × ℕ) → PassModel → PassModel → Type 0
 SeesLast t upto there old new = LastStands (contents_of t.plan.start) upto there old.sight new.sight

@@ -2,6 +2,7 @@ use Rattle.std.specs.Prelude.{◌≡◌, ℕ, ◌+◌, ◌*◌, ◌≤◌, Optio
 use Rattle.ell_cards.specs.declared.view.Slots.{Slots}
 use Rattle.ell_cards.specs.declared.view.View.{View}
 use Rattle.ell_cards.specs.Changes.{after_rest}
+use Rattle.ell_cards.specs.Depths.{deepest}
 use Rattle.ell_cards.specs.Looking.{HasThere, IsFoundInRuns}
 use Rattle.ell_cards.specs.Models.{EndsBy, PassModel}
 use Rattle.ell_cards.specs.Seeing.{HasSeenMore}
@@ -34,6 +35,10 @@ pub record OnlyLooks (old new : PassModel) (n : ℕ) : Type 0 where
 -- the most steps of a look, where no internal node is below more internal nodes than this
 abbrev pub look_steps : ℕ → ℕ
 look_steps most = 2 * most + 3
+
+-- It only loads, and makes at most `2 * depth + 3` steps. Otherwise the pass is unchanged.
+abbrev pub OnlyLooksOnce : TreeModel → PassModel → PassModel → Type 0
+OnlyLooksOnce t old new = OnlyLooks old new (look_steps (deepest t.plan))
 
 -- of these one begins the look, and the others go down
 abbrev pub stretch_steps : ℕ → ℕ

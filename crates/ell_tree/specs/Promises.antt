@@ -1,7 +1,9 @@
-use Rattle.std.specs.Prelude.{◌≡◌, ℕ, ◌+◌, ◌≤◌, Bool, false, Result, Ok}
+use Rattle.std.specs.Prelude.{◌≡◌, ◌≢◌, ℕ, ◌+◌, ◌*◌, ◌<◌, ◌≤◌, Bool, false, Result, Ok, Err}
 use Rattle.ell_core.specs.state.Machine.{worker_of}
 use Rattle.ell_core.specs.soundness.Sound.{MayChange}
 use Rattle.ell_cards.specs.Contention.{AreHinderedByOthers}
+use Rattle.ell_tree.specs.declared.operations.NotDone.{NotDone}
+use Rattle.ell_tree.specs.declared.operations.NotDone.TheVariants.{Busy}
 use Rattle.ell_tree.specs.CardsTaken.{TakesAtMost, TakesCards, TakesNoCard}
 use Rattle.ell_tree.specs.Counts.{IsAmortized, TookIn}
 use Rattle.ell_tree.specs.Ends.{CountsTries, change_steps_in}
@@ -16,30 +18,40 @@ pub record MayDo (t : TreeModel) (key : ℕ) (p : PassModel) : Type 0 where
   pub idle : IsIdle p
   pub may : MayChange (worker_of p.view.worker) key
 
--- an insert, a delete or a swap kept to its bounds: it took no more steps than so many tries take; no more than one try
--- takes, and another for each milestone that its pass came to know of; and it counted no more tries as hindered than
--- these
+-- It makes at most `tries * (7 * depth + 27) + 1` steps, and also at most `7 * depth + 28`, and `7 * depth + 27` for
+-- each milestone that the pass comes to know. It counts at most `tries` tries.
 pub record IsWithin (t : TreeModel) (tries : ℕ) (old new : PassModel) : Type 0 where
   pub most : TookIn t.plan old new (change_steps_in t.plan tries)
   pub amortized : IsAmortized t.plan old new
   pub counted : CountsTries tries old new
 
--- so many tries of a pass ended without an answer, and that is others' doing: each is counted as hindered; each showed
--- the pass a card that was given out, or came to its end, of which it did not know that; and in every run of the tree
--- others did something for each
+-- With more than `2 * cards` tries it is never `Busy`.
+abbrev pub HasEnough : {A : Type 0} → TreeModel → ℕ → Result A NotDone → Type 0
+HasEnough t tries result = 2 * t.plan.last_card < tries → result ≢ Err Busy
+
+-- On a key of the pass, it is never `Busy` with more than `2 * cards` tries.
+abbrev pub HasEnoughForOwn : {A : Type 0} → TreeModel → ℕ → ℕ → PassModel → Result A NotDone → Type 0
+HasEnoughForOwn t key tries old result = Owns old key → HasEnough t tries result
+
+-- A `Busy` call counts each of its tries as hindered. Each shows the pass a milestone that it did not know, and in
+-- every run they are no more than others' acts allow.
 pub record IsOthersDoing (t : TreeModel) (tries : ℕ) (old new : PassModel) : Type 0 where
   pub each : new.view.hindered ≡ old.view.hindered + tries
   pub milestones : milestones_known t.plan.last_card old.view + tries ≤ milestones_known t.plan.last_card new.view
   pub by_others : AreHinderedByOthers t.plan old.view.hindered new.view tries
 
--- the cards that an insert, a delete or a swap of a key took: one a try at most; by how it ended; and none, if it
--- changed nothing of a key of its own
+-- On a key of the pass, a `Busy` call counts each of its tries as hindered, because of what others did.
+abbrev pub IsOthersDoingForOwn : {A : Type 0} → TreeModel → ℕ → ℕ → PassModel → PassModel → Result A NotDone → Type 0
+IsOthersDoingForOwn t key tries old new result = Owns old key → result ≡ Err Busy → IsOthersDoing t tries old new
+
+-- Where no card comes back, it takes one card if it changes the map, at most one more for each hindered try, and never
+-- more than `tries`. If it changes nothing of a key of the pass, it takes none.
 pub record SpendsCards {E : Type 0} (key tries : ℕ) (old new : PassModel) (result : Result Bool E) : Type 0 where
   pub most : TakesAtMost tries old new
   pub each : TakesCards old new result
   pub unchanged : Owns old key → result ≡ Ok false → TakesNoCard old new
 
--- nothing was in the way between two states of a pass, no try was counted as hindered, and it knows what it knew
+-- Nothing is in its way, no try is counted as hindered, and the pass forgets no milestone.
 pub record IsQuiet (t : TreeModel) (old new : PassModel) : Type 0 where
   pub calm : new.view.hindrances ≡ old.view.hindrances
   pub meets : Meets old.view new.view

@@ -10,7 +10,7 @@ use Rattle.ell_tree.specs.declared.cursor.About.{About}
 use Rattle.ell_tree.specs.declared.scanning.Pair.{Pair}
 use Rattle.ell_tree.specs.declared.scanning.Scanned.{Scanned}
 use Rattle.ell_tree.specs.Ledgers.{Owns, PassModel, TreeModel, present_in}
-use Rattle.ell_tree.specs.Looks.{IsFoundIn, stretch_steps}
+use Rattle.ell_tree.specs.Looks.{IsFoundIn, OnlyLooks, stretch_steps}
 use Rattle.ell_cards.specs.Models.{TablePlan}
 use Rattle.ell_cards.specs.Depths.{deepest}
 
@@ -30,7 +30,7 @@ abbrev pub value_there : Option (ℕ × ℕ) → Contents
 value_there None key = None
 value_there (Some pair) key = if pair.0 == key then Some pair.1 else None
 
--- what a pass has found of these keys says of those that are its own what it has
+-- For the keys of the pass, it tells what the pass has.
 abbrev pub TellsItsOwn : PassModel → ℕ → ℕ → Contents → Type 0
 TellsItsOwn p from upto there = (key : ℕ) → from ≤ key → key < upto → Owns p key → there key ≡ present_in p key
 
@@ -56,6 +56,10 @@ pub record AreInOrder (from upto : ℕ) (pairs : List (ℕ × ℕ)) : Type 0 whe
 -- node beside the root, and two for a leaf; there are no more stretches than one for each card and one more
 abbrev pub scan_steps : TablePlan → ℕ
 scan_steps plan = (plan.last_card + 1) * stretch_steps (deepest plan) + 1
+
+-- It only loads, and makes at most `(cards + 1) * (2 * depth + 2) + 1` steps. Otherwise the pass is unchanged.
+abbrev pub OnlyScans : TreeModel → PassModel → PassModel → Type 0
+OnlyScans t old new = OnlyLooks old new (scan_steps t.plan)
 
 -- what a look has found of each key from one on and below another, of some state each
 abbrev pub HaveFound : View → ℕ → ℕ → Contents → Type 0

@@ -33,7 +33,6 @@ impl<M: Memory> Tree<M> {
         ensures worker { pass.new.view.worker ≡ pass.old.view.worker }
         ensures share { pass.new.view.share ≡ pass.old.view.share }
         ensures steps { Took pass.old pass.new 1 }
-        // It takes no card.
         ensures cards { TakesNoCard pass.old pass.new }
     {
         self.table.story(pass);

@@ -21,11 +21,11 @@ ghost use Rattle.ell_tree.specs.declared.operations.NotDone.TheVariants.{Busy};
 ghost use Rattle.ell_tree.specs.Ledgers.{IsIdlePassOf, Owns, TreeModel, present_in};
 ghost use Rattle.ell_cards.specs.Looking.{IsKnownInRun};
 ghost use Rattle.ell_tree.specs.LookPlaces.{SeesAround, SeesLast, SeesNext, SeesScan, SeesThere};
-ghost use Rattle.ell_tree.specs.Looks.{EndsLooks, IsFoundIn, OnlyLooks, look_steps};
-ghost use Rattle.ell_tree.specs.Scans.{AreFoundIn, AreInOrder, IsAbout, IsFoundAboutIn, IsLastIn, IsNextIn, TellsItsOwn, end_of, scan_steps, value_there, written};
+ghost use Rattle.ell_tree.specs.Looks.{EndsLooks, IsFoundIn, OnlyLooksOnce};
+ghost use Rattle.ell_tree.specs.Scans.{AreFoundIn, AreInOrder, IsAbout, IsFoundAboutIn, IsLastIn, IsNextIn, OnlyScans, TellsItsOwn, end_of, value_there, written};
 ghost use Rattle.ell_ops.specs.Contents.{contents_of};
 ghost use Rattle.ell_tree.specs.PassParts.{IsFirst, IsLeftPart, IsRightPart, IsUnion};
-ghost use Rattle.ell_tree.specs.Promises.{IsOthersDoing, IsQuiet, IsWithin, MayDo, SpendsCards};
+ghost use Rattle.ell_tree.specs.Promises.{HasEnough, HasEnoughForOwn, IsOthersDoing, IsOthersDoingForOwn, IsQuiet, IsWithin, MayDo, SpendsCards};
 ghost use Rattle.ell_cards.specs.Depths.{deepest};
 
 use crate::computing::compute;
@@ -119,9 +119,8 @@ impl<M: Memory> Tree<M> {
 
     /// Returns the value of any key up to `KEY_MAX`, whichever pass owns it, if the key is present: the value that it
     /// had in one state of the tree between the first step of the look and its last, whatever other passes did in the
-    /// meantime (`so`). A pass without keys may look too. The call writes nothing, helps no other call, waits for none,
-    /// and takes at most `2 * depth + 3` steps. A key of the pass's own is answered as `find` answers it. Two looks at
-    /// two keys are of two states. It takes no card. The gate is told of each step, as `Look`, and of neither a begin
+    /// meantime (`so`). A pass without keys may look too. The call writes nothing, helps no other call and waits for
+    /// none. Two looks at two keys are of two states. The gate is told of each step, as `Look`, and of neither a begin
     /// nor an end.
     pub fn look<G: StepGate>(&self, pass: &mut Pass<M>, key: u64, gate: &G) -> Option<u64>
         requires may { IsIdlePassOf self.now pass.old }
@@ -134,9 +133,7 @@ impl<M: Memory> Tree<M> {
         ensures one { pass.new.view.looks ≡ pass.old.view.looks + 1 }
         // For a key of the pass, it is what the pass has.
         ensures mine { Owns pass.old key → result ≡ present_in pass.old key }
-        // It only loads, and makes at most `2 * depth + 3` steps. Otherwise the pass is unchanged.
-        ensures only { OnlyLooks pass.old pass.new (look_steps (deepest self.now.plan)) }
-        // It takes no card.
+        ensures only { OnlyLooksOnce self.now pass.old pass.new }
         ensures cards { TakesNoCard pass.old pass.new }
     {
         look(&self.table, pass, key, gate)
@@ -177,11 +174,8 @@ impl<M: Memory> Tree<M> {
         ensures sees { SeesAround self.now result pass.old pass.new }
         ensures about { IsAbout key result }
         ensures one { pass.new.view.looks ≡ pass.old.view.looks + 1 }
-        // For the keys of the pass, it is what the pass has.
         ensures mine { TellsItsOwn pass.old result.low result.high (value_there result.found) }
-        // It only loads, and makes at most `2 * depth + 3` steps. Otherwise the pass is unchanged.
-        ensures only { OnlyLooks pass.old pass.new (look_steps (deepest self.now.plan)) }
-        // It takes no card.
+        ensures only { OnlyLooksOnce self.now pass.old pass.new }
         ensures cards { TakesNoCard pass.old pass.new }
     {
         look_about(&self.table, pass, key, gate)
@@ -193,9 +187,8 @@ impl<M: Memory> Tree<M> {
     /// scan got, is answered as by a look at it in one state of the tree between the first step of the scan and its
     /// last (`so`): what was present all along is written, what was absent all along is not, and each pair was there.
     /// Two keys may be of two states: a scan is not a snapshot. It writes nothing to the tree, helps no other call and
-    /// waits for none. It takes about the steps of a walk over the part of the tree that has these keys, and in every
-    /// schedule at most `(cards + 1) * (2 * depth + 2) + 1`. It takes no card. The gate is told of each step, as
-    /// `Look`.
+    /// waits for none. It takes about the steps of a walk over the part of the tree that has these keys. The gate is
+    /// told of each step, as `Look`.
     pub fn scan<G: StepGate>(
         &self,
         pass: &mut Pass<M>,
@@ -220,11 +213,8 @@ impl<M: Memory> Tree<M> {
         ensures next { IfSome result.next (λ next. (from ≤ next) × (next < upto) × (result.count ≡ length room.old)) }
         ensures rest { drop result.count room.new ≡ drop result.count room.old }
         ensures one { pass.new.view.looks ≡ pass.old.view.looks + 1 }
-        // For the keys of the pass, it tells what the pass has.
         ensures mine { TellsItsOwn pass.old from (end_of upto result) (contents_of (written room.new result)) }
-        // It only loads, and makes at most `(cards + 1) * (2 * depth + 2) + 1` steps. Otherwise the pass is unchanged.
-        ensures only { OnlyLooks pass.old pass.new (scan_steps self.now.plan) }
-        // It takes no card.
+        ensures only { OnlyScans self.now pass.old pass.new }
         ensures cards { TakesNoCard pass.old pass.new }
     {
         scan(&self.table, pass, from, upto, room, gate)
@@ -243,12 +233,9 @@ impl<M: Memory> Tree<M> {
         // The answer is the least present key that is at least this one, with its value: it was present in one state
         // since the call began, and each key before it was absent in one.
         ensures so { IsNextIn self.now pass.new.view key result }
-        // What the pass has seen of the history is as after `scan`.
         ensures sees { SeesNext self.now key result pass.old pass.new }
         ensures one { pass.new.view.looks ≡ pass.old.view.looks + 1 }
-        // It only loads, and makes at most `(cards + 1) * (2 * depth + 2) + 1` steps. Otherwise the pass is unchanged.
-        ensures only { OnlyLooks pass.old pass.new (scan_steps self.now.plan) }
-        // It takes no card.
+        ensures only { OnlyScans self.now pass.old pass.new }
         ensures cards { TakesNoCard pass.old pass.new }
     {
         next_from(&self.table, pass, key, gate)
@@ -268,9 +255,7 @@ impl<M: Memory> Tree<M> {
         // What the pass has seen of the history is as after `scan`, if there is such a key.
         ensures sees { key < greatest_key → SeesNext self.now (key + 1) result pass.old pass.new }
         ensures one { pass.new.view.looks ≡ pass.old.view.looks + 1 }
-        // It only loads, and makes at most `(cards + 1) * (2 * depth + 2) + 1` steps. Otherwise the pass is unchanged.
-        ensures only { OnlyLooks pass.old pass.new (scan_steps self.now.plan) }
-        // It takes no card.
+        ensures only { OnlyScans self.now pass.old pass.new }
         ensures cards { TakesNoCard pass.old pass.new }
     {
         next_from(&self.table, pass, key + 1, gate)
@@ -281,12 +266,9 @@ impl<M: Memory> Tree<M> {
         requires may { IsIdlePassOf self.now pass.old }
         // The answer is as that of `next_at_least`, for all keys.
         ensures so { IsNextIn self.now pass.new.view 0 result }
-        // What the pass has seen of the history is as after `scan`.
         ensures sees { SeesNext self.now 0 result pass.old pass.new }
         ensures one { pass.new.view.looks ≡ pass.old.view.looks + 1 }
-        // It only loads, and makes at most `(cards + 1) * (2 * depth + 2) + 1` steps. Otherwise the pass is unchanged.
-        ensures only { OnlyLooks pass.old pass.new (scan_steps self.now.plan) }
-        // It takes no card.
+        ensures only { OnlyScans self.now pass.old pass.new }
         ensures cards { TakesNoCard pass.old pass.new }
     {
         next_from(&self.table, pass, 0, gate)
@@ -305,12 +287,9 @@ impl<M: Memory> Tree<M> {
         // The answer is the greatest present key that is at most this one, with its value: it was present in one state
         // since the call began, and each key after it was absent in one.
         ensures so { IsLastIn self.now pass.new.view (key + 1) result }
-        // What the pass has seen of the history is as after `scan`.
         ensures sees { SeesLast self.now (key + 1) result pass.old pass.new }
         ensures one { pass.new.view.looks ≡ pass.old.view.looks + 1 }
-        // It only loads, and makes at most `(cards + 1) * (2 * depth + 2) + 1` steps. Otherwise the pass is unchanged.
-        ensures only { OnlyLooks pass.old pass.new (scan_steps self.now.plan) }
-        // It takes no card.
+        ensures only { OnlyScans self.now pass.old pass.new }
         ensures cards { TakesNoCard pass.old pass.new }
     {
         last_below(&self.table, pass, key + 1, gate)
@@ -330,9 +309,7 @@ impl<M: Memory> Tree<M> {
         // What the pass has seen of the history is as after `scan`, if there is such a key.
         ensures sees { 0 < key → SeesLast self.now key result pass.old pass.new }
         ensures one { pass.new.view.looks ≡ pass.old.view.looks + 1 }
-        // It only loads, and makes at most `(cards + 1) * (2 * depth + 2) + 1` steps. Otherwise the pass is unchanged.
-        ensures only { OnlyLooks pass.old pass.new (scan_steps self.now.plan) }
-        // It takes no card.
+        ensures only { OnlyScans self.now pass.old pass.new }
         ensures cards { TakesNoCard pass.old pass.new }
     {
         last_below(&self.table, pass, key, gate)
@@ -343,28 +320,23 @@ impl<M: Memory> Tree<M> {
         requires may { IsIdlePassOf self.now pass.old }
         // The answer is as that of `last_at_most`, for all keys.
         ensures so { IsLastIn self.now pass.new.view (greatest_key + 1) result }
-        // What the pass has seen of the history is as after `scan`.
         ensures sees { SeesLast self.now (greatest_key + 1) result pass.old pass.new }
         ensures one { pass.new.view.looks ≡ pass.old.view.looks + 1 }
-        // It only loads, and makes at most `(cards + 1) * (2 * depth + 2) + 1` steps. Otherwise the pass is unchanged.
-        ensures only { OnlyLooks pass.old pass.new (scan_steps self.now.plan) }
-        // It takes no card.
+        ensures only { OnlyScans self.now pass.old pass.new }
         ensures cards { TakesNoCard pass.old pass.new }
     {
         last_below(&self.table, pass, KEY_MAX + 1, gate)
     }
 
     /// Returns how many cards are not given out yet, 0 if all are, in one step: the number at that step, while other
-    /// passes went on. No more than that are ever left afterwards. An insert or a delete that changes the map takes
-    /// one, and at most one more for each try that something hinders; with none left it returns `Spent`. The gate is
-    /// told of the step, as `Look`.
+    /// passes went on. No more than that are ever left afterwards. The gate is told of the step, as `Look`.
     pub fn cards_left<G: StepGate>(&self, pass: &mut Pass<M>, gate: &G) -> u64
         requires own { pass.old.table ≡ self.now.id }
         // Returns how many cards its one load of the claim word found not given out. No more than that are left later.
         ensures reads { ReadsCardsLeft self.now.plan.last_card pass.old pass.new result }
         ensures most { AreLeftAtMost self.now pass.new.view result }
         ensures limit { result ≤ self.now.plan.last_card }
-        // The pass keeps its tree and its map, and takes no card.
+        // The pass keeps its tree and its map.
         ensures table { pass.new.table ≡ pass.old.table }
         ensures worker { pass.new.view.worker ≡ pass.old.view.worker }
         ensures taken { TakesNoCard pass.old pass.new }
@@ -379,14 +351,10 @@ impl<M: Memory> Tree<M> {
         // On a key of the pass, the answer is the value that the pass has. On any key, it is that of one thread at one
         // point of the call, in every run. The pass is idle, and keeps its keys and its share.
         ensures answers { Answers self.now (Find key) (found result) pass.old pass.new }
-        // The call began behind all that the pass had seen of the tree's history, it is a call of what the pass has seen
-        // now, and it is the last one of the pass's calls.
         ensures sees { SeesAnswer (Find key) pass.old pass.new (Ok (found result)) }
-        // Nothing is in its way, and no try is counted as hindered.
         ensures quiet { IsQuiet self.now pass.old pass.new }
         // It makes at most `3 * depth + 7` steps.
         ensures steps { Took pass.old pass.new (find_steps (deepest self.now.plan)) }
-        // It takes no card.
         ensures cards { TakesNoCard pass.old pass.new }
     {
         find(&self.table, pass, key, gate)
@@ -399,17 +367,9 @@ impl<M: Memory> Tree<M> {
     /// then: a card that another pass took first, or a change of a neighbor, which was helped to its end if no other
     /// call had ended it.
     ///
-    /// A call finds no card if all are given out. Where cards come back, it finds none if it found no slot to take; when
-    /// that may be is tested, and no clause says it.
-    ///
-    /// A call takes at most `tries * (7 * depth + 27) + 1` steps. Each try that ends without an answer shows the pass
-    /// a card given out, or come to its end, that it did not know of, and no card does either twice: so with more
-    /// than `2 * cards` tries it is never `Busy`, and all calls of a pass together take at most `7 * depth + 28`
-    /// steps each, and `2 * cards * (7 * depth + 27)` more, in every schedule. A call that is `Busy` counts all its
-    /// tries as hindered, and in every run of the tree they are at most two for each card that was given out to
-    /// another pass while it went on, and one for each card that some pass had in hand when it began. A call that
-    /// changes the map takes one card, and at most one more for each try that something hindered; any other takes at
-    /// most one for each of those, and none if it answers on a key of the pass.
+    /// Each try that ends without an answer shows the pass a card given out, or come to its end, that it did not know
+    /// of, and no card does either twice. So all calls of a pass together take at most `7 * depth + 28` steps each, and
+    /// `2 * cards * (7 * depth + 27)` more, in every schedule.
     pub fn insert<G: StepGate>(
         &self,
         pass: &mut Pass<M>,
@@ -420,26 +380,12 @@ impl<M: Memory> Tree<M> {
     ) -> Result<bool, NotDone>
         requires may { MayDo self.now key pass.old }
         requires tries { 1 ≤ tries }
-        // On a key of the pass, it answers as a map that has the pass's keys, which becomes the map after the call. On
-        // any key, the answer is that of one thread at one point of the call, in every run. A call without an answer
-        // changes nothing in any run: `Busy` is returned only after as many hindrances as tries, and `Spent` only if no
-        // card is left, as the claim word says, or, where cards come back, no slot was found. What was in its way is
-        // over.
         ensures ends { Ends self.now tries (Insert key value) pass.old pass.new (replied result) }
-        // The call began behind all that the pass had seen of the tree's history, it is a call of what the pass has seen
-        // now, and it is the last one of the pass's calls. A call that has no answer adds none.
         ensures sees { SeesAnswer (Insert key value) pass.old pass.new (replied result) }
-        // A `Busy` call counts each of its tries as hindered. Each shows the pass a milestone that it did not know, and
-        // in every run they are no more than others' acts allow.
         ensures others { result ≡ Err Busy → IsOthersDoing self.now tries pass.old pass.new }
-        // It makes at most `tries * (7 * depth + 27) + 1` steps, and also at most `7 * depth + 28`, and `7 * depth +
-        // 27` for each milestone that the pass comes to know. It counts at most `tries` tries.
         ensures steps { IsWithin self.now tries pass.old pass.new }
-        // It takes one card if it changes the map, at most one more for each hindered try, and never more than `tries`.
-        // If it changes nothing of a key of the pass, it takes none.
         ensures cards { self.now.plan.slots ≡ None → SpendsCards key tries pass.old pass.new result }
-        // With more than `2 * cards` tries it is never `Busy`.
-        ensures enough { 2 * self.now.plan.last_card < tries → result ≢ Err Busy }
+        ensures enough { HasEnough self.now tries result }
     {
         Ok(change(&self.table, pass, Op::Insert(key, value), tries, gate)?.is_some())
     }
@@ -462,21 +408,12 @@ impl<M: Memory> Tree<M> {
         // pass in the pass's map, and on any key as of one thread at one point of the call, in every run. A call
         // without an answer ends as an insert does, and what was in its way is over.
         ensures ends { Ends self.now tries (Swap key was value) pass.old pass.new (found_or_not_done result) }
-        // The call began behind all that the pass had seen of the tree's history, it is a call of what the pass has seen
-        // now, and it is the last one of the pass's calls. A call that has no answer adds none.
         ensures sees { SeesAnswer (Swap key was value) pass.old pass.new (found_or_not_done result) }
-        // A `Busy` call counts each of its tries as hindered. Each shows the pass a milestone that it did not know, and
-        // in every run they are no more than others' acts allow.
         ensures others { result ≡ Err Busy → IsOthersDoing self.now tries pass.old pass.new }
-        // It makes at most `tries * (7 * depth + 27) + 1` steps, and also at most `7 * depth + 28`, and `7 * depth +
-        // 27` for each milestone that the pass comes to know. It counts at most `tries` tries.
         ensures steps { IsWithin self.now tries pass.old pass.new }
-        // It takes one card if it finds `was`, at most one more for each hindered try, and never more than `tries`. If
-        // it changes nothing of a key of the pass, it takes none.
         ensures cards { self.now.plan.slots ≡ None →
             SpendsCards key tries pass.old pass.new (whether_swapped was result) }
-        // With more than `2 * cards` tries it is never `Busy`.
-        ensures enough { 2 * self.now.plan.last_card < tries → result ≢ Err Busy }
+        ensures enough { HasEnough self.now tries result }
     {
         Ok(change(&self.table, pass, Op::Swap(key, was, value), tries, gate)?)
     }
@@ -488,10 +425,8 @@ impl<M: Memory> Tree<M> {
     /// `Spent` if a try finds no card, as for `insert`: after either, the call has changed nothing, and nothing of it
     /// is under way.
     ///
-    /// A call takes at most `3 * depth + 7` steps, and `10 * depth + 35` more for each try. No other pass changes
-    /// anything about a key of the pass, so with more than `2 * cards` tries it is never `Busy`; on a shared key,
-    /// each try that finds it changed is the success of another call. A call that ends takes one card, and at most
-    /// one more for each try that something hindered.
+    /// No other pass changes anything about a key of the pass. On a shared key, each try that finds it changed is the
+    /// success of another call.
     pub fn put<G: StepGate>(
         &self,
         pass: &mut Pass<M>,
@@ -502,28 +437,17 @@ impl<M: Memory> Tree<M> {
     ) -> Result<Option<u64>, NotDone>
         requires may { MayDo self.now key pass.old }
         requires tries { 1 ≤ tries }
-        // The key had the value that is returned, or none, and has this one instead, by one step. On a key of the pass,
-        // this holds in the pass's map, and on any key as of one thread at the point of the last operation, in every
-        // run.
         ensures puts { IfOk result (PutsValue self.now key value pass.old pass.new) }
-        // Each of its operations is a call of the tree's history, as the pass has seen it, and began behind all that the
-        // pass had seen before. Only the last has changed anything: what put the value.
         ensures sees { SeesPut key value pass.old pass.new result }
-        // A call without an answer changes nothing of what the pass has, and has nothing in hand. Its last operation
-        // changes nothing in any run. `Spent` is returned only if no card is left, as by an insert or a delete.
         ensures not_done { IfErr result (IsNotDone self.now key pass.old pass.new) }
-        // `Busy` is returned only after all tries: each was hindered, or answered by what another pass had changed.
         ensures tried { result ≡ Err Busy → AreTried tries pass.old pass.new }
-        // On a key of the pass, a `Busy` call counts each of its tries as hindered, because of what others did.
-        ensures others { Owns pass.old key → result ≡ Err Busy → IsOthersDoing self.now tries pass.old pass.new }
+        ensures others { IsOthersDoingForOwn self.now key tries pass.old pass.new result }
         // It makes at most `3 * depth + 7` steps, and `10 * depth + 35` for each try. It counts at most `tries` tries.
         ensures steps { TookIn self.now.plan pass.old pass.new (update_steps_in self.now.plan tries) }
         ensures counted { CountsTries tries pass.old pass.new }
-        // It takes one card if it puts a value, at most one more for each hindered try, and never more than `tries`.
         ensures cards { self.now.plan.slots ≡ None →
             SpendsCards key tries pass.old pass.new (whether_put result) }
-        // On a key of the pass, it is never `Busy` with more than `2 * cards` tries.
-        ensures enough { Owns pass.old key → 2 * self.now.plan.last_card < tries → result ≢ Err Busy }
+        ensures enough { HasEnoughForOwn self.now key tries pass.old result }
     {
         let done = compute(&self.table, pass, key, |_| Some(value), tries, gate)?;
         Ok(done.was)
@@ -544,26 +468,16 @@ impl<M: Memory> Tree<M> {
         requires may { MayDo self.now key pass.old }
         requires tries { 1 ≤ tries }
         requires f { F.IsAlwaysCallable f }
-        // The key had the value that is returned, and has what the closure made of it instead, by one step; an absent
-        // key stays absent. As for `put`, this holds in the pass's map, and as of one thread.
         ensures updates { IfOk result (UpdatesValue self.now key (F.post f) pass.old pass.new) }
-        // Each of its operations is a call of the tree's history, as the pass has seen it, and began behind all that the
-        // pass had seen before. Only the last has changed anything: the swap of the value.
         ensures sees { SeesUpdate key (F.post f) pass.old pass.new result }
-        // A call without an answer changes nothing of what the pass has, and has nothing in hand. Its last operation
-        // changes nothing in any run. `Spent` is returned only if no card is left, as by an insert or a delete.
         ensures not_done { IfErr result (IsNotDone self.now key pass.old pass.new) }
-        // `Busy` is returned only after all tries: each was hindered, or answered by what another pass had changed.
         ensures tried { result ≡ Err Busy → AreTried tries pass.old pass.new }
-        // On a key of the pass, a `Busy` call counts each of its tries as hindered, because of what others did.
-        ensures others { Owns pass.old key → result ≡ Err Busy → IsOthersDoing self.now tries pass.old pass.new }
+        ensures others { IsOthersDoingForOwn self.now key tries pass.old pass.new result }
         // It makes at most `3 * depth + 7` steps, and `10 * depth + 35` for each try. It counts at most `tries` tries.
         ensures steps { TookIn self.now.plan pass.old pass.new (update_steps_in self.now.plan tries) }
         ensures counted { CountsTries tries pass.old pass.new }
-        // It takes one card if it puts a value, at most one more for each hindered try, and never more than `tries`.
         ensures cards { self.now.plan.slots ≡ None → SpendsCards key tries pass.old pass.new (whether result) }
-        // On a key of the pass, it is never `Busy` with more than `2 * cards` tries.
-        ensures enough { Owns pass.old key → 2 * self.now.plan.last_card < tries → result ≢ Err Busy }
+        ensures enough { HasEnoughForOwn self.now key tries pass.old result }
     {
         let made = |there: Option<u64>| match there {
             Some(value) => Some(f(value)),
@@ -589,23 +503,15 @@ impl<M: Memory> Tree<M> {
         // The key had the value that is returned, and has the sum modulo 2^64 instead, by one step; an absent key stays
         // absent. As for `put`, this holds in the pass's map, and as of one thread.
         ensures adds { IfOk result (UpdatesValue self.now key (IsSum addend) pass.old pass.new) }
-        // Each of its operations is a call of the tree's history, as the pass has seen it, and began behind all that the
-        // pass had seen before. Only the last has changed anything: the swap of the value.
         ensures sees { SeesUpdate key (IsSum addend) pass.old pass.new result }
-        // A call without an answer changes nothing of what the pass has, and has nothing in hand. Its last operation
-        // changes nothing in any run. `Spent` is returned only if no card is left, as by an insert or a delete.
         ensures not_done { IfErr result (IsNotDone self.now key pass.old pass.new) }
-        // `Busy` is returned only after all tries: each was hindered, or answered by what another pass had changed.
         ensures tried { result ≡ Err Busy → AreTried tries pass.old pass.new }
-        // On a key of the pass, a `Busy` call counts each of its tries as hindered, because of what others did.
-        ensures others { Owns pass.old key → result ≡ Err Busy → IsOthersDoing self.now tries pass.old pass.new }
+        ensures others { IsOthersDoingForOwn self.now key tries pass.old pass.new result }
         // It makes at most `3 * depth + 7` steps, and `10 * depth + 35` for each try. It counts at most `tries` tries.
         ensures steps { TookIn self.now.plan pass.old pass.new (update_steps_in self.now.plan tries) }
         ensures counted { CountsTries tries pass.old pass.new }
-        // It takes one card if it puts a value, at most one more for each hindered try, and never more than `tries`.
         ensures cards { self.now.plan.slots ≡ None → SpendsCards key tries pass.old pass.new (whether result) }
-        // On a key of the pass, it is never `Busy` with more than `2 * cards` tries.
-        ensures enough { Owns pass.old key → 2 * self.now.plan.last_card < tries → result ≢ Err Busy }
+        ensures enough { HasEnoughForOwn self.now key tries pass.old result }
     {
         self.update(
             pass,
@@ -627,27 +533,12 @@ impl<M: Memory> Tree<M> {
     ) -> Result<bool, NotDone>
         requires may { MayDo self.now key pass.old }
         requires tries { 1 ≤ tries }
-        // On a key of the pass, it answers as a map that has the pass's keys, which becomes the map after the call. On
-        // any key, the answer is that of one thread at one point of the call, in every run. A call without an answer
-        // changes nothing in any run: `Busy` is returned only after as many hindrances as tries, and `Spent` only if no
-        // card is left, as the claim word says, or, where cards come back, no slot was found. What was in its way is
-        // over.
         ensures ends { Ends self.now tries (Delete key) pass.old pass.new (replied result) }
-        // The call began behind all that the pass had seen of the tree's history, it is a call of what the pass has seen
-        // now, and it is the last one of the pass's calls. It took a value exactly if it says so. A call that has no
-        // answer adds none.
         ensures sees { SeesDelete key pass.old pass.new result }
-        // A `Busy` call counts each of its tries as hindered. Each shows the pass a milestone that it did not know, and
-        // in every run they are no more than others' acts allow.
         ensures others { result ≡ Err Busy → IsOthersDoing self.now tries pass.old pass.new }
-        // It makes at most `tries * (7 * depth + 27) + 1` steps, and also at most `7 * depth + 28`, and `7 * depth +
-        // 27` for each milestone that the pass comes to know. It counts at most `tries` tries.
         ensures steps { IsWithin self.now tries pass.old pass.new }
-        // It takes one card if it changes the map, at most one more for each hindered try, and never more than `tries`.
-        // If it changes nothing of a key of the pass, it takes none.
         ensures cards { self.now.plan.slots ≡ None → SpendsCards key tries pass.old pass.new result }
-        // With more than `2 * cards` tries it is never `Busy`.
-        ensures enough { 2 * self.now.plan.last_card < tries → result ≢ Err Busy }
+        ensures enough { HasEnough self.now tries result }
     {
         Ok(self.take(pass, key, tries, gate)?.is_some())
     }
@@ -664,30 +555,13 @@ impl<M: Memory> Tree<M> {
     ) -> Result<Option<u64>, NotDone>
         requires may { MayDo self.now key pass.old }
         requires tries { 1 ≤ tries }
-        // On a key of the pass, it answers as a map that has the pass's keys, which becomes the map after the call. On
-        // any key, the answer is that of one thread at one point of the call, in every run. A call without an answer
-        // changes nothing in any run: `Busy` is returned only after as many hindrances as tries, and `Spent` only if no
-        // card is left, as the claim word says, or, where cards come back, no slot was found. What was in its way is
-        // over.
         ensures ends { Ends self.now tries (Delete key) pass.old pass.new (replied (whether result)) }
-        // The call began behind all that the pass had seen of the tree's history, it is a call of what the pass has seen
-        // now, and it is the last one of the pass's calls. It took the value that it returns. A call that has no answer
-        // adds none.
         ensures sees { SeesTake key pass.old pass.new result }
-        // The value is the one that it took: for a key of the pass, the value that the pass had; for any key, the one
-        // that it had at the call's point, in every run.
         ensures took { IfOk result (TakesValue self.now key pass.old pass.new) }
-        // A `Busy` call counts each of its tries as hindered. Each shows the pass a milestone that it did not know, and
-        // in every run they are no more than others' acts allow.
         ensures others { result ≡ Err Busy → IsOthersDoing self.now tries pass.old pass.new }
-        // It makes at most `tries * (7 * depth + 27) + 1` steps, and also at most `7 * depth + 28`, and `7 * depth +
-        // 27` for each milestone that the pass comes to know. It counts at most `tries` tries.
         ensures steps { IsWithin self.now tries pass.old pass.new }
-        // It takes one card if it changes the map, at most one more for each hindered try, and never more than `tries`.
-        // If it changes nothing of a key of the pass, it takes none.
         ensures cards { self.now.plan.slots ≡ None → SpendsCards key tries pass.old pass.new (whether result) }
-        // With more than `2 * cards` tries it is never `Busy`.
-        ensures enough { 2 * self.now.plan.last_card < tries → result ≢ Err Busy }
+        ensures enough { HasEnough self.now tries result }
     {
         Ok(change(&self.table, pass, Op::Delete(key), tries, gate)?)
     }
@@ -706,29 +580,17 @@ impl<M: Memory> Tree<M> {
     ) -> Result<Option<u64>, NotDone>
         requires may { MayDo self.now key pass.old }
         requires tries { 1 ≤ tries }
-        // If the answer is `was`, the key was deleted, and the value that it had at that point is `was`. Otherwise the
-        // answer is what the key had at the point of a find, and the call has changed nothing. As for `put`, this holds
-        // in the pass's map, and as of one thread.
         ensures removes { IfOk result (RemovesIf self.now key was pass.old pass.new) }
-        // Each of its operations is a call of the tree's history, as the pass has seen it, and began behind all that the
-        // pass had seen before. Only the last has changed anything: the delete, which took `was`.
         ensures sees { SeesRemove key was pass.old pass.new result }
-        // A call without an answer changes nothing of what the pass has, and has nothing in hand. Its last operation
-        // changes nothing in any run. `Spent` is returned only if no card is left, as by an insert or a delete.
         ensures not_done { IfErr result (IsNotDone self.now key pass.old pass.new) }
-        // `Busy` is returned only after all tries: each was hindered, or the key was read anew.
         ensures tried { result ≡ Err Busy → AreTriedOrRead tries pass.old pass.new }
-        // On a key of the pass, a `Busy` call counts each of its tries as hindered, because of what others did.
-        ensures others { Owns pass.old key → result ≡ Err Busy → IsOthersDoing self.now tries pass.old pass.new }
+        ensures others { IsOthersDoingForOwn self.now key tries pass.old pass.new result }
         // It makes at most `3 * depth + 7` steps, and `10 * depth + 35` for each try. It counts at most `tries` tries.
         ensures steps { TookIn self.now.plan pass.old pass.new (update_steps_in self.now.plan tries) }
         ensures counted { CountsTries tries pass.old pass.new }
-        // It takes one card if it removes the key, at most one more for each hindered try, and never more than `tries`.
-        // If it removes nothing of a key of the pass, it takes none.
         ensures cards { self.now.plan.slots ≡ None →
             SpendsCards key tries pass.old pass.new (whether_swapped was result) }
-        // On a key of the pass, it is never `Busy` with more than `2 * cards` tries.
-        ensures enough { Owns pass.old key → 2 * self.now.plan.last_card < tries → result ≢ Err Busy }
+        ensures enough { HasEnoughForOwn self.now key tries pass.old result }
     {
         Ok(remove_if(&self.table, pass, key, was, tries, gate)?)
     }

@@ -5,8 +5,8 @@ use Rattle.std.specs.Map.{keys_of}
 use Rattle.ell_ops.specs.KeySet.{set_of}
 use Rattle.ell_ops.specs.Meaning.{greatest_key}
 use Rattle.ell_word.specs.Node.{greatest_card, greatest_number}
-use Rattle.ell_cards.specs.declared.view.TreeKind.{TreeKind}
-use Rattle.ell_cards.specs.declared.view.TreeKind.TheVariants.{Owned, Shared, Flat, Reusing}
+use Rattle.ell_cards.specs.declared.kind.TreeKind.{TreeKind}
+use Rattle.ell_cards.specs.declared.kind.TreeKind.TheVariants.{Owned, Shared, Flat, Reusing}
 use Rattle.ell_cards.specs.Kinds.{HasRoomForPasses, MayStartWith, is_flat, last_number, shares_others, slots_of}
 use Rattle.ell_cards.specs.Models.{TablePlan}
 use Rattle.ell_cards.specs.Starts.{MayStart, SlotsFit, IsSharedIn}

@@ -2,8 +2,8 @@ use Rattle.std.proofs.Common.{◌≡◌, ℕ, All, List, false, true, sym}
 use Rattle.std.proofs.lemmas.Bool.{false≢true}
 use Rattle.std.specs.Map.{keys_of}
 use Rattle.ell_ops.specs.KeySet.{set_of}
-use Rattle.ell_cards.specs.declared.view.TreeKind.{TreeKind}
-use Rattle.ell_cards.specs.declared.view.TreeKind.TheVariants.{Owned, Shared, Flat, Reusing}
+use Rattle.ell_cards.specs.declared.kind.TreeKind.{TreeKind}
+use Rattle.ell_cards.specs.declared.kind.TreeKind.TheVariants.{Owned, Shared, Flat, Reusing}
 use Rattle.ell_cards.specs.Kinds.{MayStartWith, shares_others}
 use Rattle.ell_tree.proofs.lemmas.PassParts.{first_pass}
 use Rattle.ell_tree.proofs.opening.Tree+FixedMemory+A.open.Goals as goal
