@@ -17,47 +17,48 @@ ghost use Rattle.ell_cards.specs.Calls.{after, TellsNode};
 ghost use Rattle.ell_cards.specs.Stepping.{StepsBySome};
 
 use crate::call::Call;
+use crate::gate::StepGate;
 use crate::memory::Memory;
 use crate::outcomes::update_outcome;
 use crate::pass::Pass;
 use crate::places::{child_address, field_address, update_address};
-use crate::table::CardTable;
+use crate::steps::TableSteps;
 use ell_layout::{Field, brought_node, update_word};
 use ell_word::{Link, State, Update};
 
-impl<M: Memory> CardTable<M> {
+impl<M: Memory, G: StepGate> TableSteps<'_, M, G> {
     /// Reads a word of a card that the pass knows flagged or marked: parent or leaf; of a delete's card also the
     /// grandparent, or the word that was read; and of another one a key. Nodes are of the table, ever deeper. The
     /// leaf's word has the tag that the card expects with it.
     #[inline(always)]
-    pub fn info(&self, pass: &mut Pass<M>, card: u64, field: Field) -> u64
-        requires own { pass.old.table ≡ self.now.id }
+    pub fn info(self, pass: &mut Pass<M>, card: u64, field: Field) -> u64
+        requires own { pass.old.table ≡ self.table.now.id }
         requires may { MayAsk pass.old.view card field }
         // It makes one step and counts it. The pass then knows exactly what this call tells.
         ensures step { Steps pass.old pass.new (after (call.Info card field) result pass.old.view) }
         // A node that the card names is one of the table, and no deeper than such a node may be: grandparent, parent,
         // leaf.
-        ensures node { TellsNode self.now.plan.last_card field result }
-        ensures shallow { IsShallow (deepest self.now.plan) pass.new.view (says_by field result) }
+        ensures node { TellsNode self.entry.table.now.plan.last_card field result }
+        ensures shallow { IsShallow (deepest self.entry.table.now.plan) pass.new.view (says_by field result) }
     {
-        self.names(pass);
+        self.table.names(pass);
         self.load(pass, Call::Info(card, field), field_address(card, field))
     }
 
     /// Reads a child of the parent of a card that the pass knows marked. It never changes.
     #[inline(always)]
-    pub fn frozen_child(&self, pass: &mut Pass<M>, card: u64, parent: u64, right: bool) -> Link
-        requires own { pass.old.table ≡ self.now.id }
+    pub fn frozen_child(self, pass: &mut Pass<M>, card: u64, parent: u64, right: bool) -> Link
+        requires own { pass.old.table ≡ self.table.now.id }
         requires may { KnowsPlace pass.old.view (Marked card) card P parent }
         // It makes one step and counts it. The pass then knows exactly what this call tells.
         ensures step { Steps pass.old pass.new (after (call.FrozenChild card parent right) (linked result) pass.old.view) }
         // The child is no deeper than a node of the table may be, and is one of the table; the node and the tag have a
         // word.
-        ensures shallow { IsShallow (deepest self.now.plan) pass.new.view result.node }
-        ensures there { InTable self.now.plan.last_card result.node }
+        ensures shallow { IsShallow (deepest self.entry.table.now.plan) pass.new.view result.node }
+        ensures there { InTable self.entry.table.now.plan.last_card result.node }
         ensures word { IsLink result }
     {
-        self.names(pass);
+        self.table.names(pass);
         let call = Call::FrozenChild(card, parent, right);
         Link::of(self.load(pass, call, child_address(parent, right)))
     }
@@ -67,7 +68,7 @@ impl<M: Memory> CardTable<M> {
     /// internal node. Whether the exchange succeeds or fails, the pass then knows that the card is changed.
     #[inline(always)]
     pub fn ichild(
-        &self,
+        self,
         pass: &mut Pass<M>,
         card: u64,
         parent: u64,
@@ -75,12 +76,12 @@ impl<M: Memory> CardTable<M> {
         replaces: bool,
         right: bool,
     )
-        requires own { pass.old.table ≡ self.now.id }
+        requires own { pass.old.table ≡ self.table.now.id }
         requires may { MayIChild pass.old.view card parent leaf replaces right }
         // It makes one step and counts it. The pass then knows what this call tells by the word that it found.
         ensures step { StepsBySome pass.old pass.new (call.IChild card parent leaf replaces right) }
     {
-        self.names(pass);
+        self.table.names(pass);
         let call = Call::IChild(card, parent, leaf, replaces, right);
         let word = child_address(parent, right);
         let node = brought_node(card, replaces);
@@ -89,13 +90,13 @@ impl<M: Memory> CardTable<M> {
 
     /// Takes an insert's flag away. Whether that succeeds or fails, the pass then knows that the card is over.
     #[inline(always)]
-    pub fn iunflag(&self, pass: &mut Pass<M>, card: u64, parent: u64)
-        requires own { pass.old.table ≡ self.now.id }
+    pub fn iunflag(self, pass: &mut Pass<M>, card: u64, parent: u64)
+        requires own { pass.old.table ≡ self.table.now.id }
         requires may { KnowsPlace pass.old.view (IChanged card) card P parent }
         // It makes one step and counts it. The pass then knows what this call tells by the word that it found.
         ensures step { StepsBySome pass.old pass.new (call.IUnflag card parent) }
     {
-        self.names(pass);
+        self.table.names(pass);
         let flag = update_word(State::IFlag, card);
         let clean = update_word(State::Clean, card);
         let call = Call::IUnflag(card, parent);
@@ -106,8 +107,8 @@ impl<M: Memory> CardTable<M> {
     /// the error is the update that was found: the card's own mark, or another one, and then the card can no longer be
     /// marked.
     #[inline(always)]
-    pub fn mark(&self, pass: &mut Pass<M>, card: u64, parent: u64, was: u64) -> Result<(), Update>
-        requires own { pass.old.table ≡ self.now.id }
+    pub fn mark(self, pass: &mut Pass<M>, card: u64, parent: u64, was: u64) -> Result<(), Update>
+        requires own { pass.old.table ≡ self.table.now.id }
         requires may { MayMark pass.old.view card parent was }
         // It makes one step and counts it. The pass then knows exactly what this call tells.
         ensures step { Steps pass.old pass.new (exchanged (if_won (is_ok result) exchange.Mark card)
@@ -115,9 +116,9 @@ impl<M: Memory> CardTable<M> {
             pass.old.view)) }
         // If the exchange is lost, it found a word other than the expected one, of a card of the table.
         ensures lost { IfErr result (λ found. packed found ≢ was) }
-        ensures card { IfErr result (λ found. found.card ≤ self.now.plan.last_card) }
+        ensures card { IfErr result (λ found. found.card ≤ self.entry.table.now.plan.last_card) }
     {
-        self.names(pass);
+        self.table.names(pass);
         let call = Call::Mark(card, parent, was);
         let mark = update_word(State::Mark, card);
         let found = self.exchange(pass, call, update_address(parent), was, mark);
@@ -128,7 +129,7 @@ impl<M: Memory> CardTable<M> {
     /// sibling of the leaf, with the next tag. Whether it succeeds or fails, the pass then knows that the card is cut.
     #[inline(always)]
     pub fn dchild(
-        &self,
+        self,
         pass: &mut Pass<M>,
         card: u64,
         grandparent: u64,
@@ -136,12 +137,12 @@ impl<M: Memory> CardTable<M> {
         sibling: u64,
         right: bool,
     )
-        requires own { pass.old.table ≡ self.now.id }
+        requires own { pass.old.table ≡ self.table.now.id }
         requires may { MayDChild pass.old.view card grandparent parent sibling right }
         // It makes one step and counts it. The pass then knows what this call tells by the word that it found.
         ensures step { StepsBySome pass.old pass.new (call.DChild card grandparent parent sibling right) }
     {
-        self.names(pass);
+        self.table.names(pass);
         let call = Call::DChild(card, grandparent, parent, sibling, right);
         let word = child_address(grandparent, right);
         self.exchange_child(pass, call, word, parent, sibling);
@@ -150,13 +151,13 @@ impl<M: Memory> CardTable<M> {
     /// Takes a delete's flag away after its child exchange. Whether that succeeds or fails, the pass then knows that
     /// the card is over.
     #[inline(always)]
-    pub fn dunflag(&self, pass: &mut Pass<M>, card: u64, grandparent: u64)
-        requires own { pass.old.table ≡ self.now.id }
+    pub fn dunflag(self, pass: &mut Pass<M>, card: u64, grandparent: u64)
+        requires own { pass.old.table ≡ self.table.now.id }
         requires may { KnowsPlace pass.old.view (Cut card) card Gp grandparent }
         // It makes one step and counts it. The pass then knows what this call tells by the word that it found.
         ensures step { StepsBySome pass.old pass.new (call.DUnflag card grandparent) }
     {
-        self.names(pass);
+        self.table.names(pass);
         let flag = update_word(State::DFlag, card);
         let clean = update_word(State::Clean, card);
         let call = Call::DUnflag(card, grandparent);
@@ -166,13 +167,13 @@ impl<M: Memory> CardTable<M> {
     /// Takes a delete's flag away after its lost mark. Whether that succeeds or fails, the pass then knows that the card
     /// is backed.
     #[inline(always)]
-    pub fn backtrack(&self, pass: &mut Pass<M>, card: u64, grandparent: u64)
-        requires own { pass.old.table ≡ self.now.id }
+    pub fn backtrack(self, pass: &mut Pass<M>, card: u64, grandparent: u64)
+        requires own { pass.old.table ≡ self.table.now.id }
         requires may { KnowsPlace pass.old.view (Unmarkable card) card Gp grandparent }
         // It makes one step and counts it. The pass then knows what this call tells by the word that it found.
         ensures step { StepsBySome pass.old pass.new (call.Backtrack card grandparent) }
     {
-        self.names(pass);
+        self.table.names(pass);
         let flag = update_word(State::DFlag, card);
         let clean = update_word(State::Clean, card);
         let call = Call::Backtrack(card, grandparent);

@@ -13,68 +13,80 @@ ghost use Rattle.ell_cards.specs.Stepping.{IsWholeIn, MayInTable};
 ghost use Rattle.ell_cards.specs.Guards.{MayClaim, MayFill, MayIFlag, MayDFlag};
 
 use crate::call::Call;
+use crate::gate::StepGate;
 use crate::memory::Memory;
 use crate::outcomes::update_outcome;
 use crate::pass::Pass;
 use crate::places::{field_address, update_address};
-use crate::table::CardTable;
+use crate::steps::TableSteps;
 use ell_layout::{Field, update_word};
 use ell_word::{State, Update, pack};
 use std::marker::Brand;
 
-impl<M: Memory> CardTable<M> {
+impl<M: Memory, G: StepGate> TableSteps<'_, M, G> {
     /// Takes the card that `next` read in this try, if it is still the next one. Returns `true` if it did. The node
     /// of an insert's or a swap's card gets this key: the greater one of its two keys, in a flat tree their branch. In
     /// a flat tree the pass may have a card in hand that has not won its flag, which it lays aside if it takes this one.
     #[inline(always)]
-    pub fn claim(&self, pass: &mut Pass<M>, card: u64, node_key: u64) -> bool
-        requires own { pass.old.table ≡ self.now.id }
-        requires may { MayClaim (flat_from self.now.plan) pass.old.view card (new_node self.now.plan node_key) }
+    pub fn claim(self, pass: &mut Pass<M>, card: u64, node_key: u64) -> bool
+        requires own { pass.old.table ≡ self.table.now.id }
+        requires may { MayClaim (flat_from self.table.now.plan) pass.old.view card
+            (new_node self.table.now.plan node_key) }
         // A card in hand that it lays aside is none whose slot it has taken.
-        requires kept { MayInTable self.now.plan pass.old (call.Claim card (new_node self.now.plan node_key)) }
-        requires room { card ≤ self.now.plan.last_card }
+        requires kept { MayInTable self.table.now.plan pass.old
+            (call.Claim card (new_node self.table.now.plan node_key)) }
+        requires room { card ≤ self.table.now.plan.last_card }
         // It makes one step and counts it. The pass then knows exactly what this call tells.
-        ensures step { Steps pass.old pass.new (after_claimed_row result card card (new_node self.now.plan node_key) pass.old.view) }
+        ensures step { Steps pass.old pass.new
+            (after_claimed_row result card card (new_node self.entry.table.now.plan node_key) pass.old.view) }
         // If it took the card, it has not taken that one's slot yet.
-        ensures fresh { IsFresh self.now.plan pass.old.slot result card }
+        ensures fresh { IsFresh self.entry.table.now.plan pass.old.slot result card }
     {
-        self.names(pass);
-        self.exchange_claim::<Brand>(pass, card, node_key, card + 1) == card
+        self.table.names(pass);
+        self.table
+            .exchange_claim::<Brand, G>(pass, card, node_key, card + 1, self.gate)
+            == card
     }
 
     /// Takes all numbers from the card that `next` read in this try to a later one at once, if the card is still the next
     /// one. Returns `true` if it did: then each of them was laid aside but the last one, which is in hand, as after so many
     /// claims in a row with `next` between two of them. A pass may have a card in hand, as for `claim`.
     #[inline(always)]
-    pub fn claim_row(&self, pass: &mut Pass<M>, first: u64, last: u64, node_key: u64) -> bool
-        requires own { pass.old.table ≡ self.now.id }
-        requires may { MayClaim (flat_from self.now.plan) pass.old.view first (new_node self.now.plan node_key) }
+    pub fn claim_row(self, pass: &mut Pass<M>, first: u64, last: u64, node_key: u64) -> bool
+        requires own { pass.old.table ≡ self.table.now.id }
+        requires may { MayClaim (flat_from self.table.now.plan) pass.old.view first
+            (new_node self.table.now.plan node_key) }
         // A card in hand that it lays aside is none whose slot it has taken.
-        requires kept { MayInTable self.now.plan pass.old (call.Claim first (new_node self.now.plan node_key)) }
-        requires places { self.now.plan.slots ≢ None }
+        requires kept { MayInTable self.table.now.plan pass.old
+            (call.Claim first (new_node self.table.now.plan node_key)) }
+        requires places { self.table.now.plan.slots ≢ None }
         requires order { first ≤ last }
-        requires room { last ≤ self.now.plan.last_card }
+        requires room { last ≤ self.table.now.plan.last_card }
         // It makes one step and counts it. The pass then knows exactly what these claims tell.
-        ensures step { Steps pass.old pass.new (after_claimed_row result first last (new_node self.now.plan node_key) pass.old.view) }
+        ensures step { Steps pass.old pass.new
+            (after_claimed_row result first last (new_node self.entry.table.now.plan node_key) pass.old.view) }
         // If it took the cards, it has not taken the last one's slot yet.
-        ensures fresh { IsFresh self.now.plan pass.old.slot result last }
+        ensures fresh { IsFresh self.entry.table.now.plan pass.old.slot result last }
     {
-        let _ = &self.table;
-        self.exchange_claim::<Brand>(pass, first, node_key, last + 1) == first
+        self.table.names(pass);
+        self.table.places_are_in_flat_trees();
+        self.table
+            .exchange_claim::<Brand, G>(pass, first, node_key, last + 1, self.gate)
+            == first
     }
 
     /// Stores a word of the card in hand, which is not flagged: for the grandparent or the parent the low 38 bits of a
     /// node, as the pass knows them. If the table has places, the pass has taken the card's slot.
     #[inline(always)]
-    pub fn fill(&self, pass: &mut Pass<M>, card: u64, field: Field, value: u64)
-        requires own { pass.old.table ≡ self.now.id }
+    pub fn fill(self, pass: &mut Pass<M>, card: u64, field: Field, value: u64)
+        requires own { pass.old.table ≡ self.table.now.id }
         requires may { MayFill pass.old.view card }
-        requires slot { self.now.plan.slots ≢ None → pass.old.slot ≡ Some card }
+        requires slot { self.table.now.plan.slots ≢ None → pass.old.slot ≡ Some card }
         requires fits { shown_word field value ≡ value }
         // It makes one step and counts it. The pass then knows exactly what this call tells.
         ensures step { Steps pass.old pass.new (after_fill field value pass.old.view) }
     {
-        self.names(pass);
+        self.table.names(pass);
         self.store(pass, card, field, field_address(card, field), value);
     }
 
@@ -84,24 +96,24 @@ impl<M: Memory> CardTable<M> {
     /// that are not counted.
     #[inline(always)]
     pub fn iflag(
-        &self,
+        self,
         pass: &mut Pass<M>,
         card: u64,
         parent: u64,
         from: Update,
     ) -> Result<(), Update>
-        requires own { pass.old.table ≡ self.now.id }
+        requires own { pass.old.table ≡ self.table.now.id }
         requires may { MayIFlag pass.old.view card parent from }
-        requires whole { self.now.plan.slots ≢ None → IsWholeIn pass.old card put_says }
+        requires whole { self.table.now.plan.slots ≢ None → IsWholeIn pass.old card put_says }
         // It makes one step and counts it. The pass then knows exactly what this call tells.
         ensures step { Steps pass.old pass.new (exchanged (if_won (is_ok result) exchange.IFlag card)
             (found_word (packed from) result) (after_flag (is_ok result) (IFlagged card) parent
             (found_update from result) pass.old.view)) }
         // If the exchange is lost, it found a word other than the expected one, of a card of the table.
         ensures lost { IfErr result (λ found. found ≢ from) }
-        ensures card { IfErr result (λ found. found.card ≤ self.now.plan.last_card) }
+        ensures card { IfErr result (λ found. found.card ≤ self.entry.table.now.plan.last_card) }
     {
-        self.names(pass);
+        self.table.names(pass);
         let expected = pack(from);
         let flag = update_word(State::IFlag, card);
         let call = Call::IFlag(card, parent, from);
@@ -116,24 +128,24 @@ impl<M: Memory> CardTable<M> {
     /// steps that are not counted.
     #[inline(always)]
     pub fn dflag(
-        &self,
+        self,
         pass: &mut Pass<M>,
         card: u64,
         grandparent: u64,
         from: Update,
     ) -> Result<(), Update>
-        requires own { pass.old.table ≡ self.now.id }
+        requires own { pass.old.table ≡ self.table.now.id }
         requires may { MayDFlag pass.old.view card grandparent from }
-        requires whole { self.now.plan.slots ≢ None → IsWholeIn pass.old card delete_says }
+        requires whole { self.table.now.plan.slots ≢ None → IsWholeIn pass.old card delete_says }
         // It makes one step and counts it. The pass then knows exactly what this call tells.
         ensures step { Steps pass.old pass.new (exchanged (if_won (is_ok result) exchange.DFlag card)
             (found_word (packed from) result) (after_flag (is_ok result) (DFlagged card) grandparent
             (found_update from result) pass.old.view)) }
         // If the exchange is lost, it found a word other than the expected one, of a card of the table.
         ensures lost { IfErr result (λ found. found ≢ from) }
-        ensures card { IfErr result (λ found. found.card ≤ self.now.plan.last_card) }
+        ensures card { IfErr result (λ found. found.card ≤ self.entry.table.now.plan.last_card) }
     {
-        self.names(pass);
+        self.table.names(pass);
         let expected = pack(from);
         let flag = update_word(State::DFlag, card);
         let call = Call::DFlag(card, grandparent, from);

@@ -1,37 +1,33 @@
-//! The table, and its one atomic step of each kind.
-ghost use Rattle.std.specs.Prelude.{◌==◌, ◌≡◌, ◌≢◌, ℕ, ◌<◌, ◌≤◌, ◌+◌, ◌%◌, None, Some, true};
+//! The table, and its one atomic step of each kind, of which a gate is told just before.
+ghost use Rattle.std.specs.Prelude.{◌==◌, ◌≡◌, ◌≢◌, ℕ, ◌<◌, ◌≤◌, ◌+◌, None, Some, true};
 ghost use prog.Atomic.{either};
 ghost use Rattle.ell_core.specs.declared.fact.Fact.{Fact};
 ghost use Rattle.ell_core.specs.state.Facts.{card_of_fact};
 ghost use Rattle.ell_word.specs.Node.{greatest_card, greatest_number};
-ghost use Rattle.ell_word.specs.Link.{IsLink, greatest_tag, linked, tag_unit};
+ghost use Rattle.ell_word.specs.Link.{greatest_tag};
 ghost use Rattle.ell_cards.specs.declared.view.Told.TheVariants.{Expects};
-ghost use Rattle.ell_cards.specs.Models.{flat_from, IsTold, Knows, Sees, Steps, StepsOn};
+ghost use Rattle.ell_cards.specs.Models.{flat_from, IsTold, Knows};
 ghost use Rattle.ell_cards.specs.Apart.{NamesLowBits};
-ghost use Rattle.ell_cards.specs.Changes.{after_fill};
 ghost use Rattle.ell_cards.specs.Naming.{IsNamed, IsPlaced};
-ghost use Rattle.ell_cards.specs.Guards.{MayFill};
-ghost use Rattle.ell_cards.specs.Depths.{IsShallow, deepest};
-ghost use Rattle.ell_cards.specs.Calls.{place_of, slot_address, atomic_of, next_link, Load, Store, Exchange, after, May, Tells};
-ghost use Rattle.ell_cards.specs.Looking.{KeysAreFixed, ReadsItsOwn, MissesItsOwn};
+ghost use Rattle.ell_cards.specs.Depths.{deepest};
+ghost use Rattle.ell_cards.specs.Calls.{place_of, atomic_of, Load, Store, Exchange, May};
 ghost use Rattle.ell_cards.specs.declared.view.Period.{Period};
 ghost use Rattle.ell_cards.specs.Periods.{after_flagging};
 ghost use Rattle.ell_cards.specs.Tied.{FlagsNone, FlagsCard};
 ghost use Rattle.ell_cards.specs.declared.call.Call.TheVariants as call;
 ghost use Rattle.ell_cards.specs.Seeing.{HasSeenAll, HasSeenMore, IsCalm, Marks};
-ghost use Rattle.ell_cards.specs.Shown.{IsNoClaim, StoresWord, cut_word, shown_word};
+ghost use Rattle.ell_cards.specs.Shown.{StoresWord};
 ghost use Rattle.ell_cards.specs.Skipping.{MayStepOn};
 ghost use Rattle.ell_cards.specs.SlotWords.{slot_of};
-ghost use Rattle.ell_cards.specs.Stepping.{Enters, EntersBy, Exchanges, IsQuiet, MayInTable, MayTell, KeepsPass, SeesBy, SeesOnBy, StepsBy};
+ghost use Rattle.ell_cards.specs.Stepping.{EntersBy, Exchanges, IsQuiet, MayInTable, MayTell, KeepsPass, SeesBy, SeesOnBy, StepsBy};
 
 use crate::call::Call;
+use crate::gate::{StepGate, StepKind, kind_of};
 use crate::memory::Memory;
 use crate::pass::{Pass, one_more};
 use crate::rule::{All, By, Marked, Marking, Noted, Noting, Telling, TellingAll};
 use crate::view::Slots;
-use ell_layout::Field;
-use ell_word::{Link, TURN_SIZE, child_word};
-use std::marker::{Brand, Model};
+use std::marker::Model;
 
 /// A table of cards, whose words many passes share.
 #[derive(Drop)]
@@ -114,7 +110,13 @@ impl<M: Memory> CardTable<M> {
 
     // Loads a word, a step that is not counted.
     #[inline(always)]
-    pub(crate) fn load_as<J: Telling>(&self, pass: &mut Pass<M>, call: Call, word: usize) -> u64
+    pub(crate) fn load_as<J: Telling, G: StepGate>(
+        &self,
+        pass: &mut Pass<M>,
+        call: Call,
+        word: usize,
+        gate: &G,
+    ) -> u64
         requires own { pass.old.table ≡ self.now.id }
         requires may { May self.now.plan call pass.old.view }
         requires quiet { IsQuiet call }
@@ -127,58 +129,18 @@ impl<M: Memory> CardTable<M> {
         ensures told { J.then result pass.new.view }
         ensures step { SeesBy pass.old pass.new }
     {
-        let _ = call;
+        gate.before(pass.label, kind_of(call));
         self.table.load::<By<J>>(&mut pass.seat, word)
-    }
-
-    /// A step call that loads its word, and leaves the step to be counted by its caller.
-    #[inline(always)]
-    pub(crate) fn see(&self, pass: &mut Pass<M>, call: Call, word: usize) -> u64
-        requires own { pass.old.table ≡ self.now.id }
-        requires may { May self.now.plan call pass.old.view }
-        requires quiet { IsQuiet call }
-        requires calm { IsCalm call }
-        requires word { word ≡ place_of call }
-        requires kept { MayInTable self.now.plan pass.old call }
-        requires atomic { atomic_of call ≡ Load }
-        ensures step { Sees pass.old pass.new (after call result pass.old.view) }
-        ensures tells { Tells self.now.plan call pass.old.view result }
-        ensures looked { ReadsItsOwn pass.new.view }
-        ensures missed { MissesItsOwn (flat_from self.now.plan) pass.new.view }
-        ensures fixed { KeysAreFixed pass.new.view }
-        ensures named { IsNamed self.now.plan.last_card pass.new.view }
-        ensures shallow { (x : ℕ) → IsShallow (deepest self.now.plan) pass.new.view x }
-    {
-        self.load_as::<Brand>(pass, call, word)
-    }
-
-    /// A step call that loads its word.
-    #[inline(always)]
-    pub(crate) fn load(&self, pass: &mut Pass<M>, call: Call, word: usize) -> u64
-        requires own { pass.old.table ≡ self.now.id }
-        requires may { May self.now.plan call pass.old.view }
-        requires quiet { IsQuiet call }
-        requires calm { IsCalm call }
-        requires word { word ≡ place_of call }
-        requires kept { MayInTable self.now.plan pass.old call }
-        requires atomic { atomic_of call ≡ Load }
-        ensures step { Steps pass.old pass.new (after call result pass.old.view) }
-        ensures tells { Tells self.now.plan call pass.old.view result }
-        ensures named { IsNamed self.now.plan.last_card pass.new.view }
-        ensures shallow { (x : ℕ) → IsShallow (deepest self.now.plan) pass.new.view x }
-    {
-        let found = self.see(pass, call, word);
-        pass.count(1);
-        found
     }
 
     // Loads a word by a step that may answer an operation, and is not counted.
     #[inline(always)]
-    pub(crate) fn load_marked_as<J: Marking>(
+    pub(crate) fn load_marked_as<J: Marking, G: StepGate>(
         &self,
         pass: &mut Pass<M>,
         call: Call,
         word: usize,
+        gate: &G,
     ) -> u64
         requires own { pass.old.table ≡ self.now.id }
         requires may { May self.now.plan call pass.old.view }
@@ -193,26 +155,8 @@ impl<M: Memory> CardTable<M> {
         ensures step { SeesOnBy pass.old pass.new }
         ensures marks { Marks call pass.old.view pass.old.sight pass.new.sight }
     {
-        let _ = call;
+        gate.before(pass.label, kind_of(call));
         self.table.load::<Marked<J>>(&mut pass.seat, word)
-    }
-
-    /// A step call that may answer an operation, which loads its word.
-    #[inline(always)]
-    pub(crate) fn load_marked(&self, pass: &mut Pass<M>, call: Call, word: usize) -> u64
-        requires own { pass.old.table ≡ self.now.id }
-        requires may { May self.now.plan call pass.old.view }
-        requires quiet { IsQuiet call }
-        requires word { word ≡ place_of call }
-        requires kept { MayInTable self.now.plan pass.old call }
-        requires atomic { atomic_of call ≡ Load }
-        ensures step { StepsOn pass.old pass.new (after call result pass.old.view) }
-        ensures marks { Marks call pass.old.view pass.old.sight pass.new.sight }
-        ensures tells { Tells self.now.plan call pass.old.view result }
-    {
-        let found = self.load_marked_as::<Brand>(pass, call, word);
-        pass.count(1);
-        found
     }
 
     // Loads the claim word by a step that is not counted, by which the pass sees all of the table's history.
@@ -230,9 +174,16 @@ impl<M: Memory> CardTable<M> {
         self.table.load::<All<J>>(&mut pass.seat, 0)
     }
 
-    // Loads a word, a step that is not counted, after the pass has begun a period if there are places and it is in none.
+    // Loads a word, a step that is not counted, after the pass has begun a period if there are places and it is in none. The gate is
+    // told before that.
     #[inline(always)]
-    fn load_entered_as<J: Marking>(&self, pass: &mut Pass<M>, call: Call, word: usize) -> u64
+    pub(crate) fn load_entered_as<J: Marking, G: StepGate>(
+        &self,
+        pass: &mut Pass<M>,
+        call: Call,
+        word: usize,
+        gate: &G,
+    ) -> u64
         requires own { pass.old.table ≡ self.now.id }
         requires may { May self.now.plan call pass.old.view }
         requires word { word ≡ place_of call }
@@ -244,31 +195,21 @@ impl<M: Memory> CardTable<M> {
         ensures told { J.then result pass.new.view }
         ensures step { EntersBy self.now.plan.slots call pass.old pass.new }
     {
-        let _ = call;
+        gate.before(pass.label, kind_of(call));
         self.enter(&mut pass.standing, &mut pass.seat);
         self.table.load::<Marked<J>>(&mut pass.seat, word)
     }
 
-    /// A step call that loads its word, as `see`, in a period: where there are places, and the pass is in no period, it begins
-    /// one first, by a load of the clock and a store to its place, which are not counted.
-    #[inline(always)]
-    pub(crate) fn see_entered(&self, pass: &mut Pass<M>, call: Call, word: usize) -> u64
-        requires own { pass.old.table ≡ self.now.id }
-        requires may { May self.now.plan call pass.old.view }
-        requires word { word ≡ place_of call }
-        requires kept { MayInTable self.now.plan pass.old call }
-        requires atomic { atomic_of call ≡ Load }
-        ensures step { Enters self.now.plan.slots pass.old pass.new (after call result pass.old.view) }
-        ensures marks { Marks call pass.old.view pass.old.sight pass.new.sight }
-        ensures tells { Tells self.now.plan call pass.old.view result }
-        ensures shallow { (x : ℕ) → IsShallow (deepest self.now.plan) pass.new.view x }
-    {
-        self.load_entered_as::<Brand>(pass, call, word)
-    }
-
     // Stores a word.
     #[inline(always)]
-    fn store_as<J: Telling>(&self, pass: &mut Pass<M>, call: Call, word: usize, value: u64)
+    pub(crate) fn store_as<J: Telling, G: StepGate>(
+        &self,
+        pass: &mut Pass<M>,
+        call: Call,
+        word: usize,
+        value: u64,
+        gate: &G,
+    )
         requires own { pass.old.table ≡ self.now.id }
         requires may { May self.now.plan call pass.old.view }
         requires quiet { IsQuiet call }
@@ -281,33 +222,21 @@ impl<M: Memory> CardTable<M> {
         ensures told { J.then value pass.new.view }
         ensures step { StepsBy pass.old pass.new }
     {
-        let _ = call;
+        gate.before(pass.label, kind_of(call));
         self.table.store::<By<J>>(&mut pass.seat, word, value);
         pass.steps = one_more(pass.steps);
     }
 
-    /// The step call that stores a word of the card in hand.
-    #[inline(always)]
-    pub(crate) fn store(&self, pass: &mut Pass<M>, card: u64, field: Field, word: usize, value: u64)
-        requires own { pass.old.table ≡ self.now.id }
-        requires may { MayFill pass.old.view card }
-        requires slot { self.now.plan.slots ≢ None → pass.old.slot ≡ Some card }
-        requires fits { shown_word field value ≡ value }
-        requires word { word ≡ slot_address card field }
-        ensures step { Steps pass.old pass.new (after_fill field value pass.old.view) }
-    {
-        self.store_as::<Brand>(pass, Call::Fill(card, field, value), word, value)
-    }
-
     // Exchanges a word.
     #[inline(always)]
-    pub(crate) fn exchange_as<J: Telling>(
+    pub(crate) fn exchange_as<J: Telling, G: StepGate>(
         &self,
         pass: &mut Pass<M>,
         call: Call,
         word: usize,
         expected: u64,
         value: u64,
+        gate: &G,
     ) -> u64
         requires own { pass.old.table ≡ self.now.id }
         requires may { May self.now.plan call pass.old.view }
@@ -321,7 +250,7 @@ impl<M: Memory> CardTable<M> {
         ensures told { J.then result pass.new.view }
         ensures step { StepsBy pass.old pass.new }
     {
-        let _ = call;
+        gate.before(pass.label, kind_of(call));
         let found = self
             .table
             .compare_exchange::<By<J>>(&mut pass.seat, word, expected, value);
@@ -329,33 +258,9 @@ impl<M: Memory> CardTable<M> {
         found
     }
 
-    /// A step call that exchanges its word, which is not the claim word, if it has the expected value, and returns what it
-    /// found.
-    #[inline(always)]
-    pub(crate) fn exchange(
-        &self,
-        pass: &mut Pass<M>,
-        call: Call,
-        word: usize,
-        expected: u64,
-        value: u64,
-    ) -> u64
-        requires own { pass.old.table ≡ self.now.id }
-        requires may { May self.now.plan call pass.old.view }
-        requires plain { IsNoClaim call }
-        requires unflagging { FlagsNone call }
-        requires word { word ≡ place_of call }
-        requires kept { MayInTable self.now.plan pass.old call }
-        requires atomic { atomic_of call ≡ Exchange expected value }
-        ensures step { Steps pass.old pass.new (after call result pass.old.view) }
-        ensures tells { Tells self.now.plan call pass.old.view result }
-    {
-        self.exchange_as::<Brand>(pass, call, word, expected, value)
-    }
-
     // Sets the flag of the card in hand, and sets its slot free if the flag is lost, as the card is laid aside then.
     #[inline(always)]
-    fn flag_as<J: Noting>(
+    pub(crate) fn flag_as<J: Noting, G: StepGate>(
         &self,
         pass: &mut Pass<M>,
         card: u64,
@@ -363,6 +268,7 @@ impl<M: Memory> CardTable<M> {
         word: usize,
         expected: u64,
         value: u64,
+        gate: &G,
     ) -> u64
         requires own { pass.old.table ≡ self.now.id }
         requires may { May self.now.plan call pass.old.view }
@@ -378,7 +284,7 @@ impl<M: Memory> CardTable<M> {
         ensures told { J.then result pass.new.view }
         ensures step { StepsBy pass.old pass.new }
     {
-        let _ = call;
+        gate.before(pass.label, kind_of(call));
         let found = self
             .table
             .compare_exchange::<Noted<J>>(&mut pass.seat, word, expected, value);
@@ -387,39 +293,16 @@ impl<M: Memory> CardTable<M> {
         found
     }
 
-    /// A step call that sets the flag of the card in hand, if the word has the expected value, and returns what it found. If
-    /// that fails, the card is laid aside, and in a table with places its slot is set free, by steps that are not counted.
-    #[inline(always)]
-    pub(crate) fn flag(
-        &self,
-        pass: &mut Pass<M>,
-        card: u64,
-        call: Call,
-        word: usize,
-        expected: u64,
-        value: u64,
-    ) -> u64
-        requires own { pass.old.table ≡ self.now.id }
-        requires may { May self.now.plan call pass.old.view }
-        requires word { word ≡ place_of call }
-        requires kept { MayInTable self.now.plan pass.old call }
-        requires flags { FlagsCard call card }
-        requires atomic { atomic_of call ≡ Exchange expected value }
-        ensures step { Steps pass.old pass.new (after call result pass.old.view) }
-        ensures tells { Tells self.now.plan call pass.old.view result }
-    {
-        self.flag_as::<Brand>(pass, card, call, word, expected, value)
-    }
-
     // Exchanges the claim word, if a card is still the next one, for the number of a later one: a step that the rule allows,
     // though it may be that of many step calls. The key of the card's node is there for what the step tells alone.
     #[inline(always)]
-    pub(crate) fn exchange_claim<J: Telling>(
+    pub(crate) fn exchange_claim<J: Telling, G: StepGate>(
         &self,
         pass: &mut Pass<M>,
         card: u64,
         node_key: u64,
         next: u64,
+        gate: &G,
     ) -> u64
         requires own { pass.old.table ≡ self.now.id }
         requires rule { MayStepOn self.now.plan pass.old 0 (λ n. either (n == card) next n) J.then }
@@ -428,50 +311,11 @@ impl<M: Memory> CardTable<M> {
         ensures step { StepsBy pass.old pass.new }
     {
         let _ = node_key;
+        gate.before(pass.label, StepKind::Exchange(ell_core::Exchange::Claim));
         let found = self
             .table
             .compare_exchange::<By<J>>(&mut pass.seat, 0, card, next);
         pass.steps = one_more(pass.steps);
         found
     }
-
-    /// A step call that exchanges the child word of a link, if it has that still, for that of another node with the next tag,
-    /// and returns what it found.
-    #[inline(always)]
-    pub(crate) fn exchange_child(
-        &self,
-        pass: &mut Pass<M>,
-        call: Call,
-        word: usize,
-        old: Link,
-        node: u64,
-    ) -> u64
-        requires own { pass.old.table ≡ self.now.id }
-        requires may { May self.now.plan call pass.old.view }
-        requires plain { IsNoClaim call }
-        requires word { word ≡ place_of call }
-        requires kept { MayInTable self.now.plan pass.old call }
-        requires unflagging { FlagsNone call }
-        requires link { IsLink old }
-        requires fits { self.now.plan.slots ≡ None → node < tag_unit }
-        requires few { self.now.plan.slots ≡ None → old.tag ≤ greatest_card }
-        requires atomic { atomic_of call ≡ Exchange (linked old) (linked (next_link old node)) }
-        ensures step { Steps pass.old pass.new (after call result pass.old.view) }
-    {
-        self.exchange_as::<Brand>(pass, call, word, old.word(), next_word(old, node))
-    }
-}
-
-// The word of the child word that follows one: the low bits of another node, and the next tag, after the last one the
-// first.
-#[inline(always)]
-fn next_word(old: Link, node: u64) -> u64
-    requires old { IsLink old }
-    ensures { result ≡ cut_word (linked (next_link old node)) }
-{
-    let next = Link {
-        node: child_word(node),
-        tag: (old.tag + 1) % TURN_SIZE,
-    };
-    next.word()
 }

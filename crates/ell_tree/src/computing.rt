@@ -8,9 +8,8 @@ ghost use Rattle.ell_tree.specs.Promises.{IsOthersDoing, MayDo, SpendsCards};
 ghost use Rattle.ell_tree.specs.declared.operations.NotDone.TheVariants.{Busy};
 ghost use Rattle.ell_cards.specs.Depths.{deepest};
 
-use crate::gate::StepGate;
 use crate::operations::{NotDone, change, find};
-use ell_cards::{CardTable, Memory, Pass};
+use ell_cards::{Memory, Pass, StepGate, TableSteps};
 use ell_ops::Op;
 
 /// What a call found at its key, and the value that it has put in place of that, if it has put any.
@@ -33,33 +32,35 @@ pub(crate) enum Replaced {
 /// pass has changed the key in the meantime: then it computes the new value again from what is there now. It makes at
 /// most the given number of tries; each begins with what is there.
 pub(crate) fn compute<M: Memory, G: StepGate, F: Fn(Option<u64>) -> Option<u64>>(
-    table: &CardTable<M>,
+    steps: TableSteps<M, G>,
     pass: &mut Pass<M>,
     key: u64,
     make: F,
     tries: u32,
-    gate: &G,
 ) -> Result<Computed, NotDone>
-    requires may { MayDo table.now key pass.old }
+    requires may { MayDo steps.table.now key pass.old }
     requires tries { 1 ≤ tries }
     requires make { F.IsAlwaysCallable make }
-    ensures computes { IfOk result (λ done. Computes table.now key pass.old pass.new done.was done.made) }
+    ensures computes { IfOk result (λ done. Computes steps.entry.table.now key pass.old pass.new done.was done.made) }
     ensures makes { IfOk result (λ done. F.post make done.was done.made) }
-    ensures not_done { IfErr result (IsNotDone table.now key pass.old pass.new) }
+    ensures not_done { IfErr result (IsNotDone steps.entry.table.now key pass.old pass.new) }
     ensures tried { result ≡ Err Busy → AreTried tries pass.old pass.new }
-    ensures others { Owns pass.old key → result ≡ Err Busy → IsOthersDoing table.now tries pass.old pass.new }
-    ensures steps { TookIn table.now.plan pass.old pass.new (update_steps_in table.now.plan tries) }
+    ensures others { Owns pass.old key → result ≡ Err Busy →
+        IsOthersDoing steps.entry.table.now tries pass.old pass.new }
+    ensures steps { TookIn steps.entry.table.now.plan pass.old pass.new
+        (update_steps_in steps.entry.table.now.plan tries) }
     ensures counted { CountsTries tries pass.old pass.new }
-    ensures cards { table.now.plan.slots ≡ None → SpendsCards key tries pass.old pass.new (whether_made result) }
-    ensures enough { Owns pass.old key → 2 * table.now.plan.last_card < tries → result ≢ Err Busy }
+    ensures cards { steps.entry.table.now.plan.slots ≡ None →
+        SpendsCards key tries pass.old pass.new (whether_made result) }
+    ensures enough { Owns pass.old key → 2 * steps.entry.table.now.plan.last_card < tries → result ≢ Err Busy }
 {
-    let mut was = find(table, pass, key, gate);
+    let mut was = find(steps, pass, key);
     let mut made = make(was);
     for _round in 0..tries {
         let Some(value) = made else {
             return Ok(Computed { was, made });
         };
-        match replace(table, pass, key, was, value, gate) {
+        match replace(steps, pass, key, was, value) {
             Ok(Replaced::Done) => return Ok(Computed { was, made }),
             Ok(Replaced::Lost(there)) => {
                 was = there;
@@ -70,7 +71,7 @@ pub(crate) fn compute<M: Memory, G: StepGate, F: Fn(Option<u64>) -> Option<u64>>
         }
     }
     if made.is_some() {
-        table.claims_stay_inside(pass);
+        steps.table.claims_stay_inside(pass);
         return Err(NotDone::Busy);
     }
     Ok(Computed { was, made })
@@ -78,24 +79,24 @@ pub(crate) fn compute<M: Memory, G: StepGate, F: Fn(Option<u64>) -> Option<u64>>
 
 // One try to put a value in place of what was found at a key.
 fn replace<M: Memory, G: StepGate>(
-    table: &CardTable<M>,
+    steps: TableSteps<M, G>,
     pass: &mut Pass<M>,
     key: u64,
     was: Option<u64>,
     value: u64,
-    gate: &G,
 ) -> Result<Replaced, NotDone>
-    requires may { MayDo table.now key pass.old }
-    ensures replaces { Replaces table.now key was value pass.old pass.new result }
-    ensures others { result ≡ Err Busy → IsOthersDoing table.now 1 pass.old pass.new }
-    ensures steps { TookIn table.now.plan pass.old pass.new (round_steps_in table.now.plan) }
+    requires may { MayDo steps.table.now key pass.old }
+    ensures replaces { Replaces steps.entry.table.now key was value pass.old pass.new result }
+    ensures others { result ≡ Err Busy → IsOthersDoing steps.entry.table.now 1 pass.old pass.new }
+    ensures steps { TookIn steps.entry.table.now.plan pass.old pass.new (round_steps_in steps.entry.table.now.plan) }
     ensures counted { CountsTries 1 pass.old pass.new }
-    ensures cards { table.now.plan.slots ≡ None → SpendsCards key 1 pass.old pass.new (whether_done result) }
+    ensures cards { steps.entry.table.now.plan.slots ≡ None →
+        SpendsCards key 1 pass.old pass.new (whether_done result) }
 {
     let Some(was) = was else {
-        return add(table, pass, key, value, gate);
+        return add(steps, pass, key, value);
     };
-    let there = change(table, pass, Op::Swap(key, was, value), 1, gate)?;
+    let there = change(steps, pass, Op::Swap(key, was, value), 1)?;
     if there == Some(was) {
         Ok(Replaced::Done)
     } else {
@@ -105,21 +106,21 @@ fn replace<M: Memory, G: StepGate>(
 
 // The same, if the key was absent.
 fn add<M: Memory, G: StepGate>(
-    table: &CardTable<M>,
+    steps: TableSteps<M, G>,
     pass: &mut Pass<M>,
     key: u64,
     value: u64,
-    gate: &G,
 ) -> Result<Replaced, NotDone>
-    requires may { MayDo table.now key pass.old }
-    ensures replaces { Replaces table.now key None value pass.old pass.new result }
-    ensures others { result ≡ Err Busy → IsOthersDoing table.now 1 pass.old pass.new }
-    ensures steps { TookIn table.now.plan pass.old pass.new (round_steps_in table.now.plan) }
+    requires may { MayDo steps.table.now key pass.old }
+    ensures replaces { Replaces steps.entry.table.now key None value pass.old pass.new result }
+    ensures others { result ≡ Err Busy → IsOthersDoing steps.entry.table.now 1 pass.old pass.new }
+    ensures steps { TookIn steps.entry.table.now.plan pass.old pass.new (round_steps_in steps.entry.table.now.plan) }
     ensures counted { CountsTries 1 pass.old pass.new }
-    ensures cards { table.now.plan.slots ≡ None → SpendsCards key 1 pass.old pass.new (whether_done result) }
+    ensures cards { steps.entry.table.now.plan.slots ≡ None →
+        SpendsCards key 1 pass.old pass.new (whether_done result) }
 {
-    match change(table, pass, Op::Insert(key, value), 1, gate)? {
+    match change(steps, pass, Op::Insert(key, value), 1)? {
         Some(_) => Ok(Replaced::Done),
-        None => Ok(Replaced::Lost(find(table, pass, key, gate))),
+        None => Ok(Replaced::Lost(find(steps, pass, key))),
     }
 }

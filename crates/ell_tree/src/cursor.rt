@@ -13,8 +13,7 @@ ghost use Rattle.ell_tree.specs.Looks.{stretch_steps};
 ghost use Rattle.ell_tree.specs.Cursors.{AreKept, BeginsALook, FindsAbout, IsAmong, KeepsLooking, TellsOfLeaf};
 ghost use Rattle.ell_cards.specs.Depths.{deepest, IsShallow};
 
-use crate::gate::{Kind, StepGate};
-use ell_cards::{CardTable, Glance, Memory, Pass};
+use ell_cards::{Glance, Memory, Pass, StepGate, TableSteps};
 use ell_ops::KEY_MAX;
 use ell_word::is_internal;
 
@@ -41,16 +40,14 @@ pub(crate) struct Cursor {
 impl Cursor {
     /// Begins a look.
     pub(crate) fn begin<M: Memory, G: StepGate>(
-        table: &CardTable<M>,
+        steps: TableSteps<M, G>,
         pass: &mut Pass<M>,
-        gate: &G,
     ) -> Cursor
-        requires may { IsIdlePassOf table.now pass.old }
+        requires may { IsIdlePassOf steps.table.now pass.old }
         ensures begins { BeginsALook pass.old pass.new }
-        ensures kept { AreKept table.now.plan.last_card pass.new.view result }
+        ensures kept { AreKept steps.entry.table.now.plan.last_card pass.new.view result }
     {
-        gate.before(pass.label(), Kind::Look);
-        let child = table.look(pass);
+        let child = steps.look(pass);
         pass.count(1);
         let first = Glance {
             node: child.node,
@@ -69,42 +66,38 @@ impl Cursor {
     /// counted at its end.
     pub(crate) fn about<M: Memory, G: StepGate>(
         &mut self,
-        table: &CardTable<M>,
+        steps: TableSteps<M, G>,
         pass: &mut Pass<M>,
         key: u64,
-        gate: &G,
     ) -> About
-        requires own { pass.old.table ≡ table.now.id }
+        requires own { pass.old.table ≡ steps.table.now.id }
         requires real { key ≤ greatest_key }
-        requires kept { AreKept table.now.plan.last_card pass.old.view self.old }
-        ensures found { FindsAbout table.now.plan.last_card pass.new.view key result }
-        ensures kept { AreKept table.now.plan.last_card pass.new.view self.new }
+        requires kept { AreKept steps.table.now.plan.last_card pass.old.view self.old }
+        ensures found { FindsAbout steps.entry.table.now.plan.last_card pass.new.view key result }
+        ensures kept { AreKept steps.entry.table.now.plan.last_card pass.new.view self.new }
         ensures fixed { KeysAreFixed pass.new.view }
         // It counts each step that it makes.
         ensures counted { CountsAll pass.old pass.new }
-        ensures on { KeepsLooking pass.old pass.new (stretch_steps (deepest table.now.plan)) }
+        ensures on { KeepsLooking pass.old pass.new (stretch_steps (deepest steps.entry.table.now.plan)) }
         // All that the look has found so far has its place in one order of the calls that the pass has seen.
-        ensures places { FindsHavePlaces table.now.plan pass.new.view pass.new.sight }
+        ensures places { FindsHavePlaces steps.entry.table.now.plan pass.new.view pass.new.sight }
     {
-        table.facts_stay_inside(pass);
-        let label = pass.label();
+        steps.table.facts_stay_inside(pass);
         let mut here = self.start(key);
-        let mut steps = 0;
+        let mut made = 0;
         while is_internal(here.node) {
-            gate.before(label, Kind::Look);
-            let node_key = table.look_key(pass, here.node);
+            let node_key = steps.look_key(pass, here.node);
             let right = node_key <= key;
             if !right {
                 self.keep(here);
             }
-            gate.before(label, Kind::Look);
             let keys = here.on_side(node_key, right);
-            let child = table.look_down(pass, here, keys, right);
+            let child = steps.look_down(pass, here, keys, right);
             here = keys.at(child.node);
-            steps += 2;
+            made += 2;
         }
-        let (about, at_the_leaf) = found_at(table, pass, here, gate);
-        pass.count(steps + at_the_leaf);
+        let (about, at_the_leaf) = found_at(steps, pass, here);
+        pass.count(made + at_the_leaf);
         about
     }
 
@@ -142,28 +135,26 @@ impl Cursor {
 /// Returns what is found of the keys by which a look has come to a leaf, and in how many steps. The steps are not
 /// counted.
 pub(crate) fn found_at<M: Memory, G: StepGate>(
-    table: &CardTable<M>,
+    steps: TableSteps<M, G>,
     pass: &mut Pass<M>,
     leaf: Glance,
-    gate: &G,
 ) -> (About, u64)
-    requires own { pass.old.table ≡ table.now.id }
+    requires own { pass.old.table ≡ steps.table.now.id }
     requires outer { IsLeaf leaf.node }
     requires met { IsTold pass.old.view (Met leaf.node) }
-    ensures tells { TellsOfLeaf (flat_from table.now.plan) pass.new.view leaf.node result.0 }
+    ensures tells { TellsOfLeaf (flat_from steps.entry.table.now.plan) pass.new.view leaf.node result.0 }
     ensures low { result.0.low ≡ leaf.low }
     ensures high { result.0.high ≡ leaf.high }
     ensures mine { ReadsItsOwn pass.new.view }
-    ensures missed { MissesItsOwn (flat_from table.now.plan) pass.new.view }
-    ensures shallow { IsShallow (deepest table.now.plan) pass.old.view leaf.node }
+    ensures missed { MissesItsOwn (flat_from steps.entry.table.now.plan) pass.new.view }
+    ensures shallow { IsShallow (deepest steps.entry.table.now.plan) pass.old.view leaf.node }
     ensures fixed { KeysAreFixed pass.new.view }
     ensures uncounted { HasUncounted pass.old pass.new result.1 }
     ensures few { result.1 ≤ 2 }
     ensures on { KeepsLooking pass.old pass.new 2 }
-    ensures places { FindsHavePlaces table.now.plan pass.new.view pass.new.sight }
+    ensures places { FindsHavePlaces steps.entry.table.now.plan pass.new.view pass.new.sight }
 {
-    gate.before(pass.label(), Kind::Look);
-    let leaf_key = table.look_key(pass, leaf.node);
+    let leaf_key = steps.look_key(pass, leaf.node);
     let Glance {
         node,
         low,
@@ -178,8 +169,7 @@ pub(crate) fn found_at<M: Memory, G: StepGate>(
         };
         return (none, 1);
     }
-    gate.before(pass.label(), Kind::Look);
-    let value = table.look_value(pass, node);
+    let value = steps.look_value(pass, node);
     let one = About {
         low,
         high,

@@ -21,62 +21,58 @@ ghost use Rattle.ell_cards.specs.Depths.{deepest};
 ghost use Rattle.ell_cards.specs.Sayings.{delete_says};
 ghost use Rattle.ell_cards.specs.Stepping.{IsWholeIn};
 
-use crate::gate::{Kind, StepGate};
 use crate::helping::{DeleteFlag, Ending, finish_delete, help, help_delete};
 use crate::retiring::{retire_deleted, retire_own};
 use crate::searching::{Passed, Place, node_with, search};
 use crate::steps::answer;
-use crate::trying::{Claimed, Tried, fill, take_card};
-use ell_cards::{CardTable, Memory, Pass};
-use ell_core::Exchange;
+use crate::trying::{Claimed, Tried, take_card};
+use ell_cards::{Memory, Pass, StepGate, TableSteps};
 use ell_layout::Field;
 use ell_ops::{Op, Reply};
 use ell_word::{State, Update, pack};
 
 /// One try of a delete.
 pub(crate) fn try_delete<M: Memory, G: StepGate>(
-    table: &CardTable<M>,
+    steps: TableSteps<M, G>,
     pass: &mut Pass<M>,
     key: u64,
-    gate: &G,
 ) -> Tried
-    requires own { pass.old.table ≡ table.now.id }
+    requires own { pass.old.table ≡ steps.table.now.id }
     requires root { AtRoot (Delete key) pass.old.view }
-    ensures steps { pass.new.steps + 1 ≤ pass.old.steps + try_steps_in table.now.plan }
-    ensures made { table.now.plan.slots ≡ None →
-        pass.new.view.made + 1 ≤ pass.old.view.made + try_steps_in table.now.plan }
-    ensures ends { TryEnds table.now (Delete key) pass.old pass.new result }
-    ensures took { TryTook table.now key pass.old pass.new result }
-    ensures taken { table.now.plan.slots ≡ None → TryTakes (Delete key) pass.old pass.new result }
+    ensures steps { pass.new.steps + 1 ≤ pass.old.steps + try_steps_in steps.entry.table.now.plan }
+    ensures made { steps.entry.table.now.plan.slots ≡ None →
+        pass.new.view.made + 1 ≤ pass.old.view.made + try_steps_in steps.entry.table.now.plan }
+    ensures ends { TryEnds steps.entry.table.now (Delete key) pass.old pass.new result }
+    ensures took { TryTook steps.entry.table.now key pass.old pass.new result }
+    ensures taken { steps.entry.table.now.plan.slots ≡ None → TryTakes (Delete key) pass.old pass.new result }
     ensures least { pass.old.view.next_at_least ≤ pass.new.view.next_at_least }
     ensures hindered { pass.new.view.hindered ≡ pass.old.view.hindered }
 {
-    let place = search(table, pass, Op::Delete(key), gate);
+    let place = search(steps, pass, Op::Delete(key));
     if place.key != key {
-        answer(table, pass, Reply::No, None, gate);
+        answer(steps, pass, Reply::No, None);
         return Tried::Answered(None);
     }
-    delete_at(table, pass, key, place, gate)
+    delete_at(steps, pass, key, place)
 }
 
 /// What a try of a delete does once its search has ended at a leaf that has the key.
 pub(crate) fn delete_at<M: Memory, G: StepGate>(
-    table: &CardTable<M>,
+    steps: TableSteps<M, G>,
     pass: &mut Pass<M>,
     key: u64,
     place: Place,
-    gate: &G,
 ) -> Tried
-    requires own { pass.old.table ≡ table.now.id }
-    requires searched { HasSearched table.now.plan (Delete key) place pass.old.view }
+    requires own { pass.old.table ≡ steps.table.now.id }
+    requires searched { HasSearched steps.table.now.plan (Delete key) place pass.old.view }
     requires key { place.key ≡ key }
-    ensures steps { pass.new.steps + 1 ≤ pass.old.steps + rest_steps_in table.now.plan }
-    ensures made { table.now.plan.slots ≡ None →
-        pass.new.view.made + 1 ≤ pass.old.view.made + rest_steps_in table.now.plan }
-    ensures ends { TryEnds table.now (Delete key) pass.old pass.new result }
-    ensures took { TryTook table.now key pass.old pass.new result }
+    ensures steps { pass.new.steps + 1 ≤ pass.old.steps + rest_steps_in steps.entry.table.now.plan }
+    ensures made { steps.entry.table.now.plan.slots ≡ None →
+        pass.new.view.made + 1 ≤ pass.old.view.made + rest_steps_in steps.entry.table.now.plan }
+    ensures ends { TryEnds steps.entry.table.now (Delete key) pass.old pass.new result }
+    ensures took { TryTook steps.entry.table.now key pass.old pass.new result }
     ensures value { TryTookThis place.value result }
-    ensures taken { table.now.plan.slots ≡ None → TryTakes (Delete key) pass.old pass.new result }
+    ensures taken { steps.entry.table.now.plan.slots ≡ None → TryTakes (Delete key) pass.old pass.new result }
     ensures least { pass.old.view.next_at_least ≤ pass.new.view.next_at_least }
     ensures hindered { pass.new.view.hindered ≡ pass.old.view.hindered }
 {
@@ -85,116 +81,112 @@ pub(crate) fn delete_at<M: Memory, G: StepGate>(
         return Tried::Hindered;
     };
     if above.update.state != State::Clean {
-        help(table, pass, above.node, above.update, gate);
+        help(steps, pass, above.node, above.update);
         return Tried::Hindered;
     }
     let parent = place.parent;
     if parent.update.state != State::Clean {
-        help(table, pass, parent.node, parent.update, gate);
+        help(steps, pass, parent.node, parent.update);
         return Tried::Hindered;
     }
-    let card = match take_card(table, pass, Op::Delete(key), place, 0, gate) {
+    let card = match take_card(steps, pass, Op::Delete(key), place, 0) {
         Claimed::Card(card) => card,
         Claimed::NoneLeft => return Tried::Spent,
         Claimed::Lost => return Tried::Hindered,
     };
-    if let Err(found) = flag_delete(table, pass, card, above, place, gate) {
-        help(table, pass, above.node, found, gate);
+    if let Err(found) = flag_delete(steps, pass, card, above, place) {
+        help(steps, pass, above.node, found);
         return Tried::Hindered;
     }
-    if !finish_own(table, pass, card, above.node, place.parent, gate) {
-        retire_own(table, pass, card);
+    if !finish_own(steps, pass, card, above.node, place.parent) {
+        retire_own(steps.table, pass, card);
         return Tried::Hindered;
     }
-    retire_deleted(table, pass, card, parent.node, place.node);
-    answer(table, pass, Reply::Yes, Some(place.value), gate);
+    retire_deleted(steps.table, pass, card, parent.node, place.node);
+    answer(steps, pass, Reply::Yes, Some(place.value));
     Tried::Answered(Some(place.value))
 }
 
 // Fills the card of a delete, and flags the grandparent with it.
 fn flag_delete<M: Memory, G: StepGate>(
-    table: &CardTable<M>,
+    steps: TableSteps<M, G>,
     pass: &mut Pass<M>,
     card: u64,
     above: Passed,
     place: Place,
-    gate: &G,
 ) -> Result<(), Update>
-    requires own { pass.old.table ≡ table.now.id }
+    requires own { pass.old.table ≡ steps.table.now.id }
     requires above { place.grandparent ≡ Some above }
     requires limit { place.parent.update.card ≤ greatest_number }
     requires tag { above.tag ≤ greatest_tag }
-    requires slot { HasSlotOf table.now.plan card pass.old }
+    requires slot { HasSlotOf steps.table.now.plan card pass.old }
     requires card { (key : ℕ) × HasCard (Delete key) place above.tag
         (delete_filling above.node place.parent.node place.node (packed place.parent.update)) pass.old.view card }
-    requires node { IsInnerMet table.now.plan.last_card pass.old.view above.node }
+    requires node { IsInnerMet steps.table.now.plan.last_card pass.old.view above.node }
     ensures keeps { Keeps pass.old pass.new 5 }
     ensures taken { TakesNoCard pass.old pass.new }
-    ensures flags { Flags table.now.plan.last_card DFlagged card above.node pass.old pass.new result }
+    ensures flags { Flags steps.entry.table.now.plan.last_card DFlagged card above.node pass.old pass.new result }
 {
-    fill_delete(table, pass, card, above, place, gate);
-    gate.before(pass.label(), Kind::Exchange(Exchange::DFlag));
-    table.dflag(pass, card, above.node, above.update)
+    fill_delete(steps, pass, card, above, place);
+    steps.dflag(pass, card, above.node, above.update)
 }
 
 // Fills the card of a delete: where it cuts, with the tag that its search read at the grandparent, and the update that it
 // read at the parent.
 fn fill_delete<M: Memory, G: StepGate>(
-    table: &CardTable<M>,
+    steps: TableSteps<M, G>,
     pass: &mut Pass<M>,
     card: u64,
     above: Passed,
     place: Place,
-    gate: &G,
 )
-    requires own { pass.old.table ≡ table.now.id }
+    requires own { pass.old.table ≡ steps.table.now.id }
     requires above { place.grandparent ≡ Some above }
     requires limit { place.parent.update.card ≤ greatest_number }
     requires tag { above.tag ≤ greatest_tag }
-    requires slot { HasSlotOf table.now.plan card pass.old }
+    requires slot { HasSlotOf steps.table.now.plan card pass.old }
     requires card { (key : ℕ) × HasCard (Delete key) place above.tag
         (delete_filling above.node place.parent.node place.node (packed place.parent.update)) pass.old.view card }
     ensures fills { Fills pass.old pass.new 4 }
-    ensures whole { table.now.plan.slots ≢ None → IsWholeIn pass.new card delete_says }
+    ensures whole { steps.entry.table.now.plan.slots ≢ None → IsWholeIn pass.new card delete_says }
 {
-    table.facts_stay_inside(pass);
-    fill(table, pass, card, Field::Gp, above.node, gate);
-    fill(table, pass, card, Field::P, place.parent.node, gate);
+    steps.table.facts_stay_inside(pass);
+    steps.fill(pass, card, Field::Gp, above.node);
+    steps.fill(pass, card, Field::P, place.parent.node);
     let leaf = node_with(place, above.tag).word();
-    fill(table, pass, card, Field::L, leaf, gate);
+    steps.fill(pass, card, Field::L, leaf);
     let was = pack(place.parent.update);
-    fill(table, pass, card, Field::Was, was, gate);
+    steps.fill(pass, card, Field::Was, was);
 }
 
 // HelpDelete of the call's own card, whose flag was won. Returns whether its parent was cut out.
 #[tactic(auto, using(crate::proofs::lemmas::Keeping::keeps_all_told, crate::proofs::lemmas::Keeping::keeps_all_knows))]
 fn finish_own<M: Memory, G: StepGate>(
-    table: &CardTable<M>,
+    steps: TableSteps<M, G>,
     pass: &mut Pass<M>,
     card: u64,
     grandparent: u64,
     parent: Passed,
-    gate: &G,
 ) -> bool
-    requires own { pass.old.table ≡ table.now.id }
+    requires own { pass.old.table ≡ steps.table.now.id }
     requires limit { parent.update.card ≤ greatest_number }
     requires knows { Knows pass.old.view (DFlagged card) }
     requires grandparent { IsTold pass.old.view (Info card field.Gp grandparent) }
-    requires node { IsInnerMet table.now.plan.last_card pass.old.view grandparent }
-    requires parent { IsParent table.now.plan.last_card pass.old.view card parent.node }
+    requires node { IsInnerMet steps.table.now.plan.last_card pass.old.view grandparent }
+    requires parent { IsParent steps.table.now.plan.last_card pass.old.view card parent.node }
     requires read { IsTold pass.old.view (Info card field.Was (packed parent.update)) }
-    ensures keeps_but_met { KeepsAllButMet pass.old pass.new (help_steps (deepest table.now.plan) + 2) }
+    ensures keeps_but_met { KeepsAllButMet pass.old pass.new (help_steps (deepest steps.entry.table.now.plan) + 2) }
     ensures meets { Meets pass.old.view pass.new.view }
     ensures done { OnTrue result (Knows pass.new.view (DOver card)) }
     ensures backed { OnFalse result (IsBacked card pass.old.view pass.new.view) }
 {
     let flag = DeleteFlag { card, grandparent };
     let was = pack(parent.update);
-    match finish_delete(table, pass, flag, parent.node, was, gate) {
+    match finish_delete(steps, pass, flag, parent.node, was) {
         Ending::Done => true,
         Ending::Backed => false,
         Ending::Behind(next) => {
-            help_delete(table, pass, next, gate);
+            help_delete(steps, pass, next);
             false
         }
     }

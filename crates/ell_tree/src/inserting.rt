@@ -14,66 +14,64 @@ ghost use Rattle.ell_cards.specs.Models.{flat_from, new_node};
 ghost use Rattle.ell_cards.specs.Sayings.{put_says};
 ghost use Rattle.ell_cards.specs.Stepping.{IsWholeIn};
 
-use crate::gate::{Kind, StepGate};
 use crate::helping::{finish_insert, help};
 use crate::retiring::retire_put;
 use crate::searching::{Place, node_with, search};
 use crate::steps::answer;
-use crate::trying::{Claimed, Tried, fill, take_card};
+use crate::trying::{Claimed, Tried, take_card};
 use ell_block::branch;
-use ell_cards::{CardTable, Memory, Pass};
-use ell_core::{Exchange, Put};
+use ell_cards::{CardTable, Memory, Pass, StepGate, TableSteps};
+use ell_core::Put;
 use ell_layout::{Field, card_children, update_word};
 use ell_ops::{Op, Reply};
 use ell_word::{State, Update, child_word};
 
 /// One try of an insert or a swap that puts this.
 pub(crate) fn try_put<M: Memory, G: StepGate>(
-    table: &CardTable<M>,
+    steps: TableSteps<M, G>,
     pass: &mut Pass<M>,
     op: Op,
     what: Put,
-    gate: &G,
 ) -> Tried
-    requires own { pass.old.table ≡ table.now.id }
+    requires own { pass.old.table ≡ steps.table.now.id }
     requires puts { put_of op ≡ Some what }
     requires root { AtRoot op pass.old.view }
-    ensures steps { pass.new.steps + 1 ≤ pass.old.steps + try_steps_in table.now.plan }
-    ensures made { table.now.plan.slots ≡ None →
-        pass.new.view.made + 1 ≤ pass.old.view.made + try_steps_in table.now.plan }
-    ensures ends { TryEnds table.now op pass.old pass.new result }
-    ensures taken { table.now.plan.slots ≡ None → TryTakes op pass.old pass.new result }
+    ensures steps { pass.new.steps + 1 ≤ pass.old.steps + try_steps_in steps.entry.table.now.plan }
+    ensures made { steps.entry.table.now.plan.slots ≡ None →
+        pass.new.view.made + 1 ≤ pass.old.view.made + try_steps_in steps.entry.table.now.plan }
+    ensures ends { TryEnds steps.entry.table.now op pass.old pass.new result }
+    ensures taken { steps.entry.table.now.plan.slots ≡ None → TryTakes op pass.old pass.new result }
     ensures least { pass.old.view.next_at_least ≤ pass.new.view.next_at_least }
     ensures hindered { pass.new.view.hindered ≡ pass.old.view.hindered }
 {
-    let place = search(table, pass, op, gate);
+    let place = search(steps, pass, op);
     if !what.may_replace(place.key, place.value) {
         let found = told_of_put(what, place);
-        answer(table, pass, Reply::found(found), None, gate);
+        answer(steps, pass, Reply::found(found), None);
         return Tried::Answered(found);
     }
     let (parent, update) = (place.parent.node, place.parent.update);
     if update.state != State::Clean {
-        help(table, pass, parent, update, gate);
+        help(steps, pass, parent, update);
         return Tried::Hindered;
     }
-    let node_key = node_key(table, what.key, place.key);
-    let card = match take_card(table, pass, op, place, node_key, gate) {
+    let node_key = node_key(steps.table, what.key, place.key);
+    let card = match take_card(steps, pass, op, place, node_key) {
         Claimed::Card(card) => card,
         Claimed::NoneLeft => return Tried::Spent,
         Claimed::Lost => return Tried::Hindered,
     };
-    match flag_insert(table, pass, card, what, place, node_key, gate) {
+    match flag_insert(steps, pass, card, what, place, node_key) {
         Ok(()) => {
             let (left_key, right_key) = (what.key.min(place.key), what.key.max(place.key));
             let below = node_with(place, place.parent.tag);
-            finish_insert(table, pass, card, parent, below, right_key, left_key, gate);
-            retire_put(table, pass, card, what, place);
-            answer(table, pass, reply_once_done(what), None, gate);
+            finish_insert(steps, pass, card, parent, below, right_key, left_key);
+            retire_put(steps.table, pass, card, what, place);
+            answer(steps, pass, reply_once_done(what), None);
             Tried::Answered(Some(what.was.unwrap_or(what.value)))
         }
         Err(found) => {
-            help(table, pass, parent, found, gate);
+            help(steps, pass, parent, found);
             Tried::Hindered
         }
     }
@@ -113,68 +111,66 @@ fn reply_once_done(what: Put) -> Reply
 
 // Fills the card of an insert or a swap, and flags the parent with it.
 fn flag_insert<M: Memory, G: StepGate>(
-    table: &CardTable<M>,
+    steps: TableSteps<M, G>,
     pass: &mut Pass<M>,
     card: u64,
     what: Put,
     place: Place,
     node_key: u64,
-    gate: &G,
 ) -> Result<(), Update>
-    requires own { pass.old.table ≡ table.now.id }
+    requires own { pass.old.table ≡ steps.table.now.id }
     requires limit { card ≤ greatest_number }
-    requires slot { HasSlotOf table.now.plan card pass.old }
+    requires slot { HasSlotOf steps.table.now.plan card pass.old }
     requires tag { place.parent.tag ≤ greatest_tag }
-    requires card { HasCardToPut what place (new_node table.now.plan node_key) pass.old.view card }
-    requires node { IsInnerMet table.now.plan.last_card pass.old.view place.parent.node }
+    requires card { HasCardToPut what place (new_node steps.table.now.plan node_key) pass.old.view card }
+    requires node { IsInnerMet steps.table.now.plan.last_card pass.old.view place.parent.node }
     ensures keeps { Keeps pass.old pass.new 11 }
     ensures taken { TakesNoCard pass.old pass.new }
-    ensures flags { Flags table.now.plan.last_card IFlagged card place.parent.node pass.old pass.new result }
+    ensures flags { Flags steps.entry.table.now.plan.last_card IFlagged card place.parent.node pass.old pass.new
+        result }
 {
-    fill_insert(table, pass, card, what, place, node_key, gate);
-    gate.before(pass.label(), Kind::Exchange(Exchange::IFlag));
-    table.iflag(pass, card, place.parent.node, place.parent.update)
+    fill_insert(steps, pass, card, what, place, node_key);
+    steps.iflag(pass, card, place.parent.node, place.parent.update)
 }
 
 // Fills the card of an insert or a swap: the node where its search ended, with the tag that was read at the parent; an
 // internal node; and below it the leaf of the key and a copy of the old leaf, or in a flat tree the old node itself, the
 // lesser key left, each with its value. Of each child it stores the child word with tag 0.
 fn fill_insert<M: Memory, G: StepGate>(
-    table: &CardTable<M>,
+    steps: TableSteps<M, G>,
     pass: &mut Pass<M>,
     card: u64,
     what: Put,
     place: Place,
     node_key: u64,
-    gate: &G,
 )
-    requires own { pass.old.table ≡ table.now.id }
+    requires own { pass.old.table ≡ steps.table.now.id }
     requires limit { card ≤ greatest_number }
-    requires slot { HasSlotOf table.now.plan card pass.old }
+    requires slot { HasSlotOf steps.table.now.plan card pass.old }
     requires tag { place.parent.tag ≤ greatest_tag }
-    requires card { HasCardToPut what place (new_node table.now.plan node_key) pass.old.view card }
+    requires card { HasCardToPut what place (new_node steps.table.now.plan node_key) pass.old.view card }
     ensures fills { Fills pass.old pass.new 10 }
-    ensures whole { table.now.plan.slots ≢ None → IsWholeIn pass.new card put_says }
+    ensures whole { steps.entry.table.now.plan.slots ≢ None → IsWholeIn pass.new card put_says }
 {
-    table.facts_stay_inside(pass);
+    steps.table.facts_stay_inside(pass);
     let Put { key, value, was: _ } = what;
     let (lesser, greater) = (key.min(place.key), key.max(place.key));
-    let (left, right) = card_children(table.is_flat(), card, key, place.node, place.key);
+    let (left, right) = card_children(steps.table.is_flat(), card, key, place.node, place.key);
     let (left_value, right_value) = if key < place.key {
         (value, place.value)
     } else {
         (place.value, value)
     };
-    fill(table, pass, card, Field::P, place.parent.node, gate);
+    steps.fill(pass, card, Field::P, place.parent.node);
     let below = node_with(place, place.parent.tag).word();
-    fill(table, pass, card, Field::L, below, gate);
-    fill(table, pass, card, Field::Key, node_key, gate);
-    fill(table, pass, card, Field::Left, child_word(left), gate);
-    fill(table, pass, card, Field::Right, child_word(right), gate);
+    steps.fill(pass, card, Field::L, below);
+    steps.fill(pass, card, Field::Key, node_key);
+    steps.fill(pass, card, Field::Left, child_word(left));
+    steps.fill(pass, card, Field::Right, child_word(right));
     let clean = update_word(State::Clean, 0);
-    fill(table, pass, card, Field::Update, clean, gate);
-    fill(table, pass, card, Field::LeftLeafKey, lesser, gate);
-    fill(table, pass, card, Field::RightLeafKey, greater, gate);
-    fill(table, pass, card, Field::LeftValue, left_value, gate);
-    fill(table, pass, card, Field::RightValue, right_value, gate);
+    steps.fill(pass, card, Field::Update, clean);
+    steps.fill(pass, card, Field::LeftLeafKey, lesser);
+    steps.fill(pass, card, Field::RightLeafKey, greater);
+    steps.fill(pass, card, Field::LeftValue, left_value);
+    steps.fill(pass, card, Field::RightValue, right_value);
 }

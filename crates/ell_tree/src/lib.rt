@@ -6,7 +6,6 @@ mod computing;
 mod cursor;
 mod deleting;
 mod ending;
-mod gate;
 mod helping;
 mod inserting;
 mod laws;
@@ -22,12 +21,14 @@ mod tree;
 mod trying;
 
 pub use cursor::About;
-pub use ell_cards::{CardFault, FixedMemory, Memory, Pass as PassOver, SplitFault, TreeKind};
+pub use ell_cards::{
+    CardFault, FixedMemory, Memory, NoGate, Pass as PassOver, SplitFault, StepGate,
+    StepKind as Kind, TreeKind,
+};
 pub use ell_core::Exchange;
 pub use ell_layout::table_size;
 pub use ell_ops::{KEY_MAX, NoMemory, distinct_keys};
 pub use ell_word::{CARDS_MAX, START_MAX};
-pub use gate::{Kind, NoGate, StepGate};
 pub use laws::{bounds_in_short, flat_bounds, stories_are_of_one_thread};
 pub use operations::NotDone;
 pub use scanning::{Pair, Scanned};

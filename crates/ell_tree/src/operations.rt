@@ -19,12 +19,11 @@ ghost use Rattle.ell_tree.specs.Tries.{Begins, IsChange, TryEnds, TryTakesValue}
 ghost use Rattle.ell_cards.specs.Depths.{deepest};
 
 use crate::deleting::try_delete;
-use crate::gate::{Kind, StepGate};
 use crate::inserting::try_put;
 use crate::searching::search;
 use crate::steps::{again, answer, begin, leave};
 use crate::trying::Tried;
-use ell_cards::{CardTable, Memory, Pass};
+use ell_cards::{Memory, Pass, StepGate, TableSteps};
 use ell_core::Put;
 use ell_ops::{Op, Reply};
 use thiserror::Error;
@@ -42,25 +41,23 @@ pub enum NotDone {
 
 /// Returns the value of a key, if the key is present. It never helps another operation.
 pub(crate) fn find<M: Memory, G: StepGate>(
-    table: &CardTable<M>,
+    steps: TableSteps<M, G>,
     pass: &mut Pass<M>,
     key: u64,
-    gate: &G,
 ) -> Option<u64>
-    requires may { MayDo table.now key pass.old }
-    ensures answers { Answers table.now (Find key) (found result) pass.old pass.new }
-    ensures quiet { IsQuiet table.now pass.old pass.new }
-    ensures steps { Took pass.old pass.new (find_steps (deepest table.now.plan)) }
+    requires may { MayDo steps.table.now key pass.old }
+    ensures answers { Answers steps.entry.table.now (Find key) (found result) pass.old pass.new }
+    ensures quiet { IsQuiet steps.entry.table.now pass.old pass.new }
+    ensures steps { Took pass.old pass.new (find_steps (deepest steps.entry.table.now.plan)) }
     ensures cards { TakesNoCard pass.old pass.new }
 {
-    let label = pass.label();
     let op = Op::Find(key);
-    gate.before(label, Kind::Begin);
-    begin(table, pass, op, gate);
-    let place = search(table, pass, op, gate);
+    steps.start(pass);
+    begin(steps, pass, op);
+    let place = search(steps, pass, op);
     let there = (place.key == key).then_some(place.value);
-    answer(table, pass, Reply::found(there), None, gate);
-    gate.after(label, true);
+    answer(steps, pass, Reply::found(there), None);
+    steps.end(pass, true);
     there
 }
 
@@ -68,87 +65,80 @@ pub(crate) fn find<M: Memory, G: StepGate>(
 /// answered or finds no card. Returns the value that an insert adds or a delete takes away, if it changes the map, or
 /// that a swap finds. The gate is told of its start and its end.
 pub(crate) fn change<M: Memory, G: StepGate>(
-    table: &CardTable<M>,
+    steps: TableSteps<M, G>,
     pass: &mut Pass<M>,
     op: Op,
     tries: u32,
-    gate: &G,
 ) -> Result<Option<u64>, NotDone>
-    requires may { MayDo table.now (key_of op) pass.old }
+    requires may { MayDo steps.table.now (key_of op) pass.old }
     requires change { IsChange op }
     requires tries { 1 ≤ tries }
-    ensures ends { Ends table.now tries op pass.old pass.new (replied_by op result) }
-    ensures takes { IfOk result (TakesIfDelete table.now op pass.old pass.new) }
-    ensures others { result ≡ Err Busy → IsOthersDoing table.now tries pass.old pass.new }
-    ensures steps { IsWithin table.now tries pass.old pass.new }
-    ensures cards { table.now.plan.slots ≡ None →
+    ensures ends { Ends steps.entry.table.now tries op pass.old pass.new (replied_by op result) }
+    ensures takes { IfOk result (TakesIfDelete steps.entry.table.now op pass.old pass.new) }
+    ensures others { result ≡ Err Busy → IsOthersDoing steps.entry.table.now tries pass.old pass.new }
+    ensures steps { IsWithin steps.entry.table.now tries pass.old pass.new }
+    ensures cards { steps.entry.table.now.plan.slots ≡ None →
         SpendsCards (key_of op) tries pass.old pass.new (changed_by op result) }
-    ensures enough { 2 * table.now.plan.last_card < tries → result ≢ Err Busy }
+    ensures enough { 2 * steps.entry.table.now.plan.last_card < tries → result ≢ Err Busy }
 {
-    let label = pass.label();
-    gate.before(label, Kind::Begin);
-    begin(table, pass, op, gate);
+    steps.start(pass);
+    begin(steps, pass, op);
     for round in 0..tries {
-        restart(table, pass, round == 0, gate);
-        match try_once(table, pass, op, gate) {
+        restart(steps, pass, round == 0);
+        match try_once(steps, pass, op) {
             Tried::Answered(had) => {
-                gate.after(label, true);
+                steps.end(pass, true);
                 return Ok(had);
             }
             Tried::Spent => {
-                leave(table, pass, gate);
-                gate.after(label, false);
+                leave(steps, pass);
+                steps.end(pass, false);
                 return Err(NotDone::Spent);
             }
             Tried::Hindered => {}
         }
     }
-    leave(table, pass, gate);
-    gate.after(label, false);
+    leave(steps, pass);
+    steps.end(pass, false);
     Err(NotDone::Busy)
 }
 
 // Starts the search anew, unless this is the first try.
-fn restart<M: Memory, G: StepGate>(table: &CardTable<M>, pass: &mut Pass<M>, first: bool, gate: &G)
-    requires own { pass.old.table ≡ table.now.id }
+fn restart<M: Memory, G: StepGate>(steps: TableSteps<M, G>, pass: &mut Pass<M>, first: bool)
+    requires own { pass.old.table ≡ steps.table.now.id }
     requires may { MayStop (worker_of pass.old.view.worker) }
     // Where there are places, the pass has noted all that its card in hand made dead.
-    requires noted { LetsGo table.now.plan pass.old }
+    requires noted { LetsGo steps.table.now.plan pass.old }
     ensures begins { (op : Op) → Does pass.old.view op → (first ≡ true → AtRoot op pass.old.view) →
         Begins op (way_of op pass.old.view) (tries_hindered pass.old.view) pass.old pass.new }
     ensures first { first ≡ true → pass.new ≡ pass.old }
     ensures sight { pass.new.sight ≡ pass.old.sight }
 {
     if !first {
-        again(table, pass, gate);
+        again(steps, pass);
     }
 }
 
 // One try of an insert, a delete or a swap.
-fn try_once<M: Memory, G: StepGate>(
-    table: &CardTable<M>,
-    pass: &mut Pass<M>,
-    op: Op,
-    gate: &G,
-) -> Tried
-    requires own { pass.old.table ≡ table.now.id }
+fn try_once<M: Memory, G: StepGate>(steps: TableSteps<M, G>, pass: &mut Pass<M>, op: Op) -> Tried
+    requires own { pass.old.table ≡ steps.table.now.id }
     requires change { IsChange op }
     requires root { AtRoot op pass.old.view }
     // It makes at most `7 * depth + 26` steps.
-    ensures steps { pass.new.steps + 1 ≤ pass.old.steps + try_steps_in table.now.plan }
-    ensures made { table.now.plan.slots ≡ None →
-        pass.new.view.made + 1 ≤ pass.old.view.made + try_steps_in table.now.plan }
+    ensures steps { pass.new.steps + 1 ≤ pass.old.steps + try_steps_in steps.entry.table.now.plan }
+    ensures made { steps.entry.table.now.plan.slots ≡ None →
+        pass.new.view.made + 1 ≤ pass.old.view.made + try_steps_in steps.entry.table.now.plan }
     // It is answered as the operation, or has met something in its way and learned of a milestone, or finds no card
     // left. It takes one card at most.
-    ensures ends { TryEnds table.now op pass.old pass.new result }
-    ensures takes { TryTakesValue table.now op pass.old pass.new result }
-    ensures taken { table.now.plan.slots ≡ None → TryTakes op pass.old pass.new result }
+    ensures ends { TryEnds steps.entry.table.now op pass.old pass.new result }
+    ensures takes { TryTakesValue steps.entry.table.now op pass.old pass.new result }
+    ensures taken { steps.entry.table.now.plan.slots ≡ None → TryTakes op pass.old pass.new result }
     ensures least { pass.old.view.next_at_least ≤ pass.new.view.next_at_least }
     ensures hindered { pass.new.view.hindered ≡ pass.old.view.hindered }
 {
     match (op, Put::of(op)) {
-        (_, Some(what)) => try_put(table, pass, op, what, gate),
-        (Op::Delete(key), None) => try_delete(table, pass, key, gate),
+        (_, Some(what)) => try_put(steps, pass, op, what),
+        (Op::Delete(key), None) => try_delete(steps, pass, key),
         (_, None) => unreachable!(),
     }
 }

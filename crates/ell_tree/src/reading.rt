@@ -16,100 +16,91 @@ ghost use Rattle.ell_tree.specs.Scans.{IsAbout, TellsItsOwn, value_there};
 ghost use Rattle.ell_cards.specs.Depths.{deepest};
 
 use crate::cursor::{About, found_at};
-use crate::gate::{Kind, StepGate};
 use ell_block::{block_ends, is_in_block};
-use ell_cards::{CardTable, Glance, Memory, Pass, Stretch};
+use ell_cards::{CardTable, Glance, Memory, Pass, StepGate, Stretch, TableSteps};
 use ell_ops::KEY_MAX;
 use ell_word::is_internal;
 
 /// Returns the value of any key, if it is present: that of the leaf at which its path from the root ends. It reads no
 /// update word, so it ignores flags and marks, and a node that was cut out while it stood there leads on as it did.
 pub(crate) fn look<M: Memory, G: StepGate>(
-    table: &CardTable<M>,
+    steps: TableSteps<M, G>,
     pass: &mut Pass<M>,
     key: u64,
-    gate: &G,
 ) -> Option<u64>
-    requires may { IsIdlePassOf table.now pass.old }
+    requires may { IsIdlePassOf steps.table.now pass.old }
     requires real { key ≤ greatest_key }
     ensures found { HasFound pass.new.view key result }
     ensures one { pass.new.view.looks ≡ pass.old.view.looks + 1 }
     ensures mine { Owns pass.old key → result ≡ present_in pass.old key }
     ensures counted { CountsAll pass.old pass.new }
-    ensures only { OnlyLooks pass.old pass.new (look_steps (deepest table.now.plan)) }
+    ensures only { OnlyLooks pass.old pass.new (look_steps (deepest steps.entry.table.now.plan)) }
     ensures saw { SawLookBegin pass.old.sight pass.new.sight }
-    ensures places { FindsHavePlaces table.now.plan pass.new.view pass.new.sight }
+    ensures places { FindsHavePlaces steps.entry.table.now.plan pass.new.view pass.new.sight }
 {
-    let (found, steps) = walk(table, pass, key, gate);
-    pass.count(steps);
+    let (found, made) = walk(steps, pass, key);
+    pass.count(made);
     found
 }
 
 // The same, but the steps are not counted. Returns what is found, and how many steps there were.
 #[inline(always)]
 fn walk<M: Memory, G: StepGate>(
-    table: &CardTable<M>,
+    steps: TableSteps<M, G>,
     pass: &mut Pass<M>,
     key: u64,
-    gate: &G,
 ) -> (Option<u64>, u64)
-    requires may { IsIdlePassOf table.now pass.old }
+    requires may { IsIdlePassOf steps.table.now pass.old }
     requires real { key ≤ greatest_key }
     ensures found { HasFound pass.new.view key result.0 }
     ensures one { pass.new.view.looks ≡ pass.old.view.looks + 1 }
     ensures mine { Owns pass.old key → result.0 ≡ present_in pass.old key }
     ensures uncounted { HasUncounted pass.old pass.new result.1 }
-    ensures only { OnlyLooks pass.old pass.new (look_steps (deepest table.now.plan)) }
+    ensures only { OnlyLooks pass.old pass.new (look_steps (deepest steps.entry.table.now.plan)) }
     ensures saw { SawLookBegin pass.old.sight pass.new.sight }
-    ensures places { FindsHavePlaces table.now.plan pass.new.view pass.new.sight }
+    ensures places { FindsHavePlaces steps.entry.table.now.plan pass.new.view pass.new.sight }
 {
-    table.facts_stay_inside(pass);
-    let label = pass.label();
-    gate.before(label, Kind::Look);
-    let first = table.look(pass);
+    steps.table.facts_stay_inside(pass);
+    let first = steps.look(pass);
     let mut node = first.node;
-    let mut steps = 1;
+    let mut made = 1;
     while is_internal(node) {
-        gate.before(label, Kind::Look);
-        let node_key = table.look_key(pass, node);
-        gate.before(label, Kind::Look);
+        let node_key = steps.look_key(pass, node);
         let alone = Stretch {
             low: key,
             high: key + 1,
             whole: false,
         };
-        let child = table.look_down(pass, alone.at(node), alone, node_key <= key);
+        let child = steps.look_down(pass, alone.at(node), alone, node_key <= key);
         node = child.node;
-        steps += 2;
+        made += 2;
     }
-    gate.before(label, Kind::Look);
-    let leaf_key = table.look_key(pass, node);
+    let leaf_key = steps.look_key(pass, node);
     if leaf_key != key {
-        return (None, steps + 1);
+        return (None, made + 1);
     }
-    gate.before(label, Kind::Look);
-    (Some(table.look_value(pass, node)), steps + 2)
+    (Some(steps.look_value(pass, node)), made + 2)
 }
 
 /// Returns what is around a key, in one state. The look goes down once.
 pub(crate) fn look_about<M: Memory, G: StepGate>(
-    table: &CardTable<M>,
+    steps: TableSteps<M, G>,
     pass: &mut Pass<M>,
     key: u64,
-    gate: &G,
 ) -> About
-    requires may { IsIdlePassOf table.now pass.old }
+    requires may { IsIdlePassOf steps.table.now pass.old }
     requires real { key ≤ greatest_key }
-    ensures found { HasFoundBetween (flat_from table.now.plan) pass.new.view result.low result.high result.found }
+    ensures found { HasFoundBetween (flat_from steps.entry.table.now.plan) pass.new.view result.low result.high
+        result.found }
     ensures about { IsAbout key result }
     ensures one { pass.new.view.looks ≡ pass.old.view.looks + 1 }
     ensures mine { TellsItsOwn pass.old result.low result.high (value_there result.found) }
-    ensures only { OnlyLooks pass.old pass.new (look_steps (deepest table.now.plan)) }
+    ensures only { OnlyLooks pass.old pass.new (look_steps (deepest steps.entry.table.now.plan)) }
     ensures saw { SawLookBegin pass.old.sight pass.new.sight }
-    ensures places { FindsHavePlaces table.now.plan pass.new.view pass.new.sight }
+    ensures places { FindsHavePlaces steps.entry.table.now.plan pass.new.view pass.new.sight }
 {
-    let (about, steps) = walk_about(table, pass, key, gate);
-    pass.count(steps);
+    let (about, made) = walk_about(steps, pass, key);
+    pass.count(made);
     about
 }
 
@@ -117,49 +108,45 @@ pub(crate) fn look_about<M: Memory, G: StepGate>(
 // stretch come to each node as one, so at a node that has a block only those of a half of it go on.
 #[inline(always)]
 fn walk_about<M: Memory, G: StepGate>(
-    table: &CardTable<M>,
+    steps: TableSteps<M, G>,
     pass: &mut Pass<M>,
     key: u64,
-    gate: &G,
 ) -> (About, u64)
-    requires may { IsIdlePassOf table.now pass.old }
+    requires may { IsIdlePassOf steps.table.now pass.old }
     requires real { key ≤ greatest_key }
-    ensures found { HasFoundBetween (flat_from table.now.plan) pass.new.view result.0.low result.0.high result.0.found }
+    ensures found { HasFoundBetween (flat_from steps.entry.table.now.plan) pass.new.view result.0.low result.0.high
+        result.0.found }
     ensures about { IsAbout key result.0 }
     ensures one { pass.new.view.looks ≡ pass.old.view.looks + 1 }
     ensures mine { ReadsItsOwn pass.new.view }
-    ensures missed { MissesItsOwn (flat_from table.now.plan) pass.new.view }
+    ensures missed { MissesItsOwn (flat_from steps.entry.table.now.plan) pass.new.view }
     ensures uncounted { HasUncounted pass.old pass.new result.1 }
-    ensures only { OnlyLooks pass.old pass.new (look_steps (deepest table.now.plan)) }
+    ensures only { OnlyLooks pass.old pass.new (look_steps (deepest steps.entry.table.now.plan)) }
     ensures saw { SawLookBegin pass.old.sight pass.new.sight }
-    ensures places { FindsHavePlaces table.now.plan pass.new.view pass.new.sight }
+    ensures places { FindsHavePlaces steps.entry.table.now.plan pass.new.view pass.new.sight }
 {
-    table.facts_stay_inside(pass);
-    let label = pass.label();
-    gate.before(label, Kind::Look);
-    let first = table.look(pass);
+    steps.table.facts_stay_inside(pass);
+    let first = steps.look(pass);
     let mut here = Glance {
         node: first.node,
         low: 0,
         high: KEY_MAX + 1,
         whole: true,
     };
-    let mut steps = 1;
+    let mut made = 1;
     while is_internal(here.node) {
-        gate.before(label, Kind::Look);
-        let node_key = table.look_key(pass, here.node);
-        if table.has_block(here.node) && !is_in_block(node_key, key) {
-            return (beside_block(here, node_key, key), steps + 1);
+        let node_key = steps.look_key(pass, here.node);
+        if steps.table.has_block(here.node) && !is_in_block(node_key, key) {
+            return (beside_block(here, node_key, key), made + 1);
         }
         let right = node_key <= key;
-        let keys = keys_below(table, here, node_key, right);
-        gate.before(label, Kind::Look);
-        let child = table.look_down(pass, here, keys, right);
+        let keys = keys_below(steps.table, here, node_key, right);
+        let child = steps.look_down(pass, here, keys, right);
         here = keys.at(child.node);
-        steps += 2;
+        made += 2;
     }
-    let (about, at_the_leaf) = found_at(table, pass, here, gate);
-    (about, steps + at_the_leaf)
+    let (about, at_the_leaf) = found_at(steps, pass, here);
+    (about, made + at_the_leaf)
 }
 
 // What is found where the block of a node, which has this key, lacks the key that is sought: none of the keys that
@@ -222,14 +209,9 @@ fn keys_below<M: Memory>(table: &CardTable<M>, here: Glance, node_key: u64, righ
 }
 
 /// Returns how many cards are not given out yet: those from the claim word on.
-pub(crate) fn cards_left<M: Memory, G: StepGate>(
-    table: &CardTable<M>,
-    pass: &mut Pass<M>,
-    gate: &G,
-) -> u64
-    requires own { pass.old.table ≡ table.now.id }
-    ensures { ReadsCardsLeft table.now.plan.last_card pass.old pass.new result }
+pub(crate) fn cards_left<M: Memory, G: StepGate>(steps: TableSteps<M, G>, pass: &mut Pass<M>) -> u64
+    requires own { pass.old.table ≡ steps.table.now.id }
+    ensures { ReadsCardsLeft steps.entry.table.now.plan.last_card pass.old pass.new result }
 {
-    gate.before(pass.label(), Kind::Look);
-    table.last_card() + 1 - table.next(pass)
+    steps.table.last_card() + 1 - steps.next(pass)
 }

@@ -8,8 +8,7 @@ ghost use Rattle.ell_tree.specs.Looks.{OnlyLooks};
 ghost use Rattle.ell_tree.specs.Scans.{AreInOrder, HaveFound, HasFoundLast, HasFoundNext, TellsItsOwn, end_of, scan_steps, written};
 
 use crate::cursor::Cursor;
-use crate::gate::StepGate;
-use ell_cards::{CardTable, Memory, Pass};
+use ell_cards::{Memory, Pass, StepGate, TableSteps};
 use ell_ops::{KEY_MAX, Keyed};
 
 /// A key with its value, in a memory layout that programs in C share.
@@ -37,14 +36,13 @@ pub struct Scanned {
 
 /// Writes the pairs of a range of keys, at least one key and below another, ascending, as far as there is room.
 pub(crate) fn scan<M: Memory, G: StepGate>(
-    table: &CardTable<M>,
+    steps: TableSteps<M, G>,
     pass: &mut Pass<M>,
     from: u64,
     upto: u64,
     room: &mut [Pair],
-    gate: &G,
 ) -> Scanned
-    requires may { IsIdlePassOf table.now pass.old }
+    requires may { IsIdlePassOf steps.table.now pass.old }
     requires real { upto ≤ greatest_key + 1 }
     ensures found { HaveFound pass.new.view from (end_of upto result) (contents_of (written room.new result)) }
     ensures ordered { AreInOrder from (end_of upto result) (written room.new result) }
@@ -53,15 +51,16 @@ pub(crate) fn scan<M: Memory, G: StepGate>(
     ensures rest { drop result.count room.new ≡ drop result.count room.old }
     ensures mine { TellsItsOwn pass.old from (end_of upto result) (contents_of (written room.new result)) }
     ensures one { pass.new.view.looks ≡ pass.old.view.looks + 1 }
-    ensures only { OnlyLooks pass.old pass.new (scan_steps table.now.plan) }
+    ensures only { OnlyLooks pass.old pass.new (scan_steps steps.entry.table.now.plan) }
     ensures saw { SawLookBegin pass.old.sight pass.new.sight }
-    ensures places { from < end_of upto result → FindsHavePlaces table.now.plan pass.new.view pass.new.sight }
+    ensures places { from < end_of upto result →
+        FindsHavePlaces steps.entry.table.now.plan pass.new.view pass.new.sight }
 {
-    let mut cursor = Cursor::begin(table, pass, gate);
+    let mut cursor = Cursor::begin(steps, pass);
     let mut at = from;
     let mut count = 0;
     while at < upto && count < room.len() {
-        let about = cursor.about(table, pass, at, gate);
+        let about = cursor.about(steps, pass, at);
         if let Some((key, value)) = about.found
             && at <= key
             && key < upto
@@ -79,20 +78,19 @@ pub(crate) fn scan<M: Memory, G: StepGate>(
 
 /// Returns the least present key that is at least the given one, with its value.
 pub(crate) fn next_from<M: Memory, G: StepGate>(
-    table: &CardTable<M>,
+    steps: TableSteps<M, G>,
     pass: &mut Pass<M>,
     from: u64,
-    gate: &G,
 ) -> Option<(u64, u64)>
-    requires may { IsIdlePassOf table.now pass.old }
+    requires may { IsIdlePassOf steps.table.now pass.old }
     ensures found { HasFoundNext pass.new.view from result }
     ensures one { pass.new.view.looks ≡ pass.old.view.looks + 1 }
-    ensures only { OnlyLooks pass.old pass.new (scan_steps table.now.plan) }
+    ensures only { OnlyLooks pass.old pass.new (scan_steps steps.entry.table.now.plan) }
     ensures saw { SawLookBegin pass.old.sight pass.new.sight }
-    ensures places { from ≤ greatest_key → FindsHavePlaces table.now.plan pass.new.view pass.new.sight }
+    ensures places { from ≤ greatest_key → FindsHavePlaces steps.entry.table.now.plan pass.new.view pass.new.sight }
 {
     let mut room = [Pair { key: 0, value: 0 }];
-    let scanned = scan(table, pass, from, KEY_MAX + 1, &mut room, gate);
+    let scanned = scan(steps, pass, from, KEY_MAX + 1, &mut room);
     if scanned.count == 0 {
         return None;
     }
@@ -102,23 +100,22 @@ pub(crate) fn next_from<M: Memory, G: StepGate>(
 
 /// Returns the greatest present key below the given one, with its value.
 pub(crate) fn last_below<M: Memory, G: StepGate>(
-    table: &CardTable<M>,
+    steps: TableSteps<M, G>,
     pass: &mut Pass<M>,
     upto: u64,
-    gate: &G,
 ) -> Option<(u64, u64)>
-    requires may { IsIdlePassOf table.now pass.old }
+    requires may { IsIdlePassOf steps.table.now pass.old }
     requires real { upto ≤ greatest_key + 1 }
     ensures found { HasFoundLast pass.new.view upto result }
     ensures one { pass.new.view.looks ≡ pass.old.view.looks + 1 }
-    ensures only { OnlyLooks pass.old pass.new (scan_steps table.now.plan) }
+    ensures only { OnlyLooks pass.old pass.new (scan_steps steps.entry.table.now.plan) }
     ensures saw { SawLookBegin pass.old.sight pass.new.sight }
-    ensures places { 0 < upto → FindsHavePlaces table.now.plan pass.new.view pass.new.sight }
+    ensures places { 0 < upto → FindsHavePlaces steps.entry.table.now.plan pass.new.view pass.new.sight }
 {
-    let mut cursor = Cursor::begin(table, pass, gate);
+    let mut cursor = Cursor::begin(steps, pass);
     let mut below = upto;
     while below > 0 {
-        let about = cursor.about(table, pass, below - 1, gate);
+        let about = cursor.about(steps, pass, below - 1);
         if let Some((key, value)) = about.found
             && key < below
         {

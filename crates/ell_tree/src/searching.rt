@@ -1,20 +1,16 @@
 //! The search (paper of 2010, figure 8: Search).
 ghost use Rattle.std.specs.Prelude.{◌≡◌, ◌<◌, ◌+◌, ◌*◌, None, Some, true, false};
 ghost use Rattle.ell_cards.specs.Depths.{deepest, IsShallow, depth_of};
-ghost use Rattle.ell_cards.specs.Models.{Does, InTable, IsTold, Sees, StandsAt, flat_from};
-ghost use Rattle.ell_cards.specs.Calls.{after, TellsKey, TellsLedgerValue};
+ghost use Rattle.ell_cards.specs.Models.{Does, InTable, IsTold, StandsAt, flat_from};
 ghost use Rattle.ell_cards.specs.declared.view.Told.TheVariants.{Met};
 ghost use Rattle.ell_cards.specs.declared.view.Told.TheVariants as told;
-ghost use Rattle.ell_cards.specs.declared.call.Call.TheVariants as call;
-ghost use Rattle.ell_layout.specs.Words.{IsLeaf};
 ghost use Rattle.ell_tree.specs.Counts.{CountsAll, HasUncounted};
 ghost use Rattle.ell_tree.specs.Keeping.{IsInnerMet, KeepsAllButSearch};
 ghost use Rattle.ell_tree.specs.Searches.{AtRoot, EndsAbove, EndsAt, EndWasUnknownAt, FitsBelow, KnowsPassed, MayPass, below, node_with};
 
-use crate::gate::{Kind, StepGate};
 use crate::steps::KeyedNode;
 use ell_block::is_in_block;
-use ell_cards::{CardTable, Memory, Pass};
+use ell_cards::{CardTable, Memory, Pass, StepGate, TableSteps};
 use ell_ops::Op;
 use ell_word::{Link, Update, is_internal};
 
@@ -65,51 +61,45 @@ fn ends_at<M: Memory>(table: &CardTable<M>, op: Op, node: u64, key: u64) -> bool
 
 /// Searches for the operation's key from the root. Its steps are counted once it has ended.
 pub(crate) fn search<M: Memory, G: StepGate>(
-    table: &CardTable<M>,
+    steps: TableSteps<M, G>,
     pass: &mut Pass<M>,
     op: Op,
-    gate: &G,
 ) -> Place
-    requires own { pass.old.table ≡ table.now.id }
+    requires own { pass.old.table ≡ steps.table.now.id }
     requires root { AtRoot op pass.old.view }
-    ensures keeps_but_search { KeepsAllButSearch pass.old pass.new (3 * deepest table.now.plan + 5) }
+    ensures keeps_but_search { KeepsAllButSearch pass.old pass.new (3 * deepest steps.entry.table.now.plan + 5) }
     // It counts each step that it makes.
     ensures counted { CountsAll pass.old pass.new }
-    ensures ends { EndsAt table.now.plan pass.new.view op result }
+    ensures ends { EndsAt steps.entry.table.now.plan pass.new.view op result }
 {
-    let (place, steps) = walk(table, pass, op, gate);
-    pass.count(steps);
+    let (place, made) = walk(steps, pass, op);
+    pass.count(made);
     place
 }
 
 // The same, but the steps are not counted. Returns where it ended, and how many steps there were.
 #[inline(always)]
-fn walk<M: Memory, G: StepGate>(
-    table: &CardTable<M>,
-    pass: &mut Pass<M>,
-    op: Op,
-    gate: &G,
-) -> (Place, u64)
-    requires own { pass.old.table ≡ table.now.id }
+fn walk<M: Memory, G: StepGate>(steps: TableSteps<M, G>, pass: &mut Pass<M>, op: Op) -> (Place, u64)
+    requires own { pass.old.table ≡ steps.table.now.id }
     requires root { AtRoot op pass.old.view }
-    ensures keeps_but_search { KeepsAllButSearch pass.old pass.new (3 * deepest table.now.plan + 5) }
+    ensures keeps_but_search { KeepsAllButSearch pass.old pass.new (3 * deepest steps.entry.table.now.plan + 5) }
     ensures uncounted { HasUncounted pass.old pass.new result.1 }
-    ensures ends { EndsAt table.now.plan pass.new.view op result.0 }
+    ensures ends { EndsAt steps.entry.table.now.plan pass.new.view op result.0 }
 {
-    table.facts_stay_inside(pass);
-    let root_key = ask_key(table, pass, 0, gate);
+    steps.table.facts_stay_inside(pass);
+    let root_key = steps.key_of(pass, 0);
     let root = KeyedNode {
         node: 0,
         key: root_key,
     };
-    let (mut parent, mut node) = pass_by(table, pass, op, root, gate);
+    let (mut parent, mut node) = pass_by(steps, pass, op, root);
     let mut grandparent = None;
-    let mut steps = STEPS_AT_A_NODE;
+    let mut made = STEPS_AT_A_NODE;
     // A leaf's key stands elsewhere than that of an internal node. So each is asked behind the test of the kind: a
     // processor that predicts the test finds the key's word without waiting for it.
     while is_internal(node) {
-        let key = ask_key(table, pass, node, gate);
-        if ends_at(table, op, node, key) {
+        let key = steps.key_of(pass, node);
+        if ends_at(steps.table, op, node, key) {
             let place = Place {
                 node,
                 key,
@@ -117,16 +107,16 @@ fn walk<M: Memory, G: StepGate>(
                 parent,
                 grandparent,
             };
-            return (place, steps + 1);
+            return (place, made + 1);
         }
-        let (passed, child) = pass_by(table, pass, op, KeyedNode { node, key }, gate);
+        let (passed, child) = pass_by(steps, pass, op, KeyedNode { node, key });
         grandparent = Some(rebuild(parent));
         parent = rebuild(passed);
         node = child;
-        steps += STEPS_AT_A_NODE;
+        made += STEPS_AT_A_NODE;
     }
-    let key = ask_key(table, pass, node, gate);
-    let value = ask_value(table, pass, node, gate);
+    let key = steps.key_of(pass, node);
+    let value = steps.value_of(pass, node);
     let place = Place {
         node,
         key,
@@ -134,42 +124,7 @@ fn walk<M: Memory, G: StepGate>(
         parent,
         grandparent,
     };
-    (place, steps + 2)
-}
-
-// Asks the key of a node that the pass has met. The step is not counted.
-#[inline(always)]
-fn ask_key<M: Memory, G: StepGate>(
-    table: &CardTable<M>,
-    pass: &mut Pass<M>,
-    node: u64,
-    gate: &G,
-) -> u64
-    requires own { pass.old.table ≡ table.now.id }
-    requires met { IsTold pass.old.view (Met node) }
-    ensures step { Sees pass.old pass.new (after (call.KeyOf node) result pass.old.view) }
-    ensures tells { TellsKey (flat_from table.now.plan) pass.old.view node result }
-{
-    gate.before(pass.label(), Kind::Look);
-    table.key_of(pass, node)
-}
-
-// Asks the value of a leaf that the pass has met. The step is not counted.
-#[inline(always)]
-fn ask_value<M: Memory, G: StepGate>(
-    table: &CardTable<M>,
-    pass: &mut Pass<M>,
-    leaf: u64,
-    gate: &G,
-) -> u64
-    requires own { pass.old.table ≡ table.now.id }
-    requires met { IsTold pass.old.view (Met leaf) }
-    requires outer { IsLeaf leaf }
-    ensures step { Sees pass.old pass.new (after (call.ValueOf leaf) result pass.old.view) }
-    ensures tells { TellsLedgerValue pass.old.view leaf result }
-{
-    gate.before(pass.label(), Kind::Look);
-    table.value_of(pass, leaf)
+    (place, made + 2)
 }
 
 // The same value, made from its parts. A move would also copy the unused bytes next to the state, and the processor
@@ -189,38 +144,34 @@ fn rebuild(passed: Passed) -> Passed
 // Goes down from an internal node of this key, whose update it reads before the child word. Returns what it read there,
 // and the child. The steps are not counted.
 fn pass_by<M: Memory, G: StepGate>(
-    table: &CardTable<M>,
+    steps: TableSteps<M, G>,
     pass: &mut Pass<M>,
     op: Op,
     at: KeyedNode,
-    gate: &G,
 ) -> (Passed, u64)
-    requires own { pass.old.table ≡ table.now.id }
+    requires own { pass.old.table ≡ steps.table.now.id }
     requires busy { Does pass.old.view op }
     requires stands { StandsAt pass.old.view at.node }
     requires unread { pass.old.view.worker.search.read ≡ None }
     requires no_card { pass.old.view.worker.card ≡ None }
-    requires node { IsInnerMet table.now.plan.last_card pass.old.view at.node }
+    requires node { IsInnerMet steps.table.now.plan.last_card pass.old.view at.node }
     requires here { pass.old.view.here ≡ Some at.key }
     requires told { IsTold pass.old.view (told.Key at.node at.key) }
-    requires may { MayPass (flat_from table.now.plan) op at.node at.key }
+    requires may { MayPass (flat_from steps.table.now.plan) op at.node at.key }
     ensures keeps_but_search { KeepsAllButSearch pass.old pass.new 2 }
     ensures uncounted { HasUncounted pass.old pass.new 2 }
     ensures here { result.0.node ≡ at.node }
     ensures deeper { depth_of pass.old.view at.node < depth_of pass.new.view result.1 }
-    ensures shallow { IsShallow (deepest table.now.plan) pass.new.view result.1 }
-    ensures there { InTable table.now.plan.last_card result.1 }
+    ensures shallow { IsShallow (deepest steps.entry.table.now.plan) pass.new.view result.1 }
+    ensures there { InTable steps.entry.table.now.plan.last_card result.1 }
     ensures search { pass.new.view.worker.search ≡ below result.1 result.0 pass.old.view.worker.search.parent }
     ensures met { IsTold pass.new.view (Met result.1) }
-    ensures passed { KnowsPassed table.now.plan.last_card pass.new.view result.0 }
-    ensures fits { FitsBelow (flat_from table.now.plan) pass.new.view op result.0.node }
+    ensures passed { KnowsPassed steps.entry.table.now.plan.last_card pass.new.view result.0 }
+    ensures fits { FitsBelow (flat_from steps.entry.table.now.plan) pass.new.view op result.0.node }
     ensures unknown { EndWasUnknownAt pass.new.view result.0 }
 {
-    let label = pass.label();
-    gate.before(label, Kind::Look);
-    let update = table.upd(pass, at.node);
-    gate.before(label, Kind::Look);
-    let child = table.down(pass, at.node, at.key <= op.key());
+    let update = steps.upd(pass, at.node);
+    let child = steps.down(pass, at.node, at.key <= op.key());
     let passed = Passed {
         node: at.node,
         update,

@@ -1,4 +1,4 @@
-//! The atomic steps other than those of the search and the card, each reported to the gate just before it is made.
+//! The atomic steps other than those of the search and the card: what each of them means to an operation.
 ghost use Rattle.std.specs.Prelude.{◌≡◌, ◌≢◌, ◌≤◌, ◌+◌, IfSome, None, []};
 ghost use Rattle.ell_ops.specs.declared.op.Op.{Op};
 ghost use Rattle.ell_ops.specs.Meaning.{key_of};
@@ -24,9 +24,7 @@ ghost use Rattle.ell_tree.specs.Hindrances.{way_of};
 ghost use Rattle.ell_tree.specs.Keeping.{KeepsAll, KeepsAllButMet};
 ghost use Rattle.ell_tree.specs.Tries.{Begins, Lays};
 
-use crate::gate::{Kind, StepGate};
-use ell_cards::{CardTable, Memory, Pass};
-use ell_core::Exchange;
+use ell_cards::{Memory, Pass, StepGate, TableSteps};
 use ell_layout::Field;
 use ell_ops::{Op, Reply};
 use ell_word::{Link, State, Update};
@@ -39,62 +37,54 @@ pub(crate) struct KeyedNode {
 }
 
 /// Takes an operation in hand.
-pub(crate) fn begin<M: Memory, G: StepGate>(
-    table: &CardTable<M>,
-    pass: &mut Pass<M>,
-    op: Op,
-    gate: &G,
-)
-    requires own { pass.old.table ≡ table.now.id }
+pub(crate) fn begin<M: Memory, G: StepGate>(steps: TableSteps<M, G>, pass: &mut Pass<M>, op: Op)
+    requires own { pass.old.table ≡ steps.table.now.id }
     requires free { IsFree pass.old.view }
     requires may { MayChange (worker_of pass.old.view.worker) (key_of op) }
     ensures begins { Begins op [] pass.old.view.hindered pass.old pass.new }
     ensures sees { SeesBegin op pass.old.sight pass.new.sight }
 {
-    gate.before(pass.label(), Kind::Note);
-    table.begin(pass, op);
+    steps.begin(pass, op);
 }
 
 /// Starts the search of the operation in hand anew.
-pub(crate) fn again<M: Memory, G: StepGate>(table: &CardTable<M>, pass: &mut Pass<M>, gate: &G)
-    requires own { pass.old.table ≡ table.now.id }
+pub(crate) fn again<M: Memory, G: StepGate>(steps: TableSteps<M, G>, pass: &mut Pass<M>)
+    requires own { pass.old.table ≡ steps.table.now.id }
     requires may { MayStop (worker_of pass.old.view.worker) }
     // Where there are places, the pass has noted all that its card in hand made dead.
-    requires noted { LetsGo table.now.plan pass.old }
+    requires noted { LetsGo steps.table.now.plan pass.old }
     ensures begins { (op : Op) → Does pass.old.view op →
         Begins op (way_of op pass.old.view) (tries_hindered pass.old.view) pass.old pass.new }
     ensures sight { pass.new.sight ≡ pass.old.sight }
 {
-    gate.before(pass.label(), Kind::Note);
-    table.again(pass);
+    steps.again(pass);
 }
 
 /// Lays the operation in hand down without an answer.
-pub(crate) fn leave<M: Memory, G: StepGate>(table: &CardTable<M>, pass: &mut Pass<M>, gate: &G)
-    requires own { pass.old.table ≡ table.now.id }
+pub(crate) fn leave<M: Memory, G: StepGate>(steps: TableSteps<M, G>, pass: &mut Pass<M>)
+    requires own { pass.old.table ≡ steps.table.now.id }
     requires may { MayStop (worker_of pass.old.view.worker) }
     // Where there are places, the pass has noted all that its card in hand made dead.
-    requires noted { LetsGo table.now.plan pass.old }
+    requires noted { LetsGo steps.table.now.plan pass.old }
     ensures lays { (op : Op) → Does pass.old.view op → Lays op pass.old pass.new }
-    ensures least { pass.old.view.next_at_least ≤ table.now.plan.last_card + 1 }
+    ensures least { pass.old.view.next_at_least ≤ steps.entry.table.now.plan.last_card + 1 }
 {
-    gate.before(pass.label(), Kind::Note);
-    table.leave(pass);
+    steps.leave(pass);
 }
 
 /// Answers the operation in hand, by a reply and, if it is a delete that took a value, by that.
 pub(crate) fn answer<M: Memory, G: StepGate>(
-    table: &CardTable<M>,
+    steps: TableSteps<M, G>,
     pass: &mut Pass<M>,
     said: Reply,
     took: Option<u64>,
-    gate: &G,
 )
-    requires own { pass.old.table ≡ table.now.id }
+    requires own { pass.old.table ≡ steps.table.now.id }
     requires may { MayAnswer pass.old.view said took }
     // Where there are places, the pass has noted all that its card in hand made dead.
-    requires noted { LetsGo table.now.plan pass.old }
-    ensures answers { (op : Op) → Does pass.old.view op → AnswersAs SeesEnd table.now op said pass.old pass.new }
+    requires noted { LetsGo steps.table.now.plan pass.old }
+    ensures answers { (op : Op) → Does pass.old.view op →
+        AnswersAs SeesEnd steps.entry.table.now op said pass.old pass.new }
     ensures ended { (op : Op) → Does pass.old.view op → SeesEnd op said took pass.old.sight pass.new.sight }
     ensures hindrances { pass.new.view.hindrances ≡ pass.old.view.hindrances }
     ensures hindered { pass.new.view.hindered ≡ pass.old.view.hindered }
@@ -102,104 +92,94 @@ pub(crate) fn answer<M: Memory, G: StepGate>(
         ≡ answered_so pass.old.view.worker.operation pass.old.view.worker.card said took }
     ensures facts { pass.new.view.worker.knows ≡ pass.old.view.worker.knows }
     ensures least { pass.new.view.next_at_least ≡ pass.old.view.next_at_least }
-    ensures room { pass.new.view.next_at_least ≤ table.now.plan.last_card + 1 }
+    ensures room { pass.new.view.next_at_least ≤ steps.entry.table.now.plan.last_card + 1 }
     ensures taken { TakesNoCard pass.old pass.new }
     ensures took { Took pass.old pass.new 1 }
 {
-    gate.before(pass.label(), Kind::Note);
-    table.answer(pass, said, took);
+    steps.answer(pass, said, took);
 }
 
 /// Reads the key of a node that the pass has met.
 pub(crate) fn read_key<M: Memory, G: StepGate>(
-    table: &CardTable<M>,
+    steps: TableSteps<M, G>,
     pass: &mut Pass<M>,
     node: u64,
-    gate: &G,
 ) -> KeyedNode
-    requires own { pass.old.table ≡ table.now.id }
+    requires own { pass.old.table ≡ steps.table.now.id }
     requires met { IsTold pass.old.view (told.Met node) }
     ensures keeps_all { KeepsAll pass.old pass.new 1 }
     ensures node { result.node ≡ node }
     ensures told { IsTold pass.new.view (told.Key node result.key) }
 {
-    gate.before(pass.label(), Kind::Look);
-    let key = table.key_of(pass, node);
+    let key = steps.key_of(pass, node);
     pass.count(1);
     KeyedNode { node, key }
 }
 
 /// Reads a word of a card that the pass knows flagged or marked.
 pub(crate) fn read_info<M: Memory, G: StepGate>(
-    table: &CardTable<M>,
+    steps: TableSteps<M, G>,
     pass: &mut Pass<M>,
     card: u64,
     field: Field,
-    gate: &G,
 ) -> u64
-    requires own { pass.old.table ≡ table.now.id }
+    requires own { pass.old.table ≡ steps.table.now.id }
     requires may { MayAsk pass.old.view card field }
     ensures keeps_all { KeepsAll pass.old pass.new 1 }
     ensures told { IsTold pass.new.view (told.Info card field (says_by field result)) }
     ensures met { NamesNode field → IsTold pass.new.view (told.Met (says_by field result)) }
-    ensures node { TellsNode table.now.plan.last_card field result }
-    ensures shallow { IsShallow (deepest table.now.plan) pass.new.view (says_by field result) }
+    ensures node { TellsNode steps.entry.table.now.plan.last_card field result }
+    ensures shallow { IsShallow (deepest steps.entry.table.now.plan) pass.new.view (says_by field result) }
     ensures deeper { depth_there pass.old.view card field ≤ depth_of pass.new.view (says_by field result) }
 {
-    gate.before(pass.label(), Kind::Look);
-    table.info(pass, card, field)
+    steps.info(pass, card, field)
 }
 
 /// Reads the leaf of a card that the pass knows flagged or marked, with the tag that the card expects.
 pub(crate) fn read_leaf<M: Memory, G: StepGate>(
-    table: &CardTable<M>,
+    steps: TableSteps<M, G>,
     pass: &mut Pass<M>,
     card: u64,
-    gate: &G,
 ) -> Link
-    requires own { pass.old.table ≡ table.now.id }
+    requires own { pass.old.table ≡ steps.table.now.id }
     requires may { MayAsk pass.old.view card field.L }
     ensures keeps_all { KeepsAll pass.old pass.new 1 }
     ensures told { IsTold pass.new.view (told.Info card field.L result.node) }
     ensures expects { IsTold pass.new.view (told.Expects card result.tag) }
 {
-    gate.before(pass.label(), Kind::Look);
-    let word = table.info(pass, card, Field::L);
+    let word = steps.info(pass, card, Field::L);
     Link::of(word)
 }
 
 /// Reads a child of the parent that a card has marked.
 pub(crate) fn read_child<M: Memory, G: StepGate>(
-    table: &CardTable<M>,
+    steps: TableSteps<M, G>,
     pass: &mut Pass<M>,
     card: u64,
     parent: u64,
     right: bool,
-    gate: &G,
 ) -> u64
-    requires own { pass.old.table ≡ table.now.id }
+    requires own { pass.old.table ≡ steps.table.now.id }
     requires may { KnowsPlace pass.old.view (fact.Marked card) card field.P parent }
     ensures keeps_all { KeepsAll pass.old pass.new 1 }
     ensures told { IsTold pass.new.view (told.Frozen card right result) }
     ensures met { IsTold pass.new.view (told.Met result) }
 {
-    gate.before(pass.label(), Kind::Look);
-    let child = table.frozen_child(pass, card, parent, right);
+    let child = steps.frozen_child(pass, card, parent, right);
     child.node
 }
 
 /// Makes the child exchange of an insert or a swap, given the leaf with the tag that the card expects.
 pub(crate) fn change_child<M: Memory, G: StepGate>(
-    table: &CardTable<M>,
+    steps: TableSteps<M, G>,
     pass: &mut Pass<M>,
     card: u64,
     parent: KeyedNode,
     leaf: Link,
     right_key: u64,
     left_key: u64,
-    gate: &G,
 )
-    requires own { pass.old.table ≡ table.now.id }
+    requires own { pass.old.table ≡ steps.table.now.id }
     requires flagged { Knows pass.old.view (fact.IFlagged card) }
     requires parent { IsTold pass.old.view (told.Info card field.P parent.node) }
     requires parent_key { IsTold pass.old.view (told.Key parent.node parent.key) }
@@ -210,51 +190,47 @@ pub(crate) fn change_child<M: Memory, G: StepGate>(
     ensures keeps_all { KeepsAll pass.old pass.new 1 }
     ensures changed { Knows pass.new.view (fact.IChanged card) }
 {
-    gate.before(pass.label(), Kind::Exchange(Exchange::IChild));
     let replaces = left_key == right_key;
     let right = parent.key <= right_key;
-    table.ichild(pass, card, parent.node, leaf, replaces, right);
+    steps.ichild(pass, card, parent.node, leaf, replaces, right);
 }
 
 /// Takes the flag of an insert away.
 pub(crate) fn clear_insert<M: Memory, G: StepGate>(
-    table: &CardTable<M>,
+    steps: TableSteps<M, G>,
     pass: &mut Pass<M>,
     card: u64,
     parent: u64,
-    gate: &G,
 )
-    requires own { pass.old.table ≡ table.now.id }
+    requires own { pass.old.table ≡ steps.table.now.id }
     requires changed { Knows pass.old.view (fact.IChanged card) }
     requires parent { IsTold pass.old.view (told.Info card field.P parent) }
     ensures keeps_all { KeepsAll pass.old pass.new 1 }
     ensures over { Knows pass.new.view (fact.IOver card) }
 {
-    gate.before(pass.label(), Kind::Exchange(Exchange::IUnflag));
-    table.iunflag(pass, card, parent);
+    steps.iunflag(pass, card, parent);
 }
 
 /// Marks the parent of a delete. Returns `None` if its mark stands now, and otherwise the update that was found in its
 /// place.
 pub(crate) fn set_mark<M: Memory, G: StepGate>(
-    table: &CardTable<M>,
+    steps: TableSteps<M, G>,
     pass: &mut Pass<M>,
     card: u64,
     parent: u64,
     was: u64,
-    gate: &G,
 ) -> Option<Update>
-    requires own { pass.old.table ≡ table.now.id }
+    requires own { pass.old.table ≡ steps.table.now.id }
     requires flagged { Knows pass.old.view (fact.DFlagged card) }
-    requires parent { IsParent table.now.plan.last_card pass.old.view card parent }
+    requires parent { IsParent steps.table.now.plan.last_card pass.old.view card parent }
     requires read { IsTold pass.old.view (told.Info card field.Was was) }
     ensures keeps_but_met { KeepsAllButMet pass.old pass.new 1 }
     ensures hindrances { pass.new.view.hindrances ≡ met_by_mark card result pass.old.view }
     ensures marked { result ≡ None → Knows pass.new.view (fact.Marked card) }
-    ensures lost { IfSome result (λ found. IsLost table.now.plan.last_card card parent found pass.new.view) }
+    ensures lost { IfSome result
+        (λ found. IsLost steps.entry.table.now.plan.last_card card parent found pass.new.view) }
 {
-    gate.before(pass.label(), Kind::Exchange(Exchange::Mark));
-    let marked = table.mark(pass, card, parent, was);
+    let marked = steps.mark(pass, card, parent, was);
     found_instead(card, marked)
 }
 
@@ -280,15 +256,14 @@ fn is_mark(card: u64, update: Update) -> bool
 
 /// Makes the child exchange of a delete, given the parent with the tag that the card expects.
 pub(crate) fn cut_parent<M: Memory, G: StepGate>(
-    table: &CardTable<M>,
+    steps: TableSteps<M, G>,
     pass: &mut Pass<M>,
     card: u64,
     grandparent: KeyedNode,
     parent: Link,
     sibling: KeyedNode,
-    gate: &G,
 )
-    requires own { pass.old.table ≡ table.now.id }
+    requires own { pass.old.table ≡ steps.table.now.id }
     requires marked { KnowsMark pass.old.view card grandparent.node parent.node }
     requires expects { IsTold pass.old.view (told.Expects card parent.tag) }
     requires above { IsTold pass.old.view (told.Key grandparent.node grandparent.key) }
@@ -296,43 +271,38 @@ pub(crate) fn cut_parent<M: Memory, G: StepGate>(
     ensures keeps_all { KeepsAll pass.old pass.new 1 }
     ensures cut { Knows pass.new.view (fact.Cut card) }
 {
-    gate.before(pass.label(), Kind::Exchange(Exchange::DChild));
     let right = grandparent.key <= sibling.key;
-    table.dchild(pass, card, grandparent.node, parent, sibling.node, right);
+    steps.dchild(pass, card, grandparent.node, parent, sibling.node, right);
 }
 
 /// Takes the flag of a delete away after its child exchange.
 pub(crate) fn clear_delete<M: Memory, G: StepGate>(
-    table: &CardTable<M>,
+    steps: TableSteps<M, G>,
     pass: &mut Pass<M>,
     card: u64,
     grandparent: u64,
-    gate: &G,
 )
-    requires own { pass.old.table ≡ table.now.id }
+    requires own { pass.old.table ≡ steps.table.now.id }
     requires cut { Knows pass.old.view (fact.Cut card) }
     requires grandparent { IsTold pass.old.view (told.Info card field.Gp grandparent) }
     ensures keeps_all { KeepsAll pass.old pass.new 1 }
     ensures over { Knows pass.new.view (fact.DOver card) }
 {
-    gate.before(pass.label(), Kind::Exchange(Exchange::DUnflag));
-    table.dunflag(pass, card, grandparent);
+    steps.dunflag(pass, card, grandparent);
 }
 
 /// Takes the flag of a delete away after its lost mark.
 pub(crate) fn go_back<M: Memory, G: StepGate>(
-    table: &CardTable<M>,
+    steps: TableSteps<M, G>,
     pass: &mut Pass<M>,
     card: u64,
     grandparent: u64,
-    gate: &G,
 )
-    requires own { pass.old.table ≡ table.now.id }
+    requires own { pass.old.table ≡ steps.table.now.id }
     requires unmarkable { Knows pass.old.view (fact.Unmarkable card) }
     requires grandparent { IsTold pass.old.view (told.Info card field.Gp grandparent) }
     ensures keeps_all { KeepsAll pass.old pass.new 1 }
     ensures backed { Knows pass.new.view (fact.Backed card) }
 {
-    gate.before(pass.label(), Kind::Exchange(Exchange::Backtrack));
-    table.backtrack(pass, card, grandparent);
+    steps.backtrack(pass, card, grandparent);
 }

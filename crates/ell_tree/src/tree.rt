@@ -30,12 +30,11 @@ ghost use Rattle.ell_cards.specs.Depths.{deepest};
 
 use crate::computing::compute;
 use crate::cursor::About;
-use crate::gate::{Kind, StepGate};
 use crate::operations::{NotDone, change, find};
 use crate::reading::{cards_left, look, look_about};
 use crate::removing::remove_if;
 use crate::scanning::{Pair, Scanned, last_below, next_from, scan};
-use ell_cards::{CardFault, CardTable, Memory, Pass, SplitFault};
+use ell_cards::{CardFault, CardTable, Memory, Pass, SplitFault, StepGate};
 use ell_ops::{KEY_MAX, NoMemory, Op};
 use std::marker::Model;
 
@@ -136,7 +135,7 @@ impl<M: Memory> Tree<M> {
         ensures only { OnlyLooksOnce self.now pass.old pass.new }
         ensures cards { TakesNoCard pass.old pass.new }
     {
-        look(&self.table, pass, key, gate)
+        look(self.table.told_to(gate), pass, key)
     }
 
     /// Ends the looks and scans of a pass. In a tree whose cards come back, call this after them: until then, or until
@@ -152,8 +151,7 @@ impl<M: Memory> Tree<M> {
         ensures known { self.now.plan.slots ≢ None → IsKnownInRun self.now.plan pass.old.view }
     {
         if self.table.has_places() {
-            gate.before(pass.label(), Kind::Look);
-            self.table.end_look(pass);
+            self.table.told_to(gate).end_look(pass);
         } else {
             self.table.periods_have_places(pass);
         }
@@ -178,7 +176,7 @@ impl<M: Memory> Tree<M> {
         ensures only { OnlyLooksOnce self.now pass.old pass.new }
         ensures cards { TakesNoCard pass.old pass.new }
     {
-        look_about(&self.table, pass, key, gate)
+        look_about(self.table.told_to(gate), pass, key)
     }
 
     /// Writes the pairs of the keys that are at least `from` and below `upto`, whichever pass owns them, in strictly
@@ -217,7 +215,7 @@ impl<M: Memory> Tree<M> {
         ensures only { OnlyScans self.now pass.old pass.new }
         ensures cards { TakesNoCard pass.old pass.new }
     {
-        scan(&self.table, pass, from, upto, room, gate)
+        scan(self.table.told_to(gate), pass, from, upto, room)
     }
 
     /// Returns the least present key that is at least `key`, with its value: it was present in one state of the tree
@@ -238,7 +236,7 @@ impl<M: Memory> Tree<M> {
         ensures only { OnlyScans self.now pass.old pass.new }
         ensures cards { TakesNoCard pass.old pass.new }
     {
-        next_from(&self.table, pass, key, gate)
+        next_from(self.table.told_to(gate), pass, key)
     }
 
     /// Returns the least present key above `key`, with its value, as `next_at_least` does.
@@ -258,7 +256,7 @@ impl<M: Memory> Tree<M> {
         ensures only { OnlyScans self.now pass.old pass.new }
         ensures cards { TakesNoCard pass.old pass.new }
     {
-        next_from(&self.table, pass, key + 1, gate)
+        next_from(self.table.told_to(gate), pass, key + 1)
     }
 
     /// Returns the least present key, with its value, as `next_at_least` does.
@@ -271,7 +269,7 @@ impl<M: Memory> Tree<M> {
         ensures only { OnlyScans self.now pass.old pass.new }
         ensures cards { TakesNoCard pass.old pass.new }
     {
-        next_from(&self.table, pass, 0, gate)
+        next_from(self.table.told_to(gate), pass, 0)
     }
 
     /// Returns the greatest present key that is at most `key`, with its value: it was present in one state of the tree
@@ -292,7 +290,7 @@ impl<M: Memory> Tree<M> {
         ensures only { OnlyScans self.now pass.old pass.new }
         ensures cards { TakesNoCard pass.old pass.new }
     {
-        last_below(&self.table, pass, key + 1, gate)
+        last_below(self.table.told_to(gate), pass, key + 1)
     }
 
     /// Returns the greatest present key below `key`, with its value, as `last_at_most` does.
@@ -312,7 +310,7 @@ impl<M: Memory> Tree<M> {
         ensures only { OnlyScans self.now pass.old pass.new }
         ensures cards { TakesNoCard pass.old pass.new }
     {
-        last_below(&self.table, pass, key, gate)
+        last_below(self.table.told_to(gate), pass, key)
     }
 
     /// Returns the greatest present key, with its value, as `last_at_most` does.
@@ -325,7 +323,7 @@ impl<M: Memory> Tree<M> {
         ensures only { OnlyScans self.now pass.old pass.new }
         ensures cards { TakesNoCard pass.old pass.new }
     {
-        last_below(&self.table, pass, KEY_MAX + 1, gate)
+        last_below(self.table.told_to(gate), pass, KEY_MAX + 1)
     }
 
     /// Returns how many cards are not given out yet, 0 if all are, in one step: the number at that step, while other
@@ -341,7 +339,7 @@ impl<M: Memory> Tree<M> {
         ensures worker { pass.new.view.worker ≡ pass.old.view.worker }
         ensures taken { TakesNoCard pass.old pass.new }
     {
-        cards_left(&self.table, pass, gate)
+        cards_left(self.table.told_to(gate), pass)
     }
 
     /// Returns the value of a key of the pass, or of a shared one, if the key is present. The call helps no other call,
@@ -357,7 +355,7 @@ impl<M: Memory> Tree<M> {
         ensures steps { Took pass.old pass.new (find_steps (deepest self.now.plan)) }
         ensures cards { TakesNoCard pass.old pass.new }
     {
-        find(&self.table, pass, key, gate)
+        find(self.table.told_to(gate), pass, key)
     }
 
     /// Adds a key of the pass, or a shared one, with its value. Returns whether the key was absent. A key that is
@@ -387,7 +385,8 @@ impl<M: Memory> Tree<M> {
         ensures cards { self.now.plan.slots ≡ None → SpendsCards key tries pass.old pass.new result }
         ensures enough { HasEnough self.now tries result }
     {
-        Ok(change(&self.table, pass, Op::Insert(key, value), tries, gate)?.is_some())
+        let steps = self.table.told_to(gate);
+        Ok(change(steps, pass, Op::Insert(key, value), tries)?.is_some())
     }
 
     /// Gives a key of the pass, or a shared one, another value, if it has the value `was`, in one atomic step. Returns
@@ -415,7 +414,8 @@ impl<M: Memory> Tree<M> {
             SpendsCards key tries pass.old pass.new (whether_swapped was result) }
         ensures enough { HasEnough self.now tries result }
     {
-        Ok(change(&self.table, pass, Op::Swap(key, was, value), tries, gate)?)
+        let steps = self.table.told_to(gate);
+        Ok(change(steps, pass, Op::Swap(key, was, value), tries)?)
     }
 
     /// Gives a key of the pass, or a shared one, this value, whether it was present or not, in one atomic step. Returns
@@ -449,7 +449,7 @@ impl<M: Memory> Tree<M> {
             SpendsCards key tries pass.old pass.new (whether_put result) }
         ensures enough { HasEnoughForOwn self.now key tries pass.old result }
     {
-        let done = compute(&self.table, pass, key, |_| Some(value), tries, gate)?;
+        let done = compute(self.table.told_to(gate), pass, key, |_| Some(value), tries)?;
         Ok(done.was)
     }
 
@@ -483,7 +483,7 @@ impl<M: Memory> Tree<M> {
             Some(value) => Some(f(value)),
             None => None,
         };
-        let done = compute(&self.table, pass, key, made, tries, gate)?;
+        let done = compute(self.table.told_to(gate), pass, key, made, tries)?;
         Ok(done.was)
     }
 
@@ -563,7 +563,7 @@ impl<M: Memory> Tree<M> {
         ensures cards { self.now.plan.slots ≡ None → SpendsCards key tries pass.old pass.new (whether result) }
         ensures enough { HasEnough self.now tries result }
     {
-        Ok(change(&self.table, pass, Op::Delete(key), tries, gate)?)
+        Ok(change(self.table.told_to(gate), pass, Op::Delete(key), tries)?)
     }
 
     /// Deletes a key of the pass, or a shared one, if it has the value `was`, in one atomic step. Returns the value that
@@ -592,7 +592,7 @@ impl<M: Memory> Tree<M> {
             SpendsCards key tries pass.old pass.new (whether_swapped was result) }
         ensures enough { HasEnoughForOwn self.now key tries pass.old result }
     {
-        Ok(remove_if(&self.table, pass, key, was, tries, gate)?)
+        Ok(remove_if(self.table.told_to(gate), pass, key, was, tries)?)
     }
 
     /// A law, the contract of a function that does nothing: a pass of the tree knows of at most two milestones of each

@@ -3,23 +3,18 @@ ghost use Rattle.std.specs.Prelude.{◌≡◌, ◌≤◌, None};
 ghost use Rattle.ell_word.specs.declared.update.State.TheVariants.{Clean};
 ghost use Rattle.ell_word.specs.Node.{greatest_number};
 ghost use Rattle.ell_cards.specs.Models.{Does, Steps, flat_from, new_node};
-ghost use Rattle.ell_cards.specs.Guards.{MayClaim, MayFill, Wants};
-ghost use Rattle.ell_cards.specs.Changes.{after_fill};
-ghost use Rattle.ell_cards.specs.Shown.{shown_word};
+ghost use Rattle.ell_cards.specs.Guards.{MayClaim, Wants};
 ghost use Rattle.ell_cards.specs.Skipping.{IsFresh, after_claimed_row};
 ghost use Rattle.ell_cards.specs.Stepping.{MayInTable};
 ghost use Rattle.ell_cards.specs.declared.call.Call.TheVariants as call;
 ghost use Rattle.ell_tree.specs.CardsTaken.{NextTakes, AskTakes};
 ghost use Rattle.ell_tree.specs.Keeping.{KeepsIn};
 ghost use Rattle.ell_tree.specs.Searches.{IsAt};
-ghost use Rattle.ell_tree.specs.Tries.{HasSlotOf, ClaimsNext, HoldsAside, Claims};
+ghost use Rattle.ell_tree.specs.Tries.{ClaimsNext, HoldsAside, Claims};
 ghost use Rattle.ell_tree.specs.Ends.{claim_steps, is_delete};
 
-use crate::gate::{Kind, StepGate};
 use crate::searching::Place;
-use ell_cards::{CardTable, Memory, Pass};
-use ell_core::Exchange;
-use ell_layout::Field;
+use ell_cards::{Memory, Pass, StepGate, TableSteps};
 use ell_ops::Op;
 
 /// How a try ended.
@@ -60,26 +55,27 @@ enum Next {
 /// The node of an insert's or a swap's card gets this key. Where cards lie in slots, it takes the next one whose slot is free, and
 /// goes on to the one behind while another pass has taken that slot first, until it has asked for each.
 pub(crate) fn take_card<M: Memory, G: StepGate>(
-    table: &CardTable<M>,
+    steps: TableSteps<M, G>,
     pass: &mut Pass<M>,
     op: Op,
     place: Place,
     node_key: u64,
-    gate: &G,
 ) -> Claimed
-    requires own { pass.old.table ≡ table.now.id }
+    requires own { pass.old.table ≡ steps.table.now.id }
     requires busy { Does pass.old.view op }
     requires no_card { pass.old.view.worker.card ≡ None }
     requires at { IsAt pass.old.view place }
     requires calm { place.parent.update.state ≡ Clean }
-    requires wants { Wants (flat_from table.now.plan) pass.old.view op place.parent.node place.node place.key node_key }
-    ensures keeps { KeepsIn table.now.plan pass.old pass.new (claim_steps table.now.plan.slots) }
-    ensures claims { Claims table.now.plan op place node_key pass.old pass.new result }
-    ensures taken { table.now.plan.slots ≡ None → AskTakes pass.old pass.new result }
-    ensures limit { table.now.plan.last_card ≤ greatest_number }
+    requires wants { Wants (flat_from steps.table.now.plan) pass.old.view op place.parent.node place.node place.key
+        node_key }
+    ensures keeps { KeepsIn steps.entry.table.now.plan pass.old pass.new
+        (claim_steps steps.entry.table.now.plan.slots) }
+    ensures claims { Claims steps.entry.table.now.plan op place node_key pass.old pass.new result }
+    ensures taken { steps.entry.table.now.plan.slots ≡ None → AskTakes pass.old pass.new result }
+    ensures limit { steps.entry.table.now.plan.last_card ≤ greatest_number }
 {
-    for _ in 0..table.most_claims() {
-        match claim_next(table, pass, op, place, node_key, gate) {
+    for _ in 0..steps.table.most_claims() {
+        match claim_next(steps, pass, op, place, node_key) {
             Next::Taken(card) => return Claimed::Card(card),
             Next::NoneLeft => return Claimed::NoneLeft,
             Next::Lost => return Claimed::Lost,
@@ -93,39 +89,36 @@ pub(crate) fn take_card<M: Memory, G: StepGate>(
 // Claims the next card whose slot the pass could take, if one is left, and with it all numbers up to it, and takes its slot, if
 // cards lie in slots and it is free still. A card that is in hand already is laid aside, as the numbers before that one are.
 fn claim_next<M: Memory, G: StepGate>(
-    table: &CardTable<M>,
+    steps: TableSteps<M, G>,
     pass: &mut Pass<M>,
     op: Op,
     place: Place,
     node_key: u64,
-    gate: &G,
 ) -> Next
-    requires own { pass.old.table ≡ table.now.id }
+    requires own { pass.old.table ≡ steps.table.now.id }
     requires busy { Does pass.old.view op }
-    requires hand { HoldsAside table.now.plan pass.old }
+    requires hand { HoldsAside steps.table.now.plan pass.old }
     requires at { IsAt pass.old.view place }
     requires calm { place.parent.update.state ≡ Clean }
-    requires wants { Wants (flat_from table.now.plan) pass.old.view op place.parent.node place.node place.key node_key }
-    ensures keeps { KeepsIn table.now.plan pass.old pass.new 2 }
-    ensures claims { ClaimsNext table.now.plan op place node_key pass.old pass.new result }
-    ensures taken { table.now.plan.slots ≡ None → NextTakes pass.old pass.new result }
-    ensures limit { table.now.plan.last_card ≤ greatest_number }
+    requires wants { Wants (flat_from steps.table.now.plan) pass.old.view op place.parent.node place.node place.key
+        node_key }
+    ensures keeps { KeepsIn steps.entry.table.now.plan pass.old pass.new 2 }
+    ensures claims { ClaimsNext steps.entry.table.now.plan op place node_key pass.old pass.new result }
+    ensures taken { steps.entry.table.now.plan.slots ≡ None → NextTakes pass.old pass.new result }
+    ensures limit { steps.entry.table.now.plan.last_card ≤ greatest_number }
 {
-    table.places_are_in_flat_trees();
-    let label = pass.label();
-    gate.before(label, Kind::Look);
-    let first = table.next(pass);
-    if first > table.last_card() {
+    steps.table.places_are_in_flat_trees();
+    let first = steps.next(pass);
+    if first > steps.table.last_card() {
         return Next::NoneLeft;
     }
-    let Some(card) = table.next_takeable(pass, first, is_delete(op)) else {
+    let Some(card) = steps.table.next_takeable(pass, first, is_delete(op)) else {
         return Next::NoneLeft;
     };
-    gate.before(label, Kind::Exchange(Exchange::Claim));
-    if !claim_up_to(table, pass, first, card, node_key) {
+    if !claim_up_to(steps, pass, first, card, node_key) {
         return Next::Lost;
     }
-    if table.take_slot(pass, card) {
+    if steps.table.take_slot(pass, card) {
         Next::Taken(card)
     } else {
         Next::InUse
@@ -141,44 +134,28 @@ fn is_delete(op: Op) -> bool
 
 // Claims all cards from the next one to this one, if no other pass has taken the next one: just that, where each card has words of
 // its own. Returns `true` if it did.
-fn claim_up_to<M: Memory>(
-    table: &CardTable<M>,
+fn claim_up_to<M: Memory, G: StepGate>(
+    steps: TableSteps<M, G>,
     pass: &mut Pass<M>,
     first: u64,
     card: u64,
     node_key: u64,
 ) -> bool
-    requires own { pass.old.table ≡ table.now.id }
-    requires may { MayClaim (flat_from table.now.plan) pass.old.view first (new_node table.now.plan node_key) }
+    requires own { pass.old.table ≡ steps.table.now.id }
+    requires may { MayClaim (flat_from steps.table.now.plan) pass.old.view first
+        (new_node steps.table.now.plan node_key) }
     requires order { first ≤ card }
-    requires room { card ≤ table.now.plan.last_card }
-    requires one { table.now.plan.slots ≡ None → card ≡ first }
-    requires kept { MayInTable table.now.plan pass.old (call.Claim first (new_node table.now.plan node_key)) }
-    ensures step { Steps pass.old pass.new (after_claimed_row result first card (new_node table.now.plan node_key) pass.old.view) }
-    ensures fresh { IsFresh table.now.plan pass.old.slot result card }
+    requires room { card ≤ steps.table.now.plan.last_card }
+    requires one { steps.table.now.plan.slots ≡ None → card ≡ first }
+    requires kept { MayInTable steps.table.now.plan pass.old
+        (call.Claim first (new_node steps.table.now.plan node_key)) }
+    ensures step { Steps pass.old pass.new
+        (after_claimed_row result first card (new_node steps.entry.table.now.plan node_key) pass.old.view) }
+    ensures fresh { IsFresh steps.entry.table.now.plan pass.old.slot result card }
 {
     if card == first {
-        table.claim(pass, first, node_key)
+        steps.claim(pass, first, node_key)
     } else {
-        table.claim_row(pass, first, card, node_key)
+        steps.claim_row(pass, first, card, node_key)
     }
-}
-
-/// Stores a word of the card in hand: where it names a node, the low bits of the node.
-pub(crate) fn fill<M: Memory, G: StepGate>(
-    table: &CardTable<M>,
-    pass: &mut Pass<M>,
-    card: u64,
-    field: Field,
-    value: u64,
-    gate: &G,
-)
-    requires own { pass.old.table ≡ table.now.id }
-    requires may { MayFill pass.old.view card }
-    requires slot { HasSlotOf table.now.plan card pass.old }
-    requires fits { shown_word field value ≡ value }
-    ensures { Steps pass.old pass.new (after_fill field value pass.old.view) }
-{
-    gate.before(pass.label(), Kind::Fill);
-    table.fill(pass, card, field, value);
 }

@@ -3,7 +3,7 @@ ghost use Rattle.std.specs.Prelude.{◌≡◌, ◌≤◌};
 ghost use Rattle.ell_cards.specs.Models.{IsFree};
 ghost use Rattle.ell_cards.specs.Starts.{most_places};
 
-use ell_cards::{CardTable, FixedMemory, Pass, TreeKind};
+use ell_cards::{CardTable, FixedMemory, NoGate, Pass, TreeKind};
 use std::alloc::Global;
 use std::process::Abort;
 
@@ -52,12 +52,13 @@ fn with_places(
 fn a_look_that_goes_on_holds_safe_numbers_down(rt: HostRuntime) {
     let (table, pass) = with_places(&rt, 3);
     let (mut one, mut two) = parted(&rt, &table, pass);
+    let steps = table.told_to(&NoGate);
     assert!(rt; table.safe_number(&mut one) == 2);
-    assert!(rt; table.look(&mut two).node == 4);
+    assert!(rt; steps.look(&mut two).node == 4);
     assert!(rt; table.safe_number(&mut one) == 2 && table.safe_number(&mut two) == 2);
-    table.end_look(&mut two);
+    steps.end_look(&mut two);
     assert!(rt; table.safe_number(&mut one) == 5);
-    assert!(rt; table.look(&mut two).node == 4);
+    assert!(rt; steps.look(&mut two).node == 4);
     let mut both = joined(&rt, &table, one, two);
     assert!(rt; table.safe_number(&mut both) == 6);
 }

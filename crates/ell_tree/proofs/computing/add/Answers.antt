@@ -10,7 +10,7 @@ use Rattle.ell_tree.proofs.computing.add.Goals as goal
 -- the key was there: nothing was added, and it was found
 pub returns-in-None-clause-replaces : goal.returns-in-None-clause-replaces
 returns-in-None-clause-replaces g c =
-    let t = c.args.table.now in
+    let t = c.args.steps.table.now in
     let key = c.args.key in
     let first = c.args.pass.now in
     let refused = c.change.new.pass in

@@ -20,7 +20,7 @@ use Rattle.ell_cards.specs.Depths.{deepest}
 
 pub loop-round-init : goal.loop-round-init
 loop-round-init g c =
-    let t = c.args.table.now in
+    let t = c.args.steps.table.now in
     let key = c.args.key in
     let old = c.args.pass.now in
     let new = c.find-was.new.pass in
@@ -51,7 +51,7 @@ loop-round-init g c =
 pub loop-round-preserved : goal.loop-round-preserved
 loop-round-preserved g c = elim c.match-replace.branch [
   | in-Ok-Lost w ↦
-      let t = c.args.table.now in
+      let t = c.args.steps.table.now in
       let key = c.args.key in
       let cards = t.plan.last_card in
       let old = c.args.pass.now in
@@ -87,7 +87,7 @@ loop-round-preserved g c = elim c.match-replace.branch [
         few = λ plain. let one = each plain in let all = i.few plain in omega (arith, one, all);
       }
   | in-Err-Busy w ↦
-      let t = c.args.table.now in
+      let t = c.args.steps.table.now in
       let key = c.args.key in
       let cards = t.plan.last_card in
       let old = c.args.pass.now in
@@ -128,12 +128,12 @@ pub returns-in-Ok-Done-clause-computes : goal.returns-in-Ok-Done-clause-computes
 returns-in-Ok-Done-clause-computes g c =
     let l = c.loop-round in
     let op = put_by c.args.key c.in-Some.value l.was in
-    concludes c.args.table.now op (reply_of_change op) c.args.pass.now l.pass c.replace.new.pass l.invariant.untouched (search rules)
+    concludes c.args.steps.table.now op (reply_of_change op) c.args.pass.now l.pass c.replace.new.pass l.invariant.untouched (search rules)
 
 pub returns-in-Ok-Done-clause-steps : goal.returns-in-Ok-Done-clause-steps
 returns-in-Ok-Done-clause-steps g c =
     let l = c.loop-round in
-    let plan = c.args.table.now.plan in
+    let plan = c.args.steps.table.now.plan in
     took_in_trans plan c.args.pass.now l.pass c.replace.new.pass (find_steps (deepest plan) + l._round * round_steps_in plan) (round_steps_in plan) _ l.invariant.took
     c.replace.ensures.steps (rounds_within (find_steps (deepest plan)) (round_steps_in plan) l._round c.args.tries c.loop-round-test.true)
 
@@ -154,7 +154,7 @@ returns-clause-cards g c = λ plain.
 -- all tries were hindered
 pub returns-then-is_some-clause-others : goal.returns-then-is_some-clause-others
 returns-then-is_some-clause-others g c = λ owns not_done.
-    let t = c.args.table.now in
+    let t = c.args.steps.table.now in
     let l = c.loop-round in
     let all : l._round ≡ c.args.tries = omega (arith, c.loop-round-test.false, l.auto._round-end) in
     let each : l.pass.view.hindered ≡ c.args.pass.now.view.hindered + c.args.tries = omega (arith, all, l.invariant.hindered owns) in
@@ -167,7 +167,7 @@ returns-then-is_some-clause-others g c = λ owns not_done.
 pub returns-then-is_some-clause-enough : goal.returns-then-is_some-clause-enough
 returns-then-is_some-clause-enough g c = λ owns many not_done.
     let l = c.loop-round in
-    let cards = c.args.table.now.plan.last_card in
+    let cards = c.args.steps.table.now.plan.last_card in
     let all : l._round ≡ c.args.tries = omega (arith, c.loop-round-test.false, l.auto._round-end) in
     let most = milestones_most cards l.pass.view c.claims_stay_inside.ensures in
     omega (arith, many, most, all, l.invariant.milestones owns)
@@ -181,7 +181,7 @@ returns-then-is_some-clause-tried g c = λ not_done.
 -- no card was left
 pub returns-in-Err-Spent-clause-not_done : goal.returns-in-Err-Spent-clause-not_done
 returns-in-Err-Spent-clause-not_done g c =
-    let t = c.args.table.now in
+    let t = c.args.steps.table.now in
     let key = c.args.key in
     let l = c.loop-round in
     let new = c.replace.new.pass in

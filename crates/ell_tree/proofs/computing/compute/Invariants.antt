@@ -13,20 +13,20 @@ use Rattle.ell_cards.specs.Depths.{deepest}
 -- each try so far was hindered, or another pass had changed the key; what was found last is there, and what is to become of it was made of it
 abbrev pub invariant-loop-round : goal.invariant-loop-round
 invariant-loop-round g l = record {
-  same : (l.key ≡ l.fn.key) × (l.table ≡ l.fn.table) × (l.tries ≡ l.fn.tries) × (l.make ≡ l.fn.make);
-  may : MayDo l.table l.key l.pass;
+  same : (l.key ≡ l.fn.key) × (l.steps.table.now ≡ l.fn.steps.table.now) × (l.tries ≡ l.fn.tries) × (l.make ≡ l.fn.make);
+  may : MayDo l.steps.table.now l.key l.pass;
   untouched : IsUntouched l.fn.pass l.pass;
-  reads : l.made ≡ None → ReadsValue l.fn.table l.fn.key l.was l.fn.pass l.pass;
+  reads : l.made ≡ None → ReadsValue l.fn.steps.table.now l.fn.key l.was l.fn.pass l.pass;
   makes : goal.F-post g l.fn.make l.was l.made;
   own : Owns l.fn.pass l.fn.key → present_in l.fn.pass l.fn.key ≡ l.was;
-  last : 1 ≤ l._round → l.made ≢ None → LastChangesNothing l.fn.table l.fn.key l.pass.view;
-  took : TookIn l.fn.table.plan l.fn.pass l.pass (find_steps (deepest l.fn.table.plan) + l._round * round_steps_in l.fn.table.plan);
+  last : 1 ≤ l._round → l.made ≢ None → LastChangesNothing l.fn.steps.table.now l.fn.key l.pass.view;
+  took : TookIn l.fn.steps.table.now.plan l.fn.pass l.pass (find_steps (deepest l.fn.steps.table.now.plan) + l._round * round_steps_in l.fn.steps.table.now.plan);
   counted : CountsTries l._round l.fn.pass l.pass;
   hindered : Owns l.fn.pass l.fn.key → l.pass.view.hindered ≡ l.fn.pass.view.hindered + l._round;
   milestones : Owns l.fn.pass l.fn.key
-      → milestones_known l.fn.table.plan.last_card l.fn.pass.view + l._round ≤ milestones_known l.fn.table.plan.last_card l.pass.view;
+      → milestones_known l.fn.steps.table.now.plan.last_card l.fn.pass.view + l._round ≤ milestones_known l.fn.steps.table.now.plan.last_card l.pass.view;
   tried : Owns l.fn.pass l.fn.key → 1 ≤ l._round → l.made ≢ None;
   made : l.fn.pass.view.hindered + tries_in l.fn.pass.sight.mine + l._round ≤ l.pass.view.hindered + tries_in l.pass.sight.mine;
-  cards : l.fn.table.plan.slots ≡ None → TakesAtMost l._round l.fn.pass l.pass;
-  few : l.fn.table.plan.slots ≡ None → TakesByHindered l.fn.pass l.pass;
+  cards : l.fn.steps.table.now.plan.slots ≡ None → TakesAtMost l._round l.fn.pass l.pass;
+  few : l.fn.steps.table.now.plan.slots ≡ None → TakesByHindered l.fn.pass l.pass;
 }

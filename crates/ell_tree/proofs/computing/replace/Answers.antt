@@ -9,7 +9,7 @@ use Rattle.ell_tree.proofs.computing.replace.Goals as goal
 -- the value was there, and another is in its place
 pub returns-then-eq-clause-replaces : goal.returns-then-eq-clause-replaces
 returns-then-eq-clause-replaces g c =
-    let t = c.args.table.now in
+    let t = c.args.steps.table.now in
     let key = c.args.key in
     let was = c.in-Some.was in
     let there = c.in_ok-there.there in
@@ -21,7 +21,7 @@ returns-then-eq-clause-replaces g c =
 -- another value was there, or none: the swap has changed nothing
 pub returns-else-eq-clause-replaces : goal.returns-else-eq-clause-replaces
 returns-else-eq-clause-replaces g c =
-    let t = c.args.table.now in
+    let t = c.args.steps.table.now in
     let key = c.args.key in
     let was = c.in-Some.was in
     let there = c.in_ok-there.there in

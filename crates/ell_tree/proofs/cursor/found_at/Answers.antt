@@ -10,19 +10,19 @@ use Rattle.ell_tree.proofs.cursor.found_at.Goals as goal
 pub returns-then-leaf_key-low-clause-tells : goal.returns-then-leaf_key-low-clause-tells
 returns-then-leaf_key-low-clause-tells g c =
     let k = c.look_key-leaf_key in
-    tells_none (flat_from c.args.table.now.plan) c.args.pass.now k.new.pass c.args.leaf k.result c.requires.outer k.ensures.step
+    tells_none (flat_from c.args.steps.table.now.plan) c.args.pass.now k.new.pass c.args.leaf k.result c.requires.outer k.ensures.step
     (elim c.then-leaf_key-low.either [ inl less ↦ inl less | inr h ↦ inr h.1 ])
 
 pub returns-then-leaf_key-low-clause-shallow : goal.returns-then-leaf_key-low-clause-shallow
 returns-then-leaf_key-low-clause-shallow g c =
     let k = c.look_key-leaf_key in
-    asked_shallow (deepest c.args.table.now.plan) c.args.pass.now k.new.pass c.args.leaf.node k.result k.ensures.step
+    asked_shallow (deepest c.args.steps.table.now.plan) c.args.pass.now k.new.pass c.args.leaf.node k.result k.ensures.step
     (k.ensures.shallow c.args.leaf.node)
 
 pub returns-clause-shallow : goal.returns-clause-shallow
 returns-clause-shallow g c =
     let k = c.look_key-leaf_key in
-    asked_shallow (deepest c.args.table.now.plan) c.args.pass.now k.new.pass c.args.leaf.node k.result k.ensures.step
+    asked_shallow (deepest c.args.steps.table.now.plan) c.args.pass.now k.new.pass c.args.leaf.node k.result k.ensures.step
     (k.ensures.shallow c.args.leaf.node)
 
 pub returns-then-leaf_key-low-clause-on : goal.returns-then-leaf_key-low-clause-on
@@ -39,7 +39,7 @@ pub returns-clause-tells : goal.returns-clause-tells
 returns-clause-tells g c =
     let k = c.look_key-leaf_key in
     let v = c.look_value-value in
-    tells_one (flat_from c.args.table.now.plan) c.args.pass.now k.new.pass c.args.leaf k.result c.requires.outer k.ensures.step v.new.pass v.result v.ensures.step
+    tells_one (flat_from c.args.steps.table.now.plan) c.args.pass.now k.new.pass c.args.leaf k.result c.requires.outer k.ensures.step v.new.pass v.result v.ensures.step
     (search rules) (search rules)
 
 pub returns-clause-on : goal.returns-clause-on

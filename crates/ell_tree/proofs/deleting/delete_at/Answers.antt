@@ -31,32 +31,32 @@ use Rattle.ell_tree.proofs.deleting.delete_at.Goals as goal
 pub take_card-requires-clause-wants : goal.take_card-requires-clause-wants
 take_card-requires-clause-wants g c =
     let calm : c.in-Some.above.update.state ≡ Clean = search rules in
-    delete_wants (flat_from c.args.table.now.plan) 0 c.args.pass.now.view c.args.key c.args.place c.in-Some.above c.requires.searched.ends.at (c.requires.searched.ends.outer c.requires.key) c.requires.key c.in-Some.is calm
+    delete_wants (flat_from c.args.steps.table.now.plan) 0 c.args.pass.now.view c.args.key c.args.place c.in-Some.above c.requires.searched.ends.at (c.requires.searched.ends.outer c.requires.key) c.requires.key c.in-Some.is calm
 
 pub flag_delete-requires-clause-tag : goal.flag_delete-requires-clause-tag
 flag_delete-requires-clause-tag g c =
-    (passed_above c.args.table.now.plan.last_card c.args.pass.now.view c.args.place.grandparent c.in-Some.above c.in-Some.is c.requires.searched.ends.passed_above).tag
+    (passed_above c.args.steps.table.now.plan.last_card c.args.pass.now.view c.args.place.grandparent c.in-Some.above c.in-Some.is c.requires.searched.ends.passed_above).tag
 
 pub flag_delete-requires-clause-card : goal.flag_delete-requires-clause-card
 flag_delete-requires-clause-card g c =
     let a = c.args.pass.now in (
       c.args.key,
-      delete_card a.view c.take_card.new.pass.view c.in-Card.card (new_node c.args.table.now.plan 0) c.args.key c.args.place c.in-Some.above c.in-Some.is c.requires.searched.busy
+      delete_card a.view c.take_card.new.pass.view c.in-Card.card (new_node c.args.steps.table.now.plan 0) c.args.key c.args.place c.in-Some.above c.in-Some.is c.requires.searched.busy
           c.requires.searched.ends.at c.in-Card.ensures.claims.0,
     )
 
 pub finish_own-requires-clause-grandparent : goal.finish_own-requires-clause-grandparent
 finish_own-requires-clause-grandparent g c =
     let a = c.args.pass.now in
-    let card = delete_card a.view c.take_card.new.pass.view c.in-Card.card (new_node c.args.table.now.plan 0) c.args.key c.args.place c.in-Some.above c.in-Some.is c.requires.searched.busy
+    let card = delete_card a.view c.take_card.new.pass.view c.in-Card.card (new_node c.args.steps.table.now.plan 0) c.args.key c.args.place c.in-Some.above c.in-Some.is c.requires.searched.busy
     c.requires.searched.ends.at c.in-Card.ensures.claims.0 in
     told_grandparent c.take_card.new.pass.view c.flag_delete.new.pass.view c.in-Card.card c.args.place c.flag_delete.ensures.keeps.view c.args.key c.in-Some.above card
 
 pub finish_own-requires-clause-parent : goal.finish_own-requires-clause-parent
 finish_own-requires-clause-parent g c =
     let a = c.args.pass.now in
-    let cards = c.args.table.now.plan.last_card in
-    let card = delete_card a.view c.take_card.new.pass.view c.in-Card.card (new_node c.args.table.now.plan 0) c.args.key c.args.place c.in-Some.above c.in-Some.is c.requires.searched.busy
+    let cards = c.args.steps.table.now.plan.last_card in
+    let card = delete_card a.view c.take_card.new.pass.view c.in-Card.card (new_node c.args.steps.table.now.plan 0) c.args.key c.args.place c.in-Some.above c.in-Some.is c.requires.searched.busy
     c.requires.searched.ends.at c.in-Card.ensures.claims.0 in
     told_parent c.take_card.new.pass.view c.flag_delete.new.pass.view c.in-Card.card c.args.place c.flag_delete.ensures.keeps.view c.args.key c.in-Some.above card cards
     (inner_kept cards a.view c.take_card.new.pass.view c.args.place.parent.node c.take_card.ensures.keeps.view c.requires.searched.ends.passed.seen.node)
@@ -64,7 +64,7 @@ finish_own-requires-clause-parent g c =
 pub finish_own-requires-clause-read : goal.finish_own-requires-clause-read
 finish_own-requires-clause-read g c =
     let a = c.args.pass.now in
-    let card = delete_card a.view c.take_card.new.pass.view c.in-Card.card (new_node c.args.table.now.plan 0) c.args.key c.args.place c.in-Some.above c.in-Some.is c.requires.searched.busy
+    let card = delete_card a.view c.take_card.new.pass.view c.in-Card.card (new_node c.args.steps.table.now.plan 0) c.args.key c.args.place c.in-Some.above c.in-Some.is c.requires.searched.busy
     c.requires.searched.ends.at c.in-Card.ensures.claims.0 in
     told_was c.take_card.new.pass.view c.flag_delete.new.pass.view c.in-Card.card c.args.place c.flag_delete.ensures.keeps.view c.args.key c.in-Some.above card
 
@@ -77,8 +77,8 @@ pub retire_deleted-requires-clause-parent : goal.retire_deleted-requires-clause-
 retire_deleted-requires-clause-parent g c =
     let a = c.args.pass.now in
     let t = c.take_card.new.pass in
-    let cards = c.args.table.now.plan.last_card in
-    let card = delete_card a.view t.view c.in-Card.card (new_node c.args.table.now.plan 0) c.args.key c.args.place c.in-Some.above c.in-Some.is c.requires.searched.busy
+    let cards = c.args.steps.table.now.plan.last_card in
+    let card = delete_card a.view t.view c.in-Card.card (new_node c.args.steps.table.now.plan 0) c.args.key c.args.place c.in-Some.above c.in-Some.is c.requires.searched.busy
     c.requires.searched.ends.at c.in-Card.ensures.claims.0 in
     let parent = told_parent t.view c.flag_delete.new.pass.view c.in-Card.card c.args.place c.flag_delete.ensures.keeps.view c.args.key c.in-Some.above card cards
     (inner_kept cards a.view t.view c.args.place.parent.node c.take_card.ensures.keeps.view c.requires.searched.ends.passed.seen.node) in
@@ -88,7 +88,7 @@ pub retire_deleted-requires-clause-leaf : goal.retire_deleted-requires-clause-le
 retire_deleted-requires-clause-leaf g c =
     let a = c.args.pass.now in
     let t = c.take_card.new.pass in
-    let card = delete_card a.view t.view c.in-Card.card (new_node c.args.table.now.plan 0) c.args.key c.args.place c.in-Some.above c.in-Some.is c.requires.searched.busy
+    let card = delete_card a.view t.view c.in-Card.card (new_node c.args.steps.table.now.plan 0) c.args.key c.args.place c.in-Some.above c.in-Some.is c.requires.searched.busy
     c.requires.searched.ends.at c.in-Card.ensures.claims.0 in
     c.finish_own.ensures.keeps_but_met.keeps.view.told _
     (told_leaf t.view c.flag_delete.new.pass.view c.in-Card.card c.args.place c.flag_delete.ensures.keeps.view c.args.key c.in-Some.above card)
@@ -107,10 +107,10 @@ answer-requires-clause-noted g c =
     let m = c.retire_deleted.new.pass in
     let card = c.in-Card.card in
     let same = c.retire_deleted.ensures.same in
-    let steps = help_steps (deepest c.args.table.now.plan) + 2 in
+    let steps = help_steps (deepest c.args.steps.table.now.plan) + 2 in
     let met : KeepsAllButMet f m steps = keeps_but_met_noted f c.finish_own.new.pass m steps c.finish_own.ensures.keeps_but_met same in
     let over = subst (λ (v : View). Knows v (DOver card)) (sym (ap (λ (p : PassModel). p.view) same)) (search rules) in
-    lets_flagged_go c.args.table.now.plan m card (met.card ∙ c.in_default-flag_delete.ensures.flags.card)
+    lets_flagged_go c.args.steps.table.now.plan m card (met.card ∙ c.in_default-flag_delete.ensures.flags.card)
     (met.flagged ∙ c.in_default-flag_delete.ensures.flags.flagged)
     (λ some. met.keeps.slot ∙ (c.flag_delete.ensures.keeps.slot ∙ c.in-Card.ensures.claims.4 some))
     (λ s is. cut over (c.retire_deleted.ensures.cut s is) (c.retire_deleted.ensures.own s is))
@@ -125,7 +125,7 @@ answer-requires-clause-may g c =
     let place = c.args.place in
     let card = c.in-Card.card in
     let leaf = told_leaf t.view f.view card place c.flag_delete.ensures.keeps.view c.args.key c.in-Some.above
-    (delete_card a.view t.view card (new_node c.args.table.now.plan 0) c.args.key place c.in-Some.above c.in-Some.is c.requires.searched.busy ends.at c.in-Card.ensures.claims.0) in
+    (delete_card a.view t.view card (new_node c.args.steps.table.now.plan 0) c.args.key place c.in-Some.above c.in-Some.is c.requires.searched.busy ends.at c.in-Card.ensures.claims.0) in
     let value = c.flag_delete.ensures.keeps.view.told _ (c.take_card.ensures.keeps.view.told _ (ends.at.leaf (ends.outer c.requires.key))) in
     let on = c.finish_own.ensures.keeps_but_met.keeps.view.told in
     let takes : TakesBy c.finish_own.new.pass.view (Delete c.args.key) Yes place.value = record {
@@ -146,7 +146,7 @@ pub returns-then-ne-clause-ends : goal.returns-then-ne-clause-ends
 returns-then-ne-clause-ends g c =
     let a = c.args.pass.now in
     let ends = c.requires.searched.ends in
-    let cards = c.args.table.now.plan.last_card in
+    let cards = c.args.steps.table.now.plan.last_card in
     let place = c.args.place in
     let above = c.in-Some.above in
     let new = c.help.new.pass in
@@ -165,16 +165,16 @@ returns-then-ne-clause-ends g c =
         ledger = search rules;
         share = met.keeps.view.share;
         meets = meets;
-        in_try = met.keeps.view.earlier a.view.hindrances (searched_in_try c.args.table.now.plan (Delete c.args.key) place a.view c.requires.searched);
+        in_try = met.keeps.view.earlier a.view.hindrances (searched_in_try c.args.steps.table.now.plan (Delete c.args.key) place a.view c.requires.searched);
         way = way.0;
-        would = would_delete c.args.table.now.plan a a refl place c.args.key ends c.requires.key;
+        would = would_delete c.args.steps.table.now.plan a a refl place c.args.key ends c.requires.key;
         stops = search rules;
       },
       omega (arith, way.1, more),
       sees_end cards a.view a.view new.view above.update.state above.update.card refl
           (unknown_above a.view place.grandparent above c.in-Some.is ends.unknown_above)
           (named_above cards a.view place.grandparent above c.in-Some.is ends.passed_above) stands c.help.ensures.ended met.keeps.view.least,
-      lets_none_go c.args.table.now.plan new (met.card ∙ c.requires.searched.no_card),
+      lets_none_go c.args.steps.table.now.plan new (met.card ∙ c.requires.searched.no_card),
     )
 
 -- or at the parent
@@ -182,7 +182,7 @@ pub returns-then-ne-2-clause-ends : goal.returns-then-ne-2-clause-ends
 returns-then-ne-2-clause-ends g c =
     let a = c.args.pass.now in
     let ends = c.requires.searched.ends in
-    let cards = c.args.table.now.plan.last_card in
+    let cards = c.args.steps.table.now.plan.last_card in
     let place = c.args.place in
     let above = c.in-Some.above in
     let update = place.parent.update in
@@ -204,14 +204,14 @@ returns-then-ne-2-clause-ends g c =
         ledger = search rules;
         share = met.keeps.view.share;
         meets = meets;
-        in_try = met.keeps.view.earlier a.view.hindrances (searched_in_try c.args.table.now.plan (Delete c.args.key) place a.view c.requires.searched);
+        in_try = met.keeps.view.earlier a.view.hindrances (searched_in_try c.args.steps.table.now.plan (Delete c.args.key) place a.view c.requires.searched);
         way = way.0;
-        would = would_delete c.args.table.now.plan a a refl place c.args.key ends c.requires.key;
+        would = would_delete c.args.steps.table.now.plan a a refl place c.args.key ends c.requires.key;
         stops = search rules;
       },
       omega (arith, way.1, more),
       sees_end cards a.view a.view new.view update.state update.card refl ends.unknown ends.passed.seen.named stands help.ensures.ended met.keeps.view.least,
-      lets_none_go c.args.table.now.plan new (met.card ∙ c.requires.searched.no_card),
+      lets_none_go c.args.steps.table.now.plan new (met.card ∙ c.requires.searched.no_card),
     )
 
 -- no card was left
@@ -219,7 +219,7 @@ pub returns-in-NoneLeft-clause-ends : goal.returns-in-NoneLeft-clause-ends
 returns-in-NoneLeft-clause-ends g c =
     let a = c.args.pass.now in
     let ends = c.requires.searched.ends in
-    let cards = c.args.table.now.plan.last_card in
+    let cards = c.args.steps.table.now.plan.last_card in
     let place = c.args.place in
     let above = c.in-Some.above in
     let update = place.parent.update in
@@ -236,10 +236,10 @@ returns-in-NoneLeft-clause-ends g c =
         sight = search rules;
         ledger = search rules;
         share = c.take_card.ensures.keeps.view.share;
-        meets = keeps_in_meets c.args.table.now.plan a new _ c.in-NoneLeft.ensures.keeps claims.2;
-        in_try = c.take_card.ensures.keeps.view.earlier a.view.hindrances (searched_in_try c.args.table.now.plan (Delete c.args.key) place a.view c.requires.searched);
+        meets = keeps_in_meets c.args.steps.table.now.plan a new _ c.in-NoneLeft.ensures.keeps claims.2;
+        in_try = c.take_card.ensures.keeps.view.earlier a.view.hindrances (searched_in_try c.args.steps.table.now.plan (Delete c.args.key) place a.view c.requires.searched);
         way = way;
-        would = would_delete c.args.table.now.plan a a refl place c.args.key ends c.requires.key;
+        would = would_delete c.args.steps.table.now.plan a a refl place c.args.key ends c.requires.key;
         stops = search rules;
       },
       claims.1,
@@ -251,7 +251,7 @@ pub returns-in-Lost-clause-ends : goal.returns-in-Lost-clause-ends
 returns-in-Lost-clause-ends g c =
     let a = c.args.pass.now in
     let ends = c.requires.searched.ends in
-    let cards = c.args.table.now.plan.last_card in
+    let cards = c.args.steps.table.now.plan.last_card in
     let place = c.args.place in
     let above = c.in-Some.above in
     let update = place.parent.update in
@@ -269,9 +269,9 @@ returns-in-Lost-clause-ends g c =
         ledger = search rules;
         share = c.take_card.ensures.keeps.view.share;
         meets = claims.1;
-        in_try = c.take_card.ensures.keeps.view.earlier a.view.hindrances (searched_in_try c.args.table.now.plan (Delete c.args.key) place a.view c.requires.searched);
+        in_try = c.take_card.ensures.keeps.view.earlier a.view.hindrances (searched_in_try c.args.steps.table.now.plan (Delete c.args.key) place a.view c.requires.searched);
         way = way;
-        would = would_delete c.args.table.now.plan a a refl place c.args.key ends c.requires.key;
+        would = would_delete c.args.steps.table.now.plan a a refl place c.args.key ends c.requires.key;
         stops = search rules;
       },
       omega (arith, claims.2),
@@ -284,19 +284,19 @@ pub returns-in-Err-clause-ends : goal.returns-in-Err-clause-ends
 returns-in-Err-clause-ends g c =
     let a = c.args.pass.now in
     let ends = c.requires.searched.ends in
-    let cards = c.args.table.now.plan.last_card in
+    let cards = c.args.steps.table.now.plan.last_card in
     let t = c.take_card.new.pass in
     let f = c.flag_delete.new.pass in
     let help = c.help-in-Err in
     let new = help.new.pass in
     let flags = c.in-Err.ensures.flags in
-    let taken = keeps_in_meets c.args.table.now.plan a t _ c.take_card.ensures.keeps c.in-Card.ensures.claims.2 in
+    let taken = keeps_in_meets c.args.steps.table.now.plan a t _ c.take_card.ensures.keeps c.in-Card.ensures.claims.2 in
     let lost = flag_lost cards c.in-Some.above.node c.in-Err.found t.view f.view new.view flags c.flag_delete.ensures.keeps.view.knows
     help.ensures.meets help.ensures.ended in
     let way = no_way new.view (way_of (Delete c.args.key) new.view)
     (nowhere_way (Delete c.args.key) new.view (ap (λ (r : Search). r.node) help.ensures.keeps_but_met.search ∙ flags.nowhere)) in
     let in_try = help.ensures.keeps_but_met.keeps.view.earlier a.view.hindrances (c.flag_delete.ensures.keeps.view.earlier a.view.hindrances
-    (c.take_card.ensures.keeps.view.earlier a.view.hindrances (searched_in_try c.args.table.now.plan (Delete c.args.key) c.args.place a.view c.requires.searched))) in
+    (c.take_card.ensures.keeps.view.earlier a.view.hindrances (searched_in_try c.args.steps.table.now.plan (Delete c.args.key) c.args.place a.view c.requires.searched))) in
     let more = meets_more a.view t.view taken in (
       record {
         table = search rules;
@@ -308,13 +308,13 @@ returns-in-Err-clause-ends g c =
         meets = meets_trans a.view t.view new.view taken lost.0;
         in_try = in_try;
         way = way;
-        would = would_delete c.args.table.now.plan a a refl c.args.place c.args.key ends c.requires.key;
+        would = would_delete c.args.steps.table.now.plan a a refl c.args.place c.args.key ends c.requires.key;
         stops = search rules;
       },
       omega (arith, lost.1, more),
       gives_out cards a.view a.view t.view new.view (omega arith) c.in-Card.ensures.claims.3
           (omega (arith, c.flag_delete.ensures.keeps.view.least, help.ensures.keeps_but_met.keeps.view.least)),
-      lets_none_go c.args.table.now.plan new (help.ensures.keeps_but_met.card ∙ flags.no_card),
+      lets_none_go c.args.steps.table.now.plan new (help.ensures.keeps_but_met.card ∙ flags.no_card),
     )
 
 -- the key was taken away
@@ -324,17 +324,17 @@ returns-clause-ends g c =
     let t = c.take_card.new.pass in
     let f = c.flag_delete.new.pass in
     let m = c.retire_deleted.new.pass in
-    let met : KeepsAllButMet f m (help_steps (deepest c.args.table.now.plan) + 2) = keeps_but_met_noted f c.finish_own.new.pass m (help_steps (deepest c.args.table.now.plan) + 2) c.finish_own.ensures.keeps_but_met c.retire_deleted.ensures.same in
+    let met : KeepsAllButMet f m (help_steps (deepest c.args.steps.table.now.plan) + 2) = keeps_but_met_noted f c.finish_own.new.pass m (help_steps (deepest c.args.steps.table.now.plan) + 2) c.finish_own.ensures.keeps_but_met c.retire_deleted.ensures.same in
     let said = c.answer in
     let op = Delete c.args.key in
-    let taken = keeps_in_meets c.args.table.now.plan a t _ c.take_card.ensures.keeps c.in-Card.ensures.claims.2 in
+    let taken = keeps_in_meets c.args.steps.table.now.plan a t _ c.take_card.ensures.keeps c.in-Card.ensures.claims.2 in
     let flagged = meets_trans a.view t.view f.view taken (keeps_meets t f _ c.flag_delete.ensures.keeps c.in_default-flag_delete.ensures.flags.hindrances) in
     let meets : Meets f.view m.view = rw c.retire_deleted.ensures.same c.finish_own.ensures.meets in
     let finished = meets_trans a.view f.view m.view flagged meets in
     let answers = said.ensures.answers op (search rules) in (
-      keeps_in_answers c.args.table.now op _ a t said.new.pass _ c.take_card.ensures.keeps
-          (keeps_answers c.args.table.now op _ t f said.new.pass _ c.flag_delete.ensures.keeps
-          (keeps_answers c.args.table.now op _ f m said.new.pass _ met.keeps answers)),
+      keeps_in_answers c.args.steps.table.now op _ a t said.new.pass _ c.take_card.ensures.keeps
+          (keeps_answers c.args.steps.table.now op _ t f said.new.pass _ c.flag_delete.ensures.keeps
+          (keeps_answers c.args.steps.table.now op _ f m said.new.pass _ met.keeps answers)),
       meets_trans a.view m.view said.new.pass.view finished (said_meets m.view said.new.pass.view said.ensures.hindrances said.ensures.facts),
       said.ensures.room,
     )
@@ -347,7 +347,7 @@ returns-clause-took g c =
     let t = c.take_card.new.pass in
     let f = c.flag_delete.new.pass in
     let m = c.retire_deleted.new.pass in
-    let met : KeepsAllButMet f m (help_steps (deepest c.args.table.now.plan) + 2) = keeps_but_met_noted f c.finish_own.new.pass m (help_steps (deepest c.args.table.now.plan) + 2) c.finish_own.ensures.keeps_but_met c.retire_deleted.ensures.same in
+    let met : KeepsAllButMet f m (help_steps (deepest c.args.steps.table.now.plan) + 2) = keeps_but_met_noted f c.finish_own.new.pass m (help_steps (deepest c.args.steps.table.now.plan) + 2) c.finish_own.ensures.keeps_but_met c.retire_deleted.ensures.same in
     let said = c.answer in
     let new = said.new.pass in
     let place = c.args.place in
@@ -358,8 +358,8 @@ returns-clause-took g c =
     let said_so : new.view.answered ≡ Some (record { op = op; said = Yes; card = Some card; took = Some place.value }) =
     said.ensures.last ∙ (ap (λ o. answered_so o m.view.worker.card Yes (Some place.value)) busy ∙ ap (λ o. answered_so (Some op) o Yes (Some place.value)) hand) in (
       record {
-        mine = had_value c.args.table.now.plan a a refl place c.args.key ends c.requires.key;
-        took = deletes_take_what_they_tell c.args.table.now.plan new.view c.args.key (Some card) place.value said_so;
+        mine = had_value c.args.steps.table.now.plan a a refl place c.args.key ends c.requires.key;
+        took = deletes_take_what_they_tell c.args.steps.table.now.plan new.view c.args.key (Some card) place.value said_so;
       },
       ends_from op Yes (Some place.value) a.sight m.sight new.sight (met.keeps.sight ∙ (c.flag_delete.ensures.keeps.sight ∙ c.take_card.ensures.keeps.sight)) (said.ensures.ended op busy),
     )

@@ -33,10 +33,10 @@ returns g c =
     let was = c.pack-was.result in
     let card = c.requires.card.1 in
     let short = c.facts_stay_inside.ensures.short in
-    let s1 = stores_more a a c.fill.new.pass _ 0 field.Gp above.node (stores_none a card.empty) c.fill.ensures in
-    let s2 = stores_more a c.fill.new.pass c.fill-2.new.pass _ 1 field.P place.parent.node s1 c.fill-2.ensures in
-    let s3 = stores_more a c.fill-2.new.pass c.fill-3.new.pass _ 2 field.L word s2 c.fill-3.ensures in
-    let s4 = stores_more a c.fill-3.new.pass c.fill-4.new.pass _ 3 field.Was was s3 c.fill-4.ensures in
+    let s1 = stores_more a a c.fill.new.pass _ 0 field.Gp above.node (stores_none a card.empty) c.fill.ensures.step in
+    let s2 = stores_more a c.fill.new.pass c.fill-2.new.pass _ 1 field.P place.parent.node s1 c.fill-2.ensures.step in
+    let s3 = stores_more a c.fill-2.new.pass c.fill-3.new.pass _ 2 field.L word s2 c.fill-3.ensures.step in
+    let s4 = stores_more a c.fill-3.new.pass c.fill-4.new.pass _ 3 field.Was was s3 c.fill-4.ensures.step in
     record {
       fills = fills_delete a c.fill-4.new.pass above.node place.parent.node word was s4 place.node above.tag
           (packed place.parent.update) (above_low place above a.view c.requires.above card.above short) (parent_low place a.view card.behind short)

@@ -16,5 +16,5 @@ returns g c =
       keeps = flag_goes exchange.DFlag DFlagged c.args.card above.node above.update c.args.pass.now f.new.pass c.dflag.new.pass _ c.dflag.result f.ensures.fills c.dflag.ensures.step;
       taken = flag_takes exchange.DFlag DFlagged c.args.card above.node above.update c.args.pass.now f.new.pass c.dflag.new.pass _ c.dflag.result f.ensures.fills c.dflag.ensures.step refl;
       flags = flag_ends exchange.DFlag DFlagged c.args.card above.node above.update c.args.pass.now f.new.pass c.dflag.new.pass _ c.dflag.result f.ensures.fills c.dflag.ensures.step
-          c.args.table.now.plan.last_card c.requires.card.1.may.holds c.requires.node c.dflag.ensures.card;
+          c.args.steps.table.now.plan.last_card c.requires.card.1.may.holds c.requires.node c.dflag.ensures.card;
     }

@@ -60,10 +60,10 @@ pub returns : goal.returns
 returns g c =
     let i = c.loop-next.invariant in
     let new = c.help_one_delete.new.pass in
-    let last = last_ends c.args.table.now.plan c.loop-next.flag c.loop-next.pass new c.help_one_delete.result c.help_one_delete.ensures c.in_default.not-Behind in
+    let last = last_ends c.args.steps.table.now.plan c.loop-next.flag c.loop-next.pass new c.help_one_delete.result c.help_one_delete.ensures c.in_default.not-Behind in
     record {
       keeps_but_met = keeps_but_met_trans c.args.pass.now c.loop-next.pass new (4 * (depth_of c.loop-next.pass.view c.loop-next.flag.grandparent - depth_of c.args.pass.now.view c.args.flag.grandparent)) 12
-          (chain_steps (deepest c.args.table.now.plan) (depth_of c.args.pass.now.view c.args.flag.grandparent)) i.keeps_but_met last.0 (omega (arith, i.down, last.2));
+          (chain_steps (deepest c.args.steps.table.now.plan) (depth_of c.args.pass.now.view c.args.flag.grandparent)) i.keeps_but_met last.0 (omega (arith, i.down, last.2));
       meets = up_to_end c.loop-next.flag.card c.args.pass.now.view c.loop-next.pass.view new.view i.meets last.1 last.3;
       ended = still_ended c.args.flag c.loop-next.flag c.loop-next.pass new 12 last.0 i.ended last.3;
     }

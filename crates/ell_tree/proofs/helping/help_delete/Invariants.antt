@@ -8,8 +8,8 @@ use Rattle.ell_cards.specs.Depths.{depth_of, deepest}
 -- the steps so far are four for each internal node that the chain went down; the first delete has ended once another is at hand
 abbrev pub invariant-loop-next : goal.invariant-loop-next
 invariant-loop-next g l = record {
-  same : l.table ≡ l.fn.table;
-  flag : IsFlag l.table.plan.last_card l.pass.view l.flag;
+  same : l.steps.table.now ≡ l.fn.steps.table.now;
+  flag : IsFlag l.steps.table.now.plan.last_card l.pass.view l.flag;
   down : depth_of l.fn.pass.view l.fn.flag.grandparent ≤ depth_of l.pass.view l.flag.grandparent;
   ended : (l.flag ≡ l.fn.flag) ⊎ IsDeleteEnded l.pass.view l.fn.flag.card;
   meets : MeetsUpTo l.flag.card l.fn.pass.view l.pass.view;
@@ -17,4 +17,4 @@ invariant-loop-next g l = record {
 }
 
 abbrev pub decreases-loop-next : goal.decreases-loop-next
-decreases-loop-next g l = deepest l.table.plan - depth_of l.pass.view l.flag.grandparent
+decreases-loop-next g l = deepest l.steps.table.now.plan - depth_of l.pass.view l.flag.grandparent

@@ -44,7 +44,7 @@ help_ends plan flag p a b d (Behind next) reads quiet still low deeper h = (
 
 pub returns : goal.returns
 returns g c =
-    let plan = c.args.table.now.plan in
+    let plan = c.args.steps.table.now.plan in
     let flag = c.args.flag in
     let first = c.read_info-parent in
     let second = c.read_info-was in

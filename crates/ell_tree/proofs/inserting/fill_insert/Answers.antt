@@ -40,19 +40,19 @@ returns g c =
     let update = c.update_word-clean.result in
     let word = c.word-below.result in
     let values = c.if-key-place.left_value in
-    let s1 = stores_more a a c.fill.new.pass _ 0 field.P place.parent.node (stores_none a c.requires.card.card.empty) c.fill.ensures in
-    let s2 = stores_more a c.fill.new.pass c.fill-2.new.pass _ 1 field.L word s1 c.fill-2.ensures in
-    let s3 = stores_more a c.fill-2.new.pass c.fill-3.new.pass _ 2 field.Key c.args.node_key s2 c.fill-3.ensures in
-    let s4 = stores_more a c.fill-3.new.pass c.fill-4.new.pass _ 3 field.Left left s3 c.fill-4.ensures in
-    let s5 = stores_more a c.fill-4.new.pass c.fill-5.new.pass _ 4 field.Right right s4 c.fill-5.ensures in
-    let s6 = stores_more a c.fill-5.new.pass c.fill-6.new.pass _ 5 field.Update update s5 c.fill-6.ensures in
-    let s7 = stores_more a c.fill-6.new.pass c.fill-7.new.pass _ 6 field.LeftLeafKey lesser s6 c.fill-7.ensures in
-    let s8 = stores_more a c.fill-7.new.pass c.fill-8.new.pass _ 7 field.RightLeafKey greater s7 c.fill-8.ensures in
-    let s9 = stores_more a c.fill-8.new.pass c.fill-9.new.pass _ 8 field.LeftValue values.0 s8 c.fill-9.ensures in
-    let s10 = stores_more a c.fill-9.new.pass c.fill-10.new.pass _ 9 field.RightValue values.1 s9 c.fill-10.ensures in
+    let s1 = stores_more a a c.fill.new.pass _ 0 field.P place.parent.node (stores_none a c.requires.card.card.empty) c.fill.ensures.step in
+    let s2 = stores_more a c.fill.new.pass c.fill-2.new.pass _ 1 field.L word s1 c.fill-2.ensures.step in
+    let s3 = stores_more a c.fill-2.new.pass c.fill-3.new.pass _ 2 field.Key c.args.node_key s2 c.fill-3.ensures.step in
+    let s4 = stores_more a c.fill-3.new.pass c.fill-4.new.pass _ 3 field.Left left s3 c.fill-4.ensures.step in
+    let s5 = stores_more a c.fill-4.new.pass c.fill-5.new.pass _ 4 field.Right right s4 c.fill-5.ensures.step in
+    let s6 = stores_more a c.fill-5.new.pass c.fill-6.new.pass _ 5 field.Update update s5 c.fill-6.ensures.step in
+    let s7 = stores_more a c.fill-6.new.pass c.fill-7.new.pass _ 6 field.LeftLeafKey lesser s6 c.fill-7.ensures.step in
+    let s8 = stores_more a c.fill-7.new.pass c.fill-8.new.pass _ 7 field.RightLeafKey greater s7 c.fill-8.ensures.step in
+    let s9 = stores_more a c.fill-8.new.pass c.fill-9.new.pass _ 8 field.LeftValue values.0 s8 c.fill-9.ensures.step in
+    let s10 = stores_more a c.fill-9.new.pass c.fill-10.new.pass _ 9 field.RightValue values.1 s9 c.fill-10.ensures.step in
     record {
       fills = fills_insert a c.fill-10.new.pass place.parent.node word c.args.node_key lesser greater left right update values.0 values.1 s10
-          (nat_lt 0 (flat_from c.args.table.now.plan)) c.args.card c.args.what.key c.args.what.value place.node place.parent.tag place.key place.value (parent_low place a.view card.behind short)
+          (nat_lt 0 (flat_from c.args.steps.table.now.plan)) c.args.card c.args.what.key c.args.what.value place.node place.parent.tag place.key place.value (parent_low place a.view card.behind short)
           (place_link place place.parent.tag a.view card.stands c.requires.tag short) card.says
           (c.word-below.ensures ∙ ap linked c.node_with.ensures) c.min-lesser.ensures c.max-greater.ensures
           (c.child_word.ensures ∙ ap bare (c.card_children-left.ensures.left ∙ ap (λ b. left_of_card b c.args.card c.args.what.key place.node place.key) flat))
@@ -62,8 +62,8 @@ returns g c =
           c.args.card (c.requires.slot some);
     }
   where
-    flat : c.is_flat.result ≡ nat_lt 0 (flat_from c.args.table.now.plan)
-    flat = as_told c.is_flat.result (flat_from c.args.table.now.plan) c.is_flat.ensures
+    flat : c.is_flat.result ≡ nat_lt 0 (flat_from c.args.steps.table.now.plan)
+    flat = as_told c.is_flat.result (flat_from c.args.steps.table.now.plan) c.is_flat.ensures
 
     sides : (c.if-key-place.left_value.0 ≡ (if nat_lt c.args.what.key c.args.place.key then c.args.what.value else c.args.place.value))
         × (c.if-key-place.left_value.1 ≡ (if nat_lt c.args.what.key c.args.place.key then c.args.place.value else c.args.what.value))

@@ -6,7 +6,7 @@ use Rattle.ell_tree.proofs.inserting.flag_insert.Goals as goal
 use Rattle.ell_cards.specs.Models.{new_node}
 
 pub iflag-requires-clause-may : goal.iflag-requires-clause-may
-iflag-requires-clause-may g c = may_iflag c.args.pass.now c.fill_insert.new.pass _ c.args.card (new_node c.args.table.now.plan c.args.node_key) c.args.what c.args.place c.requires.card c.fill_insert.ensures.fills
+iflag-requires-clause-may g c = may_iflag c.args.pass.now c.fill_insert.new.pass _ c.args.card (new_node c.args.steps.table.now.plan c.args.node_key) c.args.what c.args.place c.requires.card c.fill_insert.ensures.fills
 
 pub returns : goal.returns
 returns g c =
@@ -16,5 +16,5 @@ returns g c =
       keeps = flag_goes exchange.IFlag IFlagged c.args.card parent.node parent.update c.args.pass.now f.new.pass c.iflag.new.pass _ c.iflag.result f.ensures.fills c.iflag.ensures.step;
       taken = flag_takes exchange.IFlag IFlagged c.args.card parent.node parent.update c.args.pass.now f.new.pass c.iflag.new.pass _ c.iflag.result f.ensures.fills c.iflag.ensures.step refl;
       flags = flag_ends exchange.IFlag IFlagged c.args.card parent.node parent.update c.args.pass.now f.new.pass c.iflag.new.pass _ c.iflag.result f.ensures.fills c.iflag.ensures.step
-          c.args.table.now.plan.last_card c.requires.card.card.may.holds c.requires.node c.iflag.ensures.card;
+          c.args.steps.table.now.plan.last_card c.requires.card.card.may.holds c.requires.node c.iflag.ensures.card;
     }

@@ -30,7 +30,7 @@ use Rattle.ell_tree.proofs.inserting.try_put.Goals as goal
 pub take_card-requires-clause-wants : goal.take_card-requires-clause-wants
 take_card-requires-clause-wants g c =
     let s = c.search-place in
-    put_wants s.result c.args.table.now.plan c.args.op c.args.what c.requires.puts c.node_key-node_key.result s.new.pass.view s.ensures.ends (search rules) c.node_key-node_key.ensures
+    put_wants s.result c.args.steps.table.now.plan c.args.op c.args.what c.requires.puts c.node_key-node_key.result s.new.pass.view s.ensures.ends (search rules) c.node_key-node_key.ensures
 
 pub answer-requires-clause-may : goal.answer-requires-clause-may
 answer-requires-clause-may g c =
@@ -38,14 +38,14 @@ answer-requires-clause-may g c =
     let refused = put_refused s.result c.args.op c.args.what c.requires.puts
     (λ takes. false≢true (sym c.if-not-may_replace.true ∙ c.may_replace.ensures.1 takes)) in
     may_answer s.new.pass.view c.args.op s.result c.found.result (s.ensures.keeps_but_search.keeps.view.operation ∙ c.requires.root.busy)
-    (refused_outer s.result c.args.table.now.plan c.args.op c.args.what c.requires.puts s.new.pass.view s.ensures.ends
+    (refused_outer s.result c.args.steps.table.now.plan c.args.op c.args.what c.requires.puts s.new.pass.view s.ensures.ends
     (λ takes. false≢true (sym c.if-not-may_replace.true ∙ c.may_replace.ensures.1 takes))) s.ensures.ends.at
     (refused.says ∙ ap Some (sym (c.found.ensures ∙ ap found c.told_of_put-found.ensures)))
 
 -- no card is in hand yet
 pub answer-requires-clause-noted : goal.answer-requires-clause-noted
 answer-requires-clause-noted g c =
-    lets_none_go c.args.table.now.plan c.search-place.new.pass (c.search-place.ensures.keeps_but_search.card ∙ c.requires.root.no_card)
+    lets_none_go c.args.steps.table.now.plan c.search-place.new.pass (c.search-place.ensures.keeps_but_search.card ∙ c.requires.root.no_card)
 
 pub flag_insert-requires-clause-tag : goal.flag_insert-requires-clause-tag
 flag_insert-requires-clause-tag g c = c.search-place.ensures.ends.passed.tag
@@ -55,7 +55,7 @@ flag_insert-requires-clause-card g c =
     let s = c.search-place in record {
       op = c.args.op;
       puts = c.requires.puts;
-      card = put_card s.new.pass.view c.take_card.new.pass.view c.in-Card.card (new_node c.args.table.now.plan c.node_key-node_key.result) c.args.op c.args.what s.result c.requires.puts
+      card = put_card s.new.pass.view c.take_card.new.pass.view c.in-Card.card (new_node c.args.steps.table.now.plan c.node_key-node_key.result) c.args.op c.args.what s.result c.requires.puts
           (s.ensures.keeps_but_search.keeps.view.operation ∙ c.requires.root.busy) s.ensures.ends.at c.in-Card.ensures.claims.0;
     }
 
@@ -64,12 +64,12 @@ finish_insert-requires-clause-insert g c =
     let s = c.search-place in
     let place = s.result in
     let ends = s.ensures.ends in
-    let card = put_card s.new.pass.view c.take_card.new.pass.view c.in-Card.card (new_node c.args.table.now.plan c.node_key-node_key.result) c.args.op c.args.what place c.requires.puts
+    let card = put_card s.new.pass.view c.take_card.new.pass.view c.in-Card.card (new_node c.args.steps.table.now.plan c.node_key-node_key.result) c.args.op c.args.what place c.requires.puts
     (s.ensures.keeps_but_search.keeps.view.operation ∙ c.requires.root.busy) ends.at c.in-Card.ensures.claims.0 in
     rw c.max-right_key.ensures
     rw c.min-left_key.ensures
     rw c.node_with-below.ensures
-    (is_insert c.take_card.new.pass.view c.flag_insert.new.pass.view c.in-Card.card place c.flag_insert.ensures.keeps.view (new_node c.args.table.now.plan c.node_key-node_key.result) c.args.op c.args.what card
+    (is_insert c.take_card.new.pass.view c.flag_insert.new.pass.view c.in-Card.card place c.flag_insert.ensures.keeps.view (new_node c.args.steps.table.now.plan c.node_key-node_key.result) c.args.op c.args.what card
     c.in-Ok.ensures.flags.knows (c.take_card.ensures.keeps.view.told (Met place.parent.node) ends.passed.seen.node.met))
 
 -- what its card told is known once it is over
@@ -84,9 +84,9 @@ retire_put-requires-clause-put g c =
     let kept = c.finish_insert.ensures.keeps_all in
     let busy = s.ensures.keeps_but_search.keeps.view.operation ∙ c.requires.root.busy in
     let key = put_key c.args.op c.args.what c.requires.puts in
-    let card = put_card s.new.pass.view t.view c.in-Card.card (new_node c.args.table.now.plan c.node_key-node_key.result) c.args.op c.args.what place c.requires.puts busy ends.at
+    let card = put_card s.new.pass.view t.view c.in-Card.card (new_node c.args.steps.table.now.plan c.node_key-node_key.result) c.args.op c.args.what place c.requires.puts busy ends.at
     c.in-Card.ensures.claims.0 in
-    let insert = is_insert t.view f.view c.in-Card.card place c.flag_insert.ensures.keeps.view (new_node c.args.table.now.plan c.node_key-node_key.result) c.args.op c.args.what card
+    let insert = is_insert t.view f.view c.in-Card.card place c.flag_insert.ensures.keeps.view (new_node c.args.steps.table.now.plan c.node_key-node_key.result) c.args.op c.args.what card
     c.in-Ok.ensures.flags.knows (c.take_card.ensures.keeps.view.told (Met place.parent.node) ends.passed.seen.node.met) in
     has_put f.view m.view c.in-Card.card c.args.op c.args.what place c.requires.puts kept.keeps.view
     (c.flag_insert.ensures.keeps.view.operation ∙ (c.take_card.ensures.keeps.view.operation ∙ busy)) (kept.card ∙ c.in-Ok.ensures.flags.card)
@@ -107,7 +107,7 @@ answer-requires-in-Ok-clause-noted g c =
     let same = c.retire_put.ensures.same in
     let kept : KeepsAll f m 3 = keeps_all_noted f c.finish_insert.new.pass m 3 c.finish_insert.ensures.keeps_all same in
     let over = subst (λ (v : View). Knows v (IOver card)) (sym (ap (λ (p : PassModel). p.view) same)) c.finish_insert.ensures.over in
-    lets_flagged_go c.args.table.now.plan m card (kept.card ∙ c.in-Ok.ensures.flags.card) (kept.flagged ∙ c.in-Ok.ensures.flags.flagged)
+    lets_flagged_go c.args.steps.table.now.plan m card (kept.card ∙ c.in-Ok.ensures.flags.card) (kept.flagged ∙ c.in-Ok.ensures.flags.flagged)
     (λ some. kept.keeps.slot ∙ (c.flag_insert.ensures.keeps.slot ∙ c.in-Card.ensures.claims.4 some))
     (λ s is. put over (c.retire_put.ensures.retired s is))
 
@@ -122,8 +122,8 @@ returns-then-not-may_replace-clause-ends g c =
     let reply : c.found.result ≡ reply_by c.args.op c.told_of_put-found.result =
     c.found.ensures ∙ (ap found c.told_of_put-found.ensures ∙ (refused.reply ∙ ap (reply_by c.args.op) (sym c.told_of_put-found.ensures))) in
     let answers = said.ensures.answers c.args.op (s.ensures.keeps_but_search.keeps.view.operation ∙ c.requires.root.busy) in (
-      subst (λ r. AnswersAs SeesEnd c.args.table.now c.args.op r a said.new.pass) reply
-          (keeps_answers c.args.table.now c.args.op _ a s.new.pass said.new.pass _ s.ensures.keeps_but_search.keeps answers),
+      subst (λ r. AnswersAs SeesEnd c.args.steps.table.now c.args.op r a said.new.pass) reply
+          (keeps_answers c.args.steps.table.now c.args.op _ a s.new.pass said.new.pass _ s.ensures.keeps_but_search.keeps answers),
       meets_trans a.view s.new.pass.view said.new.pass.view (seek_meets a s.new.pass _ s.ensures.keeps_but_search)
           (said_meets s.new.pass.view said.new.pass.view said.ensures.hindrances said.ensures.facts),
       said.ensures.room,
@@ -159,14 +159,14 @@ returns-then-ne-clause-ends g c =
         meets = meets;
         in_try = c.help.ensures.keeps_but_met.keeps.view.earlier a.view.hindrances (s.ensures.keeps_but_search.keeps.view.earlier a.view.hindrances (root_in_try c.args.op a.view c.requires.root));
         way = way.0;
-        would = would_put c.args.table.now.plan a s.new.pass s.ensures.keeps_but_search.keeps.view.ledger s.result c.args.op c.args.what c.requires.puts s.ensures.ends (search rules);
+        would = would_put c.args.steps.table.now.plan a s.new.pass s.ensures.keeps_but_search.keeps.view.ledger s.result c.args.op c.args.what c.requires.puts s.ensures.ends (search rules);
         stops = search rules;
       },
       omega (arith, way.1, more),
-      sees_end c.args.table.now.plan.last_card a.view s.new.pass.view new.view update.state update.card s.ensures.keeps_but_search.keeps.view.before s.ensures.ends.unknown
+      sees_end c.args.steps.table.now.plan.last_card a.view s.new.pass.view new.view update.state update.card s.ensures.keeps_but_search.keeps.view.before s.ensures.ends.unknown
           s.ensures.ends.passed.seen.named stands c.help.ensures.ended
           (omega (arith, s.ensures.keeps_but_search.keeps.view.least, c.help.ensures.keeps_but_met.keeps.view.least)),
-      lets_none_go c.args.table.now.plan new (c.help.ensures.keeps_but_met.card ∙ (s.ensures.keeps_but_search.card ∙ c.requires.root.no_card)),
+      lets_none_go c.args.steps.table.now.plan new (c.help.ensures.keeps_but_met.card ∙ (s.ensures.keeps_but_search.card ∙ c.requires.root.no_card)),
     )
 
 -- no card was left
@@ -180,7 +180,7 @@ returns-in-NoneLeft-clause-ends g c =
     let claims = c.in-NoneLeft.ensures.claims in
     let calm : update.state ≡ Clean = search rules in
     let meets = meets_trans a.view s.new.pass.view new.view (seek_meets a s.new.pass _ s.ensures.keeps_but_search)
-    (keeps_in_meets c.args.table.now.plan s.new.pass new _ c.in-NoneLeft.ensures.keeps claims.2) in
+    (keeps_in_meets c.args.steps.table.now.plan s.new.pass new _ c.in-NoneLeft.ensures.keeps claims.2) in
     let way = way_free new.view update.state update.card (way_of c.args.op new.view)
     (put_way c.args.op c.args.what c.requires.puts place.node place.parent place.grandparent new.view (claims.0.search ∙ s.ensures.ends.at.search)) calm in (
       record {
@@ -192,7 +192,7 @@ returns-in-NoneLeft-clause-ends g c =
         meets = meets;
         in_try = c.take_card.ensures.keeps.view.earlier a.view.hindrances (s.ensures.keeps_but_search.keeps.view.earlier a.view.hindrances (root_in_try c.args.op a.view c.requires.root));
         way = way;
-        would = would_put c.args.table.now.plan a s.new.pass s.ensures.keeps_but_search.keeps.view.ledger s.result c.args.op c.args.what c.requires.puts s.ensures.ends (search rules);
+        would = would_put c.args.steps.table.now.plan a s.new.pass s.ensures.keeps_but_search.keeps.view.ledger s.result c.args.op c.args.what c.requires.puts s.ensures.ends (search rules);
         stops = search rules;
       },
       claims.1,
@@ -222,11 +222,11 @@ returns-in-Lost-clause-ends g c =
         meets = meets;
         in_try = c.take_card.ensures.keeps.view.earlier a.view.hindrances (s.ensures.keeps_but_search.keeps.view.earlier a.view.hindrances (root_in_try c.args.op a.view c.requires.root));
         way = way;
-        would = would_put c.args.table.now.plan a s.new.pass s.ensures.keeps_but_search.keeps.view.ledger s.result c.args.op c.args.what c.requires.puts s.ensures.ends (search rules);
+        would = would_put c.args.steps.table.now.plan a s.new.pass s.ensures.keeps_but_search.keeps.view.ledger s.result c.args.op c.args.what c.requires.puts s.ensures.ends (search rules);
         stops = search rules;
       },
       omega (arith, quiet, claims.2),
-      gives_out c.args.table.now.plan.last_card a.view s.new.pass.view new.view new.view s.ensures.keeps_but_search.keeps.view.least claims.3 (omega arith),
+      gives_out c.args.steps.table.now.plan.last_card a.view s.new.pass.view new.view new.view s.ensures.keeps_but_search.keeps.view.least claims.3 (omega arith),
       claims.4,
     )
 
@@ -241,18 +241,18 @@ returns-in-Ok-clause-ends g c =
     let kept : KeepsAll f m 3 = keeps_all_noted f c.finish_insert.new.pass m 3 c.finish_insert.ensures.keeps_all c.retire_put.ensures.same in
     let said = c.answer-in-Ok in
     let taken = meets_trans a.view s.new.pass.view t.view (seek_meets a s.new.pass _ s.ensures.keeps_but_search)
-    (keeps_in_meets c.args.table.now.plan s.new.pass t _ c.take_card.ensures.keeps c.in-Card.ensures.claims.2) in
+    (keeps_in_meets c.args.steps.table.now.plan s.new.pass t _ c.take_card.ensures.keeps c.in-Card.ensures.claims.2) in
     let flagged = meets_trans a.view t.view f.view taken (keeps_meets t f _ c.flag_insert.ensures.keeps c.in-Ok.ensures.flags.hindrances) in
     let finished = meets_trans a.view f.view m.view flagged (walk_meets f m 3 kept) in
     let done = put_done c.args.op c.args.what c.requires.puts in
     let reply : c.reply_once_done.result ≡ reply_by c.args.op (Some c.unwrap_or.result) =
     c.reply_once_done.ensures ∙ (done.reply ∙ ap (λ v. reply_by c.args.op (Some v)) (sym (search rules))) in
     let answers = said.ensures.answers c.args.op (search rules) in (
-      subst (λ r. AnswersAs SeesEnd c.args.table.now c.args.op r a said.new.pass) reply
-          (keeps_answers c.args.table.now c.args.op _ a s.new.pass said.new.pass _ s.ensures.keeps_but_search.keeps
-          (keeps_in_answers c.args.table.now c.args.op _ s.new.pass t said.new.pass _ c.take_card.ensures.keeps
-          (keeps_answers c.args.table.now c.args.op _ t f said.new.pass _ c.flag_insert.ensures.keeps
-          (keeps_answers c.args.table.now c.args.op _ f m said.new.pass _ kept.keeps answers)))),
+      subst (λ r. AnswersAs SeesEnd c.args.steps.table.now c.args.op r a said.new.pass) reply
+          (keeps_answers c.args.steps.table.now c.args.op _ a s.new.pass said.new.pass _ s.ensures.keeps_but_search.keeps
+          (keeps_in_answers c.args.steps.table.now c.args.op _ s.new.pass t said.new.pass _ c.take_card.ensures.keeps
+          (keeps_answers c.args.steps.table.now c.args.op _ t f said.new.pass _ c.flag_insert.ensures.keeps
+          (keeps_answers c.args.steps.table.now c.args.op _ f m said.new.pass _ kept.keeps answers)))),
       meets_trans a.view m.view said.new.pass.view finished (said_meets m.view said.new.pass.view said.ensures.hindrances said.ensures.facts),
       said.ensures.room,
     )
@@ -268,8 +268,8 @@ returns-in-Err-clause-ends g c =
     let new = help.new.pass in
     let flags = c.in-Err.ensures.flags in
     let taken = meets_trans a.view s.new.pass.view t.view (seek_meets a s.new.pass _ s.ensures.keeps_but_search)
-    (keeps_in_meets c.args.table.now.plan s.new.pass t _ c.take_card.ensures.keeps c.in-Card.ensures.claims.2) in
-    let lost = flag_lost c.args.table.now.plan.last_card s.result.parent.node c.in-Err.found t.view f.view new.view flags c.flag_insert.ensures.keeps.view.knows
+    (keeps_in_meets c.args.steps.table.now.plan s.new.pass t _ c.take_card.ensures.keeps c.in-Card.ensures.claims.2) in
+    let lost = flag_lost c.args.steps.table.now.plan.last_card s.result.parent.node c.in-Err.found t.view f.view new.view flags c.flag_insert.ensures.keeps.view.knows
     help.ensures.meets help.ensures.ended in
     let meets = meets_trans a.view t.view new.view taken lost.0 in
     let way = no_way new.view (way_of c.args.op new.view)
@@ -288,13 +288,13 @@ returns-in-Err-clause-ends g c =
         meets = meets;
         in_try = in_try;
         way = way;
-        would = would_put c.args.table.now.plan a s.new.pass s.ensures.keeps_but_search.keeps.view.ledger s.result c.args.op c.args.what c.requires.puts s.ensures.ends (search rules);
+        would = would_put c.args.steps.table.now.plan a s.new.pass s.ensures.keeps_but_search.keeps.view.ledger s.result c.args.op c.args.what c.requires.puts s.ensures.ends (search rules);
         stops = search rules;
       },
       omega (arith, lost.1, more),
-      gives_out c.args.table.now.plan.last_card a.view s.new.pass.view t.view new.view s.ensures.keeps_but_search.keeps.view.least c.in-Card.ensures.claims.3
+      gives_out c.args.steps.table.now.plan.last_card a.view s.new.pass.view t.view new.view s.ensures.keeps_but_search.keeps.view.least c.in-Card.ensures.claims.3
           (omega (arith, c.flag_insert.ensures.keeps.view.least, help.ensures.keeps_but_met.keeps.view.least)),
-      lets_none_go c.args.table.now.plan new (help.ensures.keeps_but_met.card ∙ flags.no_card),
+      lets_none_go c.args.steps.table.now.plan new (help.ensures.keeps_but_met.card ∙ flags.no_card),
     )
 
 -- the cards of each

@@ -29,8 +29,8 @@ loop-round-preserved g c =
     let i = l.invariant in
     let op = c.args.op in
     let begins = c.restart.ensures.begins op i.stops.busy (λ none. i.root (eqb-true l.round 0 none)) in
-    let most = try_steps_in c.args.table.now.plan in
-    let few = round_steps c.args.table.now.plan l.round most c.args.pass.now l.pass c.restart.new.pass c.try_once.new.pass i.rounds
+    let most = try_steps_in c.args.steps.table.now.plan in
+    let few = round_steps c.args.steps.table.now.plan l.round most c.args.pass.now l.pass c.restart.new.pass c.try_once.new.pass i.rounds
     begins.took (λ none. c.restart.ensures.first (eq-eqb l.round 0 none)) c.try_once.ensures.steps c.try_once.ensures.made in
     let halts = c.in-Hindered.ensures.ends.0 in
     let hindered = c.in-Hindered.ensures.ends.1 in
@@ -53,17 +53,17 @@ loop-round-preserved g c =
           omega (arith, hindered, n, i.hindrances);
       hindered = let counts = halts_hindered op c.restart.new.pass c.try_once.new.pass halts hindered in
           omega (arith, counts, c.try_once.ensures.hindered, begins.hindered, i.hindered);
-      milestones = let one = milestones_one c.args.table.now.plan.last_card l.pass.view c.restart.new.pass.view c.try_once.new.pass.view begins.before begins.least
+      milestones = let one = milestones_one c.args.steps.table.now.plan.last_card l.pass.view c.restart.new.pass.view c.try_once.new.pass.view begins.before begins.least
           (λ f h. halts.meets.knows f (begins.knows f h)) c.in-Hindered.ensures.ends.2 in
           omega (arith, one, i.milestones);
       taken = λ plain. let few = i.taken plain in let one = c.in-Hindered.ensures.taken plain in
           record { least = omega (arith, one.least, begins.taken, few.least); most = omega (arith, one.most, begins.taken, few.most) };
-      rounds = rounds_later c.args.table.now.plan l.round most c.args.pass.now c.try_once.new.pass few;
+      rounds = rounds_later c.args.steps.table.now.plan l.round most c.args.pass.now c.try_once.new.pass few;
     }
 
 pub loop-round-init : goal.loop-round-init
 loop-round-init g c =
-    let cards = c.args.table.now.plan.last_card in
+    let cards = c.args.steps.table.now.plan.last_card in
     let start = c.begin.ensures.begins in
     let still = milestones_still cards c.args.pass.now.view c.begin.new.pass.view start.knows start.least in
     record {
@@ -74,7 +74,7 @@ loop-round-init g c =
       ledger = search rules;
       share = start.share;
       stops = search rules;
-      noted = lets_none_go c.args.table.now.plan c.begin.new.pass start.root.no_card;
+      noted = lets_none_go c.args.steps.table.now.plan c.begin.new.pass start.root.no_card;
       root = λ none. start.root;
       would = λ some. absurd (omega (arith, some));
       meets = search rules;
@@ -83,7 +83,7 @@ loop-round-init g c =
       hindered = let none = root_hindered c.args.op c.begin.new.pass.view start.root in omega (arith, none, start.hindered);
       milestones = omega (arith, still);
       taken = λ plain. record { least = omega (arith, start.taken); most = omega (arith, start.taken) };
-      rounds = rounds_first c.args.table.now.plan (try_steps_in c.args.table.now.plan) c.args.pass.now c.begin.new.pass start.took;
+      rounds = rounds_first c.args.steps.table.now.plan (try_steps_in c.args.steps.table.now.plan) c.args.pass.now c.begin.new.pass start.took;
     }
 
 pub returns-in-Answered-clause-steps : goal.returns-in-Answered-clause-steps
@@ -93,17 +93,17 @@ returns-in-Answered-clause-steps g c =
     let start = c.args.pass.now in
     let tried = c.try_once.new.pass in
     let begins = c.restart.ensures.begins c.args.op i.stops.busy (λ none. i.root (eqb-true l.round 0 none)) in
-    let cards = c.args.table.now.plan.last_card in
-    let most = try_steps_in c.args.table.now.plan in
-    let few = round_steps c.args.table.now.plan l.round most start l.pass c.restart.new.pass tried i.rounds
+    let cards = c.args.steps.table.now.plan.last_card in
+    let most = try_steps_in c.args.steps.table.now.plan in
+    let few = round_steps c.args.steps.table.now.plan l.round most start l.pass c.restart.new.pass tried i.rounds
     begins.took (λ none. c.restart.ensures.first (eq-eqb l.round 0 none)) c.try_once.ensures.steps c.try_once.ensures.made in
     let all = rounds_steps l.round c.args.tries most c.loop-round-test.true in
     let on = milestones_more cards l.pass.view tried.view
     (λ f h. c.in-Answered.ensures.ends.1.knows f (begins.knows f h)) (omega (arith, begins.least, c.try_once.ensures.least)) in
     record {
-      most = took_in_within c.args.table.now.plan start tried ((l.round + 1) * most) (c.args.tries * most + 1) few (omega (arith, all));
-      amortized = amortized c.args.table.now.plan l.round start tried (omega (arith, on, i.milestones))
-          (took_in_within c.args.table.now.plan start tried ((l.round + 1) * most) ((l.round + 1) * most + 1) few (omega arith));
+      most = took_in_within c.args.steps.table.now.plan start tried ((l.round + 1) * most) (c.args.tries * most + 1) few (omega (arith, all));
+      amortized = amortized c.args.steps.table.now.plan l.round start tried (omega (arith, on, i.milestones))
+          (took_in_within c.args.steps.table.now.plan start tried ((l.round + 1) * most) ((l.round + 1) * most + 1) few (omega arith));
       counted = record {
         least = omega (arith, c.try_once.ensures.hindered, begins.hindered, i.hindered);
         most = omega (arith, c.try_once.ensures.hindered, begins.hindered, i.hindered, c.loop-round-test.true);
@@ -119,9 +119,9 @@ returns-in-Spent-clause-steps g c =
     let tried = c.try_once.new.pass in
     let left = c.leave.new.pass in
     let begins = c.restart.ensures.begins op i.stops.busy (λ none. i.root (eqb-true l.round 0 none)) in
-    let cards = c.args.table.now.plan.last_card in
-    let most = try_steps_in c.args.table.now.plan in
-    let few = round_steps c.args.table.now.plan l.round most start l.pass c.restart.new.pass tried i.rounds
+    let cards = c.args.steps.table.now.plan.last_card in
+    let most = try_steps_in c.args.steps.table.now.plan in
+    let few = round_steps c.args.steps.table.now.plan l.round most start l.pass c.restart.new.pass tried i.rounds
     begins.took (λ none. c.restart.ensures.first (eq-eqb l.round 0 none)) c.try_once.ensures.steps c.try_once.ensures.made in
     let all = rounds_steps l.round c.args.tries most c.loop-round-test.true in
     let halts = c.in-Spent.ensures.ends.0 in
@@ -131,9 +131,9 @@ returns-in-Spent-clause-steps g c =
     let same = milestones_same cards tried.view left.view lays.facts lays.least in
     let one = one_hindered tried.view in
     record {
-      most = took_in_trans c.args.table.now.plan start tried left ((l.round + 1) * most) 1 (c.args.tries * most + 1) few (took_in c.args.table.now.plan tried left 1 lays.took) (omega (arith, all));
-      amortized = amortized c.args.table.now.plan l.round start left (omega (arith, on, same, i.milestones))
-          (took_in_trans c.args.table.now.plan start tried left ((l.round + 1) * most) 1 ((l.round + 1) * most + 1) few (took_in c.args.table.now.plan tried left 1 lays.took) (omega arith));
+      most = took_in_trans c.args.steps.table.now.plan start tried left ((l.round + 1) * most) 1 (c.args.tries * most + 1) few (took_in c.args.steps.table.now.plan tried left 1 lays.took) (omega (arith, all));
+      amortized = amortized c.args.steps.table.now.plan l.round start left (omega (arith, on, same, i.milestones))
+          (took_in_trans c.args.steps.table.now.plan start tried left ((l.round + 1) * most) 1 ((l.round + 1) * most + 1) few (took_in c.args.steps.table.now.plan tried left 1 lays.took) (omega arith));
       counted = record {
         least = omega (arith, one.0, lays.hindered, c.try_once.ensures.hindered, begins.hindered, i.hindered);
         most = omega (arith, one.1, lays.hindered, c.try_once.ensures.hindered, begins.hindered, i.hindered, c.loop-round-test.true);
@@ -146,23 +146,23 @@ returns-clause-steps g c =
     let i = l.invariant in
     let start = c.args.pass.now in
     let left = c.leave-2.new.pass in
-    let cards = c.args.table.now.plan.last_card in
-    let most = try_steps_in c.args.table.now.plan in
+    let cards = c.args.steps.table.now.plan.last_card in
+    let most = try_steps_in c.args.steps.table.now.plan in
     let few = i.rounds.later (omega (arith, c.requires.tries, c.loop-round-test.false, l.auto.round-end)) in
     let all : l.round ≡ c.args.tries = omega (arith, c.loop-round-test.false, l.auto.round-end) in
     let rounds = ap (λ n. n * most) all in
     let lays = c.leave-2.ensures.lays c.args.op i.stops.busy in
     let same = milestones_same cards l.pass.view left.view lays.facts lays.least in
     record {
-      most = took_in_trans c.args.table.now.plan start l.pass left (l.round * most) 1 (c.args.tries * most + 1) few (took_in c.args.table.now.plan l.pass left 1 lays.took) (omega (arith, rounds));
-      amortized = amortized c.args.table.now.plan l.round start left (omega (arith, same, i.milestones))
-          (took_in_trans c.args.table.now.plan start l.pass left (l.round * most) 1 ((l.round + 1) * most + 1) few (took_in c.args.table.now.plan l.pass left 1 lays.took) (omega arith));
+      most = took_in_trans c.args.steps.table.now.plan start l.pass left (l.round * most) 1 (c.args.tries * most + 1) few (took_in c.args.steps.table.now.plan l.pass left 1 lays.took) (omega (arith, rounds));
+      amortized = amortized c.args.steps.table.now.plan l.round start left (omega (arith, same, i.milestones))
+          (took_in_trans c.args.steps.table.now.plan start l.pass left (l.round * most) 1 ((l.round + 1) * most + 1) few (took_in c.args.steps.table.now.plan l.pass left 1 lays.took) (omega arith));
       counted = record { least = omega (arith, lays.hindered, i.hindered); most = omega (arith, lays.hindered, all, i.hindered) };
     }
 
 pub returns-clause-others : goal.returns-clause-others
 returns-clause-others g c = λ not_done.
-    let t = c.args.table.now in
+    let t = c.args.steps.table.now in
     let l = c.loop-round in
     let left = c.leave-2.new.pass.view in
     let lays = c.leave-2.ensures.lays c.args.op l.invariant.stops.busy in
@@ -178,7 +178,7 @@ returns-clause-others g c = λ not_done.
 pub returns-clause-enough : goal.returns-clause-enough
 returns-clause-enough g c = λ many not_done.
     let l = c.loop-round in
-    let cards = c.args.table.now.plan.last_card in
+    let cards = c.args.steps.table.now.plan.last_card in
     let most = milestones_most cards l.pass.view c.leave-2.ensures.least in
     let all : l.round ≡ c.args.tries = omega (arith, c.loop-round-test.false, l.auto.round-end) in
     omega (arith, many, most, all, l.invariant.milestones)
@@ -190,7 +190,7 @@ returns-in-Answered-clause-ends g c =
     let i = l.invariant in
     let begins = c.restart.ensures.begins c.args.op i.stops.busy (λ none. i.root (eqb-true l.round 0 none)) in
     let begun = begun_meets (way_of c.args.op l.pass.view) a l.pass.view c.restart.new.pass.view i.meets i.way begins.hindrances begins.knows in (
-      answers_begun c.args.table.now c.args.op _ c.args.pass.now l.pass c.restart.new.pass c.try_once.new.pass (begins.table ∙ i.table) (begins.label ∙ i.label)
+      answers_begun c.args.steps.table.now c.args.op _ c.args.pass.now l.pass c.restart.new.pass c.try_once.new.pass (begins.table ∙ i.table) (begins.label ∙ i.label)
           (begins.ledger ∙ i.ledger) (share_trans a l.pass.view c.restart.new.pass.view i.share begins.share) i.sight c.restart.ensures.sight c.in-Answered.ensures.ends.0,
       meets_trans a c.restart.new.pass.view c.try_once.new.pass.view begun c.in-Answered.ensures.ends.1,
     )
@@ -216,7 +216,7 @@ returns-in-Spent-clause-ends g c =
         answered = ap (λ (l : List Act). length l) sees.mine;
         share = share_trans a tried c.leave.new.pass.view (share_trans a c.restart.new.pass.view tried kept halts.share) lays.share;
         would = would_before op c.args.pass.now c.restart.new.pass (begins.ledger ∙ i.ledger) halts.would;
-        nothing = laid_down_last_changes_nothing c.args.table.now.plan c.leave.new.pass.view op lays.laid;
+        nothing = laid_down_last_changes_nothing c.args.steps.table.now.plan c.leave.new.pass.view op lays.laid;
         idle = lays.idle;
         outside = lays.outside;
         no_card = lays.no_card;
@@ -243,7 +243,7 @@ returns-clause-ends g c =
         answered = ap (λ (l : List Act). length l) sees.mine;
         share = share_trans a l.pass.view c.leave-2.new.pass.view i.share lays.share;
         would = i.would (omega (arith, all, c.requires.tries));
-        nothing = laid_down_last_changes_nothing c.args.table.now.plan c.leave-2.new.pass.view op lays.laid;
+        nothing = laid_down_last_changes_nothing c.args.steps.table.now.plan c.leave-2.new.pass.view op lays.laid;
         idle = lays.idle;
         outside = lays.outside;
         no_card = lays.no_card;
@@ -259,7 +259,7 @@ returns-in-Answered-clause-takes g c =
     let l = c.loop-round in
     let i = l.invariant in
     let begins = c.restart.ensures.begins c.args.op i.stops.busy (λ none. i.root (eqb-true l.round 0 none)) in
-    takes_before_it c.args.table.now c.args.op c.in-Answered.had c.args.pass.now l.pass c.restart.new.pass c.try_once.new.pass (begins.ledger ∙ i.ledger) i.sight c.restart.ensures.sight
+    takes_before_it c.args.steps.table.now c.args.op c.in-Answered.had c.args.pass.now l.pass c.restart.new.pass c.try_once.new.pass (begins.ledger ∙ i.ledger) i.sight c.restart.ensures.sight
     c.in-Answered.ensures.takes
 
 pub returns-in-Answered-clause-cards : goal.returns-in-Answered-clause-cards
@@ -283,7 +283,7 @@ returns-in-Answered-clause-cards g c = λ plain.
           (omega (arith, c.try_once.ensures.hindered, begins.hindered, i.hindered));
       unchanged = λ owns none. unchanged_cards l.round c.args.pass.now l.pass begun after few begins.taken
           (taken_none op had begun after takes (same_Ok (changes_by op had) none))
-          (answers_first c.args.table.now op had l.round c.args.pass.now begun after c.requires.change c.in-Answered.ensures.ends.0 (begins.ledger ∙ i.ledger)
+          (answers_first c.args.steps.table.now op had l.round c.args.pass.now begun after c.requires.change c.in-Answered.ensures.ends.0 (begins.ledger ∙ i.ledger)
           i.would owns (same_Ok (changes_by op had) none));
     }
 

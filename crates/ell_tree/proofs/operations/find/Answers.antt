@@ -11,20 +11,20 @@ use Rattle.ell_tree.proofs.operations.find.Goals as goal
 -- a find has no card in hand
 pub answer-requires-clause-noted : goal.answer-requires-clause-noted
 answer-requires-clause-noted g c =
-    lets_none_go c.args.table.now.plan c.search-place.new.pass (c.search-place.ensures.keeps_but_search.card ∙ c.begin.ensures.begins.root.no_card)
+    lets_none_go c.args.steps.table.now.plan c.search-place.new.pass (c.search-place.ensures.keeps_but_search.card ∙ c.begin.ensures.begins.root.no_card)
 
 pub returns-clause-answers : goal.returns-clause-answers
 returns-clause-answers g c =
     let begins = c.begin.ensures.begins in
     let answers = c.answer.ensures.answers (Find c.args.key) (c.search-place.ensures.keeps_but_search.keeps.view.operation ∙ begins.root.busy) in
-    subst (λ r. Answers c.args.table.now (Find c.args.key) r c.args.pass.now c.answer.new.pass) c.found.ensures
-    (answers_begun c.args.table.now (Find c.args.key) _ c.args.pass.now c.begin.new.pass c.begin.new.pass c.answer.new.pass begins.table begins.label begins.ledger begins.share c.begin.ensures.sees refl
-    (keeps_answers c.args.table.now (Find c.args.key) _ c.begin.new.pass c.search-place.new.pass c.answer.new.pass _ c.search-place.ensures.keeps_but_search.keeps answers))
+    subst (λ r. Answers c.args.steps.table.now (Find c.args.key) r c.args.pass.now c.answer.new.pass) c.found.ensures
+    (answers_begun c.args.steps.table.now (Find c.args.key) _ c.args.pass.now c.begin.new.pass c.begin.new.pass c.answer.new.pass begins.table begins.label begins.ledger begins.share c.begin.ensures.sees refl
+    (keeps_answers c.args.steps.table.now (Find c.args.key) _ c.begin.new.pass c.search-place.new.pass c.answer.new.pass _ c.search-place.ensures.keeps_but_search.keeps answers))
 
 -- an operation that begins, searches and is answered meets nothing; what was known stays known, and nothing was given out
 pub returns-clause-quiet : goal.returns-clause-quiet
 returns-clause-quiet g c =
-    let cards = c.args.table.now.plan.last_card in
+    let cards = c.args.steps.table.now.plan.last_card in
     let a = c.args.pass.now in
     let begun = c.begin.ensures.begins in
     let keeps_but_search = c.search-place.ensures.keeps_but_search in

@@ -22,6 +22,6 @@ returns g c =
       mine = w.ensures.mine;
       counted = counted_all c.args.pass.now w.new.pass c.count.new.self w.result.1 w.ensures.uncounted c.count.ensures;
       saw = subst (SawLookBegin c.args.pass.now.sight) (sym sees) w.ensures.saw;
-      places = places_counted c.args.table.now.plan w.new.pass c.count.new.self w.result.1 c.count.ensures w.ensures.places;
-      only = only_counted c.args.pass.now w.new.pass c.count.new.self (look_steps (deepest c.args.table.now.plan)) w.result.1 w.ensures.only w.ensures.uncounted c.count.ensures;
+      places = places_counted c.args.steps.table.now.plan w.new.pass c.count.new.self w.result.1 c.count.ensures w.ensures.places;
+      only = only_counted c.args.pass.now w.new.pass c.count.new.self (look_steps (deepest c.args.steps.table.now.plan)) w.result.1 w.ensures.only w.ensures.uncounted c.count.ensures;
     }

@@ -4,5 +4,5 @@ use Rattle.ell_tree.proofs.reading.look_about.Goals as goal
 
 pub returns-clause-mine : goal.returns-clause-mine
 returns-clause-mine g c =
-    let w = c.walk_about-steps in
-    about_mine (flat_from c.args.table.now.plan) c.args.pass.now w.new.pass w.result.0 w.ensures.found w.ensures.mine w.ensures.missed w.ensures.only.worker
+    let w = c.walk_about-made in
+    about_mine (flat_from c.args.steps.table.now.plan) c.args.pass.now w.new.pass w.result.0 w.ensures.found w.ensures.mine w.ensures.missed w.ensures.only.worker

@@ -15,20 +15,20 @@ use Rattle.ell_tree.proofs.lemmas.LookPlaces.{saw_on}
 use Rattle.ell_tree.proofs.reading.walk_about.Goals as goal
 use Rattle.ell_tree.proofs.reading.walk_about.Goals.{else-has_block-via-then-has_block+else-not-is_in_block, else-has_block-via-else-has_block}
 
-pub loop-pass-init : goal.loop-pass-init
-loop-pass-init g c =
+pub loop-steps-init : goal.loop-steps-init
+loop-steps-init g c =
     let f = c.look-first in
     record {
-      comes = comes_first c.args.table.now.plan c.args.pass.now f.new.pass c.args.key (linked f.result) f.result.node
+      comes = comes_first c.args.steps.table.now.plan c.args.pass.now f.new.pass c.args.key (linked f.result) f.result.node
           (node_same f.result f.ensures.word) c.requires.real f.ensures.step f.ensures.looks f.ensures.shallow f.ensures.there;
       whole = refl;
-      uncounted = look_uncounted c.args.table.now.plan.slots c.args.pass.now f.new.pass (after_look (linked f.result) c.args.pass.now.view) f.ensures.step refl;
+      uncounted = look_uncounted c.args.steps.table.now.plan.slots c.args.pass.now f.new.pass (after_look (linked f.result) c.args.pass.now.view) f.ensures.step refl;
     }
 
 pub returns-then-not-is_in_block-clause-found : goal.returns-then-not-is_in_block-clause-found
 returns-then-not-is_in_block-clause-found g c =
-    let plan = c.args.table.now.plan in
-    let l = c.loop-pass in
+    let plan = c.args.steps.table.now.plan in
+    let l = c.loop-steps in
     let k = c.look_key-node_key in
     let b = c.beside_block in
     let inner : IsInternal l.here.node = search rules in
@@ -39,34 +39,34 @@ returns-then-not-is_in_block-clause-found g c =
 
 pub returns-then-not-is_in_block-clause-only : goal.returns-then-not-is_in_block-clause-only
 returns-then-not-is_in_block-clause-only g c =
-    let l = c.loop-pass in
+    let l = c.loop-steps in
     let k = c.look_key-node_key in
-    only_none c.args.table.now.plan c.args.pass.now l.pass k.new.pass c.args.key l.here k.result l.invariant.comes k.ensures.step
+    only_none c.args.steps.table.now.plan c.args.pass.now l.pass k.new.pass c.args.key l.here k.result l.invariant.comes k.ensures.step
 
 pub returns-then-not-is_in_block-clause-saw : goal.returns-then-not-is_in_block-clause-saw
 returns-then-not-is_in_block-clause-saw g c =
-    let l = c.loop-pass in
+    let l = c.loop-steps in
     let k = c.look_key-node_key in
-    saw_none c.args.table.now.plan c.args.pass.now l.pass k.new.pass c.args.key l.here k.result l.invariant.comes k.ensures.step
+    saw_none c.args.steps.table.now.plan c.args.pass.now l.pass k.new.pass c.args.key l.here k.result l.invariant.comes k.ensures.step
 
 pub returns-clause-saw : goal.returns-clause-saw
 returns-clause-saw g c =
-    let l = c.loop-pass in
+    let l = c.loop-steps in
     let f = c.found_at-at_the_leaf in
     saw_on c.args.pass.now.sight l.pass.sight f.new.pass.sight l.invariant.comes.saw f.ensures.on.sees
 
 pub look_down-child-requires-clause-may : goal.look_down-child-requires-clause-may
 look_down-child-requires-clause-may g c =
-    let l = c.loop-pass in
+    let l = c.loop-steps in
     let k = c.look_key-node_key in
     let inner : IsInternal l.here.node = search rules in
-    may_down c.args.table.now.plan c.args.pass.now l.pass k.new.pass c.args.key l.here k.result l.invariant.comes k.ensures.step inner c.keys_below-keys.result
+    may_down c.args.steps.table.now.plan c.args.pass.now l.pass k.new.pass c.args.key l.here k.result l.invariant.comes k.ensures.step inner c.keys_below-keys.result
     (nat_le k.result c.args.key) (c.keys_below-keys.ensures.goes l.invariant.whole)
 
-pub loop-pass-preserved : goal.loop-pass-preserved
-loop-pass-preserved g c =
-    let plan = c.args.table.now.plan in
-    let l = c.loop-pass in
+pub loop-steps-preserved : goal.loop-steps-preserved
+loop-steps-preserved g c =
+    let plan = c.args.steps.table.now.plan in
+    let l = c.loop-steps in
     let k = c.look_key-node_key in
     let d = c.look_down-child in
     let keys = c.keys_below-keys in
@@ -83,15 +83,15 @@ loop-pass-preserved g c =
           (linked d.result) d.result.node (node_same d.result d.ensures.word) d.ensures.step inner d.ensures.shallow d.ensures.there
           within.0 within.1 (omega (arith, keys.ensures.high, real)));
       whole = ap (λ (h : Glance). h.whole) c.at-here.ensures ∙ keys.ensures.whole;
-      uncounted = uncounted_trans c.args.pass.now l.pass d.new.pass l.steps 2 l.invariant.uncounted
+      uncounted = uncounted_trans c.args.pass.now l.pass d.new.pass l.made 2 l.invariant.uncounted
           (uncounted_trans l.pass k.new.pass d.new.pass 1 1 (uncounted_looked l.pass k.new.pass (after_key_of l.here.node k.result l.pass.view) k.ensures.step refl)
           (uncounted_one k.new.pass d.new.pass _ d.ensures.step refl));
     }
 
 pub returns-clause-found : goal.returns-clause-found
 returns-clause-found g c =
-    let plan = c.args.table.now.plan in
-    let l = c.loop-pass in
+    let plan = c.args.steps.table.now.plan in
+    let l = c.loop-steps in
     let f = c.found_at-at_the_leaf in
     let come = l.invariant.comes.as_one l.invariant.whole in
     found_between (flat_from plan) f.new.pass.view l.here f.result.0 f.ensures.tells f.ensures.low f.ensures.high

@@ -4,12 +4,12 @@ use Rattle.ell_tree.specs.Counts.{HasUncounted}
 use Rattle.ell_tree.proofs.lemmas.Looks.{Comes}
 use Rattle.ell_tree.proofs.reading.walk_about.Given as goal
 
-abbrev pub invariant-loop-pass : goal.invariant-loop-pass
-invariant-loop-pass g l = record {
-  comes : Comes l.table.plan l.fn.pass l.pass l.key l.here;
+abbrev pub invariant-loop-steps : goal.invariant-loop-steps
+invariant-loop-steps g l = record {
+  comes : Comes l.steps.table.now.plan l.fn.pass l.pass l.key l.here;
   whole : l.here.whole ≡ true;
-  uncounted : HasUncounted l.fn.pass l.pass l.steps;
+  uncounted : HasUncounted l.fn.pass l.pass l.made;
 }
 
-abbrev pub decreases-loop-pass : goal.decreases-loop-pass
-decreases-loop-pass g l = deepest l.table.plan + 2 - depth_of l.pass.view l.here.node
+abbrev pub decreases-loop-steps : goal.decreases-loop-steps
+decreases-loop-steps g l = deepest l.steps.table.now.plan + 2 - depth_of l.pass.view l.here.node

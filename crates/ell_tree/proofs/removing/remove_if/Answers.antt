@@ -20,7 +20,7 @@ use Rattle.ell_cards.specs.Depths.{deepest}
 
 pub loop-round-init : goal.loop-round-init
 loop-round-init g c =
-    let t = c.args.table.now in
+    let t = c.args.steps.table.now in
     let key = c.args.key in
     let old = c.args.pass.now in
     let new = c.find-there.new.pass in
@@ -49,7 +49,7 @@ loop-round-init g c =
 pub loop-round-preserved : goal.loop-round-preserved
 loop-round-preserved g c = elim c.match-remove_or_read.branch [
   | in-Ok-Lost w ↦
-      let t = c.args.table.now in
+      let t = c.args.steps.table.now in
       let key = c.args.key in
       let cards = t.plan.last_card in
       let old = c.args.pass.now in
@@ -84,7 +84,7 @@ loop-round-preserved g c = elim c.match-remove_or_read.branch [
         few = λ plain. let one = each plain in let all = i.few plain in omega (arith, one, all);
       }
   | in-Err-Busy w ↦
-      let t = c.args.table.now in
+      let t = c.args.steps.table.now in
       let key = c.args.key in
       let cards = t.plan.last_card in
       let old = c.args.pass.now in
@@ -122,7 +122,7 @@ loop-round-preserved g c = elim c.match-remove_or_read.branch [
 -- the key had this value, and is removed
 pub returns-in-Ok-Done-clause-removes : goal.returns-in-Ok-Done-clause-removes
 returns-in-Ok-Done-clause-removes g c =
-    let t = c.args.table.now in
+    let t = c.args.steps.table.now in
     let key = c.args.key in
     let was = c.args.was in
     let l = c.loop-round in
@@ -134,7 +134,7 @@ returns-in-Ok-Done-clause-removes g c =
 -- no card was left
 pub returns-in-Err-Spent-clause-not_done : goal.returns-in-Err-Spent-clause-not_done
 returns-in-Err-Spent-clause-not_done g c =
-    let t = c.args.table.now in
+    let t = c.args.steps.table.now in
     let op = Delete c.args.key in
     let l = c.loop-round in
     let new = c.remove_or_read.new.pass in
@@ -148,7 +148,7 @@ returns-in-Err-Spent-clause-not_done g c =
 -- all tries were hindered
 pub returns-then-is_value-clause-others : goal.returns-then-is_value-clause-others
 returns-then-is_value-clause-others g c = λ owns not_done.
-    let t = c.args.table.now in
+    let t = c.args.steps.table.now in
     let l = c.loop-round in
     let all : l._round ≡ c.args.tries = omega (arith, c.loop-round-test.false, l.auto._round-end) in
     let each : l.pass.view.hindered ≡ c.args.pass.now.view.hindered + c.args.tries = omega (arith, all, l.invariant.hindered owns) in
@@ -161,7 +161,7 @@ returns-then-is_value-clause-others g c = λ owns not_done.
 pub returns-then-is_value-clause-enough : goal.returns-then-is_value-clause-enough
 returns-then-is_value-clause-enough g c = λ owns many not_done.
     let l = c.loop-round in
-    let cards = c.args.table.now.plan.last_card in
+    let cards = c.args.steps.table.now.plan.last_card in
     let all : l._round ≡ c.args.tries = omega (arith, c.loop-round-test.false, l.auto._round-end) in
     let most = milestones_most cards l.pass.view c.claims_stay_inside.ensures in
     omega (arith, many, most, all, l.invariant.milestones owns)

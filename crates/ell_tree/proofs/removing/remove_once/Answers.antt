@@ -21,12 +21,12 @@ use Rattle.ell_tree.proofs.removing.remove_once.Goals as goal
 pub delete_at-requires-clause-searched : goal.delete_at-requires-clause-searched
 delete_at-requires-clause-searched g c =
     let s = c.search-place in
-    searched c.args.table.now.plan (Delete c.args.key) s.result c.begin.new.pass s.new.pass _ s.ensures.keeps_but_search c.begin.ensures.begins.root s.ensures.ends
+    searched c.args.steps.table.now.plan (Delete c.args.key) s.result c.begin.new.pass s.new.pass _ s.ensures.keeps_but_search c.begin.ensures.begins.root s.ensures.ends
 
 -- no card is in hand, or the pass may let it go
 pub leave-requires-clause-noted : goal.leave-requires-clause-noted
 leave-requires-clause-noted g c =
-    lets_none_go c.args.table.now.plan c.search-place.new.pass (c.search-place.ensures.keeps_but_search.card ∙ c.begin.ensures.begins.root.no_card)
+    lets_none_go c.args.steps.table.now.plan c.search-place.new.pass (c.search-place.ensures.keeps_but_search.card ∙ c.begin.ensures.begins.root.no_card)
 
 pub leave-requires-in-Spent-clause-noted : goal.leave-requires-in-Spent-clause-noted
 leave-requires-in-Spent-clause-noted g c = c.in-Spent.ensures.ends.2
@@ -48,7 +48,7 @@ returns-then-not-is_value-clause-removes g c =
           (lays.ledger ∙ (keeps.view.ledger ∙ begins.ledger))
           (share_trans a.view s.new.pass.view new.view (share_trans a.view c.begin.new.pass.view s.new.pass.view begins.share keeps.view.share) lays.share) lays.idle lays.outside
           (sees_none (Delete c.args.key) a.sight c.begin.new.pass.sight new.sight c.begin.ensures.sees (lays.sight ∙ keeps.sight)),
-      not_at c.args.table.now.plan a s.new.pass s.result c.args.key c.args.was (keeps.view.ledger ∙ begins.ledger) s.ensures.ends other,
+      not_at c.args.steps.table.now.plan a s.new.pass s.result c.args.key c.args.was (keeps.view.ledger ∙ begins.ledger) s.ensures.ends other,
     )
 
 pub returns-then-not-is_value-clause-steps : goal.returns-then-not-is_value-clause-steps
@@ -86,7 +86,7 @@ returns-then-not-is_value-clause-cards g c = λ plain.
 -- the key was deleted with the value of the leaf where the search ended
 pub returns-in-Answered-clause-removes : goal.returns-in-Answered-clause-removes
 returns-in-Answered-clause-removes g c =
-    let t = c.args.table.now in
+    let t = c.args.steps.table.now in
     let key = c.args.key in
     let op = Delete key in
     let a = c.args.pass.now in
@@ -108,7 +108,7 @@ returns-in-Answered-clause-removes g c =
 -- no card was left, or something was in the way: so it was
 pub returns-in-Spent-clause-removes : goal.returns-in-Spent-clause-removes
 returns-in-Spent-clause-removes g c =
-    let t = c.args.table.now in
+    let t = c.args.steps.table.now in
     let op = Delete c.args.key in
     let b = c.begin.new.pass in
     let s = c.search-place in
@@ -119,7 +119,7 @@ returns-in-Spent-clause-removes g c =
 
 pub returns-in-Hindered-clause-removes : goal.returns-in-Hindered-clause-removes
 returns-in-Hindered-clause-removes g c =
-    let t = c.args.table.now in
+    let t = c.args.steps.table.now in
     let op = Delete c.args.key in
     let b = c.begin.new.pass in
     let s = c.search-place in
@@ -131,7 +131,7 @@ returns-in-Hindered-clause-removes g c =
 -- and that is others' doing
 pub returns-in-Hindered-clause-others : goal.returns-in-Hindered-clause-others
 returns-in-Hindered-clause-others g c = λ not_done.
-    let t = c.args.table.now in
+    let t = c.args.steps.table.now in
     let op = Delete c.args.key in
     let a = c.args.pass.now in
     let b = c.begin.new.pass in
@@ -211,7 +211,7 @@ returns-in-Hindered-clause-cards g c = λ plain.
     let s = c.search-place in
     let d = c.delete_at.new.pass in
     let kept = s.ensures.keeps_but_search in
-    let ended = ends_after b s.new.pass d _ kept c.args.table.now op Hindered c.in-Hindered.ensures.ends in
+    let ended = ends_after b s.new.pass d _ kept c.args.steps.table.now op Hindered c.in-Hindered.ensures.ends in
     let lays = c.leave-in-Hindered.ensures.lays op ended.0.stops.busy in
     let counts = halts_hindered op b d ended.0 ended.1 in
     let few = c.in-Hindered.ensures.taken plain in

@@ -9,7 +9,7 @@ use Rattle.ell_tree.proofs.removing.remove_or_read.Goals as goal
 -- another value was there, or none, and the key was read
 pub returns-else-branch-clause-removes : goal.returns-else-branch-clause-removes
 returns-else-branch-clause-removes g c =
-    let t = c.args.table.now in
+    let t = c.args.steps.table.now in
     let key = c.args.key in
     let old = c.args.pass.now in
     let left = c.remove_once.new.pass in

@@ -9,14 +9,14 @@ pub returns-in-loop-below-clause-found : goal.returns-in-loop-below-clause-found
 returns-in-loop-below-clause-found g c =
     let l = c.loop-below in
     let about = c.about-about in
-    descends_pair c.args.table.now.plan c.args.pass.now l.pass about.new.pass l.below c.args.upto l.invariant.descends about.result
+    descends_pair c.args.steps.table.now.plan c.args.pass.now l.pass about.new.pass l.below c.args.upto l.invariant.descends about.result
     c.loop-below-test.true about.ensures.found about.ensures.fixed about.ensures.on (c.in-Some.key, c.in-Some.value) c.in-Some.is c.if-key-below.true
 
 pub returns-in-loop-below-clause-only : goal.returns-in-loop-below-clause-only
 returns-in-loop-below-clause-only g c =
     let l = c.loop-below in
     let about = c.about-about in
-    let plan = c.args.table.now.plan in
+    let plan = c.args.steps.table.now.plan in
     stretches_steps plan _ _ c.args.pass.now about.new.pass
     (one_down plan c.args.pass.now l.pass about.new.pass l.below c.args.upto l.invariant.descends about.result c.loop-below-test.true about.ensures.found
     about.ensures.fixed about.ensures.on)
@@ -26,7 +26,7 @@ loop-below-preserved g c =
     let l = c.loop-below in
     let about = c.about-about in
     record {
-      descends = descends_past c.args.table.now.plan c.args.pass.now l.pass about.new.pass l.below c.args.upto l.invariant.descends about.result
+      descends = descends_past c.args.steps.table.now.plan c.args.pass.now l.pass about.new.pass l.below c.args.upto l.invariant.descends about.result
           c.loop-below-test.true about.ensures.found about.ensures.fixed about.ensures.on
           (λ key low. elim c.in_default.branch [
             | in_default-via-in-None-1 w ↦ none_there about.result.found key (search rules)
@@ -39,7 +39,7 @@ loop-below-preserved g c =
 
 pub returns-clause-only : goal.returns-clause-only
 returns-clause-only g c =
-    stretches_steps c.args.table.now.plan _ _ c.args.pass.now c.loop-below.pass c.loop-below.invariant.descends.stretches
+    stretches_steps c.args.steps.table.now.plan _ _ c.args.pass.now c.loop-below.pass c.loop-below.invariant.descends.stretches
 
 pub returns-in-loop-below-clause-saw : goal.returns-in-loop-below-clause-saw
 returns-in-loop-below-clause-saw g c =

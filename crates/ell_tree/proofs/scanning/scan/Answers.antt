@@ -9,7 +9,7 @@ loop-at-preserved-then-key-upto g c =
     let l = c.loop-at in
     let about = c.about-about in
     record {
-      scans = scans_pair c.args.table.now.plan c.args.pass.now l.pass about.new.pass c.args.from l.at c.args.upto l.count c.args.room.now l.room
+      scans = scans_pair c.args.steps.table.now.plan c.args.pass.now l.pass about.new.pass c.args.from l.at c.args.upto l.count c.args.room.now l.room
           l.invariant.scans about.result c.loop-at-test.true c.requires.real about.ensures.found about.ensures.fixed about.ensures.on
           (record { key = c.in-Some.key; value = c.in-Some.value }) c.in-Some.is c.if-at-key.true c.if-key-upto.true c.if-count-room.true;
       kept = about.ensures.kept;
@@ -21,7 +21,7 @@ loop-at-preserved g c =
     let l = c.loop-at in
     let about = c.about-about in
     record {
-      scans = scans_past c.args.table.now.plan c.args.pass.now l.pass about.new.pass c.args.from l.at c.args.upto l.count c.args.room.now l.room
+      scans = scans_past c.args.steps.table.now.plan c.args.pass.now l.pass about.new.pass c.args.from l.at c.args.upto l.count c.args.room.now l.room
           l.invariant.scans about.result c.loop-at-test.true c.requires.real about.ensures.found about.ensures.fixed about.ensures.on
           (λ key after less. elim c.in_default.branch [
             | in_default-via-in-None-1 w ↦ none_there about.result.found key (search rules)
@@ -36,11 +36,11 @@ loop-at-preserved g c =
 
 pub returns-then-at-upto-clause-only : goal.returns-then-at-upto-clause-only
 returns-then-at-upto-clause-only g c =
-    stretches_steps c.args.table.now.plan _ _ c.args.pass.now c.loop-at.pass c.loop-at.invariant.scans.stretches
+    stretches_steps c.args.steps.table.now.plan _ _ c.args.pass.now c.loop-at.pass c.loop-at.invariant.scans.stretches
 
 pub returns-else-at-upto-clause-only : goal.returns-else-at-upto-clause-only
 returns-else-at-upto-clause-only g c =
-    stretches_steps c.args.table.now.plan _ _ c.args.pass.now c.loop-at.pass c.loop-at.invariant.scans.stretches
+    stretches_steps c.args.steps.table.now.plan _ _ c.args.pass.now c.loop-at.pass c.loop-at.invariant.scans.stretches
 
 pub returns-then-at-upto-clause-saw : goal.returns-then-at-upto-clause-saw
 returns-then-at-upto-clause-saw g c = c.loop-at.invariant.scans.stretches.saw

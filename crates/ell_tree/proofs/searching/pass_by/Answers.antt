@@ -29,7 +29,7 @@ returns g c =
       there = c.down-child.ensures.there;
       search = descend_search a b e x u l read gone small;
       met = descend_met a b e x u l read gone small;
-      passed = descend_passed a b e x u l read gone c.args.table.now.plan.last_card small c.requires.node c.upd-update.ensures.card;
-      fits = descend_fits a b e x u l read gone (flat_from c.args.table.now.plan) c.args.op c.args.at.key c.requires.told c.requires.may;
+      passed = descend_passed a b e x u l read gone c.args.steps.table.now.plan.last_card small c.requires.node c.upd-update.ensures.card;
+      fits = descend_fits a b e x u l read gone (flat_from c.args.steps.table.now.plan) c.args.op c.args.at.key c.requires.told c.requires.may;
       unknown = descend_unknown a b e x u l read gone c.upd-update.ensures.unknown;
     }

@@ -13,7 +13,7 @@ use Rattle.ell_tree.proofs.searching.walk.Goals as goal
 
 pub pass_by-node-requires-clause-node : goal.pass_by-node-requires-clause-node
 pass_by-node-requires-clause-node g c =
-    let r = c.ask_key-root_key in
+    let r = c.key_of-root_key in
     record {
       met = (key_seeks c.args.pass.now r.new.pass 0 r.result r.ensures.step).keeps.view.told (Met 0) c.requires.root.met;
       inner = refl;
@@ -22,20 +22,20 @@ pass_by-node-requires-clause-node g c =
 
 pub pass_by-node-requires-clause-told : goal.pass_by-node-requires-clause-told
 pass_by-node-requires-clause-told g c =
-    let r = c.ask_key-root_key in
-    (root_asked (flat_from c.args.table.now.plan) c.args.op c.args.pass.now r.new.pass r.result c.requires.root r.ensures.step r.ensures.tells).0.told
+    let r = c.key_of-root_key in
+    (root_asked (flat_from c.args.steps.table.now.plan) c.args.op c.args.pass.now r.new.pass r.result c.requires.root r.ensures.step r.ensures.leaf).0.told
 
 pub pass_by-node-requires-clause-may : goal.pass_by-node-requires-clause-may
-pass_by-node-requires-clause-may g c = root_passes (flat_from c.args.table.now.plan) c.args.op c.ask_key-root_key.result
+pass_by-node-requires-clause-may g c = root_passes (flat_from c.args.steps.table.now.plan) c.args.op c.key_of-root_key.result
 
 pub loop-op-init : goal.loop-op-init
 loop-op-init g c =
-    let plan = c.args.table.now.plan in
+    let plan = c.args.steps.table.now.plan in
     let a = c.args.pass.now in
-    let r = c.ask_key-root_key in
+    let r = c.key_of-root_key in
     let d = c.pass_by-node in
     let x = d.result.1 in
-    let root = root_asked (flat_from plan) c.args.op a r.new.pass r.result c.requires.root r.ensures.step r.ensures.tells in
+    let root = root_asked (flat_from plan) c.args.op a r.new.pass r.result c.requires.root r.ensures.step r.ensures.leaf in
     record {
       same = (refl, refl);
       stands = record {
@@ -59,7 +59,7 @@ loop-op-init g c =
 pub pass_by-child-requires-clause-node : goal.pass_by-child-requires-clause-node
 pass_by-child-requires-clause-node g c =
     let l = c.loop-op in
-    let k = c.ask_key-key in
+    let k = c.key_of-key in
     record {
       met = (key_seeks l.pass k.new.pass l.node k.result k.ensures.step).keeps.view.told (Met l.node) l.invariant.stands.met;
       inner = search rules;
@@ -69,15 +69,15 @@ pass_by-child-requires-clause-node g c =
 pub pass_by-child-requires-clause-told : goal.pass_by-child-requires-clause-told
 pass_by-child-requires-clause-told g c =
     let l = c.loop-op in
-    let k = c.ask_key-key in
-    (asked_there (flat_from c.args.table.now.plan) l.pass k.new.pass l.node k.result (ap (λ (s : Search). s.node) l.invariant.stands.search) k.ensures.step k.ensures.tells).told
+    let k = c.key_of-key in
+    (asked_there (flat_from c.args.steps.table.now.plan) l.pass k.new.pass l.node k.result (ap (λ (s : Search). s.node) l.invariant.stands.search) k.ensures.step k.ensures.leaf).told
 
 pub loop-op-preserved : goal.loop-op-preserved
 loop-op-preserved g c =
-    let plan = c.args.table.now.plan in
+    let plan = c.args.steps.table.now.plan in
     let l = c.loop-op in
     let i = l.invariant in
-    let k = c.ask_key-key in
+    let k = c.key_of-key in
     let d = c.pass_by-child in
     let x = d.result.1 in
     let same = asked_depth l.pass k.new.pass l.node k.result l.node k.ensures.step in
@@ -92,7 +92,7 @@ loop-op-preserved g c =
       keeps_but_search = keeps_but_search_trans c.args.pass.now l.pass d.new.pass (3 * i.depth + 3) 3 (3 * depth_of l.pass.view l.node + 3) i.keeps_but_search
           (keeps_but_search_trans l.pass k.new.pass d.new.pass 1 2 3 (key_seeks l.pass k.new.pass l.node k.result k.ensures.step) d.ensures.keeps_but_search (omega arith))
           (let deep = i.deep in omega arith);
-      uncounted = uncounted_trans c.args.pass.now l.pass d.new.pass l.steps 3 i.uncounted
+      uncounted = uncounted_trans c.args.pass.now l.pass d.new.pass l.made 3 i.uncounted
           (uncounted_trans l.pass k.new.pass d.new.pass 1 2 (uncounted_one l.pass k.new.pass (after_key_of l.node k.result l.pass.view) k.ensures.step refl) d.ensures.uncounted);
     })
 
@@ -100,51 +100,51 @@ pub returns-then-ends_at-clause-keeps_but_search : goal.returns-then-ends_at-cla
 returns-then-ends_at-clause-keeps_but_search g c =
     let l = c.loop-op in
     let i = l.invariant in
-    let k = c.ask_key-key in
-    keeps_but_search_trans c.args.pass.now l.pass k.new.pass (3 * i.depth + 3) 1 (3 * deepest c.args.table.now.plan + 5) i.keeps_but_search
+    let k = c.key_of-key in
+    keeps_but_search_trans c.args.pass.now l.pass k.new.pass (3 * i.depth + 3) 1 (3 * deepest c.args.steps.table.now.plan + 5) i.keeps_but_search
     (key_seeks l.pass k.new.pass l.node k.result k.ensures.step) (let deep = i.deep in let room = i.shallow.any in omega arith)
 
 pub returns-then-ends_at-clause-ends : goal.returns-then-ends_at-clause-ends
 returns-then-ends_at-clause-ends g c =
-    let plan = c.args.table.now.plan in
+    let plan = c.args.steps.table.now.plan in
     let l = c.loop-op in
     let i = l.invariant in
-    let k = c.ask_key-key in
+    let k = c.key_of-key in
     let seeks = key_seeks l.pass k.new.pass l.node k.result k.ensures.step in
     search_ends_above plan k.new.pass.view c.args.op (record { node = l.node; key = k.result; value = 0; parent = l.parent; grandparent = l.grandparent })
     refl (seeks.keeps.view.operation ∙ i.keeps_but_search.keeps.view.operation ∙ c.requires.root.busy) (search rules)
     (stands_asked plan c.args.op l.pass k.new.pass l.node k.result l.parent l.grandparent k.ensures.step i.stands)
-    (asked_there (flat_from plan) l.pass k.new.pass l.node k.result (ap (λ (s : Search). s.node) i.stands.search) k.ensures.step k.ensures.tells)
+    (asked_there (flat_from plan) l.pass k.new.pass l.node k.result (ap (λ (s : Search). s.node) i.stands.search) k.ensures.step k.ensures.leaf)
     (c.ends_at.ensures.ends (search rules))
 
-pub ask_value-value-requires-clause-met : goal.ask_value-value-requires-clause-met
-ask_value-value-requires-clause-met g c =
+pub value_of-value-requires-clause-met : goal.value_of-value-requires-clause-met
+value_of-value-requires-clause-met g c =
     let l = c.loop-op in
-    let k = c.ask_key-key-2 in
+    let k = c.key_of-key-2 in
     (key_seeks l.pass k.new.pass l.node k.result k.ensures.step).keeps.view.told (Met l.node) l.invariant.stands.met
 
 pub returns-clause-keeps_but_search : goal.returns-clause-keeps_but_search
 returns-clause-keeps_but_search g c =
     let l = c.loop-op in
     let i = l.invariant in
-    let k = c.ask_key-key-2 in
-    let v = c.ask_value-value in
-    keeps_but_search_trans c.args.pass.now l.pass v.new.pass (3 * i.depth + 3) 2 (3 * deepest c.args.table.now.plan + 5) i.keeps_but_search
+    let k = c.key_of-key-2 in
+    let v = c.value_of-value in
+    keeps_but_search_trans c.args.pass.now l.pass v.new.pass (3 * i.depth + 3) 2 (3 * deepest c.args.steps.table.now.plan + 5) i.keeps_but_search
     (keeps_but_search_trans l.pass k.new.pass v.new.pass 1 1 2 (key_seeks l.pass k.new.pass l.node k.result k.ensures.step)
     (value_seeks k.new.pass v.new.pass l.node v.result v.ensures.step) (omega arith))
     (let deep = i.deep in let room = i.shallow.any in omega arith)
 
 pub returns-clause-ends : goal.returns-clause-ends
 returns-clause-ends g c =
-    let plan = c.args.table.now.plan in
+    let plan = c.args.steps.table.now.plan in
     let l = c.loop-op in
     let i = l.invariant in
-    let k = c.ask_key-key-2 in
-    let v = c.ask_value-value in
+    let k = c.key_of-key-2 in
+    let v = c.value_of-value in
     let seeks = key_seeks l.pass k.new.pass l.node k.result k.ensures.step in
     let outer : IsLeaf l.node = search rules in
     search_ends plan k.new.pass v.new.pass c.args.op (record { node = l.node; key = k.result; value = v.result; parent = l.parent; grandparent = l.grandparent })
     v.ensures.step (seeks.keeps.view.operation ∙ i.keeps_but_search.keeps.view.operation ∙ c.requires.root.busy) outer
     (stands_asked plan c.args.op l.pass k.new.pass l.node k.result l.parent l.grandparent k.ensures.step i.stands)
-    (asked_there (flat_from plan) l.pass k.new.pass l.node k.result (ap (λ (s : Search). s.node) i.stands.search) k.ensures.step k.ensures.tells)
-    v.ensures.tells
+    (asked_there (flat_from plan) l.pass k.new.pass l.node k.result (ap (λ (s : Search). s.node) i.stands.search) k.ensures.step k.ensures.leaf)
+    v.ensures.value

@@ -35,7 +35,7 @@ returns-clause-answers g c op busy =
       says = subst (λ (o : Op). Owns old (key_of o) → c.args.said ≡ reply_of o (present_in old)) is a.says;
       map = subst (λ (o : Op). Owns old (key_of o) → (key : ℕ) → present_in new key ≡ after o (present_in old) key) is a.map;
       stays = subst (λ (o : Op). ¬ Owns old (key_of o) → ledger new ≡ ledger old) is (λ other. a.stays (none_of (ledger_of old.view.worker.ledger (key_of a.op)) other));
-      point = answers_have_their_points c.args.table.now.plan new.view op c.args.said old.view.worker.card c.args.took
+      point = answers_have_their_points c.args.steps.table.now.plan new.view op c.args.said old.view.worker.card c.args.took
           (ap (λ (p : PassModel). p.view.answered) c.answer.ensures.step ∙ ap (λ o. answered_so o old.view.worker.card c.args.said c.args.took) busy);
       share = search rules;
       owned = λ key. (λ has none. has ((a.owned key).1 none), λ has none. has ((a.owned key).0 none));

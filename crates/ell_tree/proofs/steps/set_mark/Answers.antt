@@ -11,8 +11,8 @@ returns g c = record {
       ∙ ap (λ o. met_by_mark c.args.card o c.args.pass.now.view) (sym c.found_instead.ensures);
   marked = λ none. mark_marked c.args.card c.args.parent c.args.was c.args.pass.now c.mark-marked.new.pass c.mark-marked.result c.mark-marked.ensures.step
       (sym c.found_instead.ensures ∙ none);
-  lost = subst (λ (o : Option Update). IfSome o (λ u. IsLost c.args.table.now.plan.last_card c.args.card c.args.parent u c.mark-marked.new.pass.view))
+  lost = subst (λ (o : Option Update). IfSome o (λ u. IsLost c.args.steps.table.now.plan.last_card c.args.card c.args.parent u c.mark-marked.new.pass.view))
       (sym c.found_instead.ensures)
-      (mark_lost c.args.card c.args.parent c.args.was c.args.pass.now c.mark-marked.new.pass c.args.table.now.plan.last_card c.mark-marked.result c.mark-marked.ensures.step
+      (mark_lost c.args.card c.args.parent c.args.was c.args.pass.now c.mark-marked.new.pass c.args.steps.table.now.plan.last_card c.mark-marked.result c.mark-marked.ensures.step
       c.requires.parent.node c.mark-marked.ensures.card);
 }

@@ -7,8 +7,8 @@ use Rattle.ell_tree.proofs.trying.take_card.Given as goal
 -- each card so far was claimed in vain
 abbrev pub invariant-loop : goal.invariant-loop
 invariant-loop g l = record {
-  same : (l.table ≡ l.fn.table) × (l.op ≡ l.fn.op) × (l.place ≡ l.fn.place) × (l.node_key ≡ l.fn.node_key);
-  end : l.end ≡ most_claims l.fn.table.plan.slots;
-  asked : HasAsked l.fn.table.plan l.counter l.fn.pass l.pass;
-  limit : 0 < l.counter → l.fn.table.plan.last_card ≤ greatest_number;
+  same : (l.steps.table.now ≡ l.fn.steps.table.now) × (l.op ≡ l.fn.op) × (l.place ≡ l.fn.place) × (l.node_key ≡ l.fn.node_key);
+  end : l.end ≡ most_claims l.fn.steps.table.now.plan.slots;
+  asked : HasAsked l.fn.steps.table.now.plan l.counter l.fn.pass l.pass;
+  limit : 0 < l.counter → l.fn.steps.table.now.plan.last_card ≤ greatest_number;
 }

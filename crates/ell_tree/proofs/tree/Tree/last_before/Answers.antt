@@ -1,6 +1,6 @@
 -- What was found of the last key, and of each after it, was so in one state since the look began.
 use Rattle.ell_tree.proofs.lemmas.Scans.{last_in}
-use Rattle.std.proofs.Common.{subst}
+use Rattle.std.proofs.Common.{◌∙◌, subst}
 use Rattle.ell_tree.specs.Ledgers.{TreeModel}
 use Rattle.ell_tree.specs.LookPlaces.{SeesLast}
 use Rattle.ell_tree.proofs.lemmas.LookPlaces.{sees_last_key}
@@ -12,5 +12,5 @@ returns-clause-so g c = last_in c.args.self.now c.last_below.new.pass.view c.arg
 pub returns-clause-sees : goal.returns-clause-sees
 returns-clause-sees g c =
     let a = c.last_below in
-    λ some. subst (λ (t : TreeModel). SeesLast t c.args.key a.result c.args.pass.now a.new.pass) c.self.view_is
-    (sees_last_key c.self.inside.table c.args.pass.now a.new.pass a.ensures.saw a.ensures.only.sight (a.ensures.places some) c.args.key a.result a.ensures.found)
+    λ some. subst (λ (t : TreeModel). SeesLast t c.args.key a.result c.args.pass.now a.new.pass) (c.told_to.ensures ∙ c.self.view_is)
+    (sees_last_key c.told_to.result.table.now c.args.pass.now a.new.pass a.ensures.saw a.ensures.only.sight (a.ensures.places some) c.args.key a.result a.ensures.found)

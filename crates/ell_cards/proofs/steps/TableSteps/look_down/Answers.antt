@@ -1,0 +1,4 @@
+use Rattle.ell_cards.proofs.steps.TableSteps.look_down.Goals as goal
+
+pub returns-clause-shallow : goal.returns-clause-shallow
+returns-clause-shallow g c = c.see.ensures.shallow c.of.result.node

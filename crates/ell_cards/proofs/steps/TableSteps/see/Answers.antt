@@ -1,0 +1,28 @@
+use Rattle.ell_cards.proofs.lemmas.seats.Taken.{taken_keeps, sees_by}
+use Rattle.ell_cards.proofs.lemmas.runs.Reaching.{calls_tell}
+use Rattle.ell_cards.proofs.lemmas.whole.Rests.{load_claims_none}
+use Rattle.ell_cards.proofs.steps.TableSteps.see.Goals as goal
+
+pub load_as-requires-clause-tells : goal.load_as-requires-clause-tells
+load_as-requires-clause-tells g c = calls_tell c.args.self.table.now.plan c.args.call c.args.pass.now.view (load_claims_none c.args.call c.requires.atomic)
+
+pub load_as-requires-clause-keeps : goal.load_as-requires-clause-keeps
+load_as-requires-clause-keeps g c = taken_keeps c.args.self.table.now.plan c.args.call c.args.pass.now.view
+
+pub returns-clause-step : goal.returns-clause-step
+returns-clause-step g c = sees_by c.args.pass.now c.load_as.new.pass _ c.load_as.ensures.step c.load_as.ensures.told.view
+
+pub returns-clause-tells : goal.returns-clause-tells
+returns-clause-tells g c = c.load_as.ensures.told.tells
+
+pub returns-clause-looked : goal.returns-clause-looked
+returns-clause-looked g c = c.load_as.ensures.told.own
+
+pub returns-clause-fixed : goal.returns-clause-fixed
+returns-clause-fixed g c = c.load_as.ensures.told.fixed
+
+pub returns-clause-named : goal.returns-clause-named
+returns-clause-named g c = c.load_as.ensures.told.named
+
+pub returns-clause-shallow : goal.returns-clause-shallow
+returns-clause-shallow g c = c.load_as.ensures.told.shallow

@@ -1,4 +1,0 @@
-use Rattle.ell_cards.proofs.table.CardTable.look.Goals as goal
-
-pub returns-clause-shallow : goal.returns-clause-shallow
-returns-clause-shallow g c = c.see_entered.ensures.shallow c.of.result.node
