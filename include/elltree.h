@@ -1,5 +1,5 @@
-/* Trees without a map around them, and handles of them, for a program that counts cards itself. Most programs want a map, elltree_map.h, which
-   makes fresh cards by itself. This header includes that one for the codes, the limits, struct elltree_pair and elltree_text.
+/* Trees without a map around them, and handles of them, for a program that counts cards itself. Most programs want a map, elltree_map.h, whose
+   cards come back by themselves. This header includes that one for the codes, the limits, struct elltree_pair and elltree_text.
 
        _Alignas(128) struct elltree_handle first = ELLTREE_EMPTY, second = ELLTREE_EMPTY;
        int32_t code = elltree_open(&first, NULL, 0, 100000);

@@ -73,11 +73,6 @@ abbrev pub replies_of : List Item → List Reply
 replies_of [] = []
 replies_of (item ∷ items) = item.reply ∷ replies_of items
 
--- its calls, each with its answer
-abbrev pub calls_of : List Item → List (Op × Reply)
-calls_of [] = []
-calls_of (item ∷ items) = (item.op, item.reply) ∷ calls_of items
-
 -- an item stands in a sequence after so many others
 abbrev pub StandsIn : List Item → ℕ → Item → Type 0
 StandsIn order i item = get_elem? order i ≡ some item

@@ -63,10 +63,6 @@ pub record ViewHolds (words : List ℕ) (w : Words) (stage : Stages) (v : View) 
   pub walk : (op : Op) (x : ℕ) → v.worker.operation ≡ Some op → v.worker.search.node ≡ Some x
       → Avoids w (over_before v) (key_of op) x
 
--- no pass of a table takes any key for shared
-abbrev pub NobodyShares : TableState → Type 0
-NobodyShares s = (j : ℕ) (v : View) → get_elem? s.views j ≡ some v → v.worker.shared ≡ None
-
 -- a state of a table with these keys and this last card has a machine that the invariant holds of: its workers are the
 -- passes; the table has its claim word, and its words at every card that does not wait for its flag; what passes know
 -- holds; and every key that a pass owns is one of the table's, and so is each that it knows may have an owner. So while

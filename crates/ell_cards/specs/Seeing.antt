@@ -69,36 +69,6 @@ abbrev pub AreSilent : TablePlan → List Known → Type 0
 AreSilent plan views =
     (seat : ℕ) (k : Known) → get_elem? views seat ≡ some k → IsSpentIn plan k.tree → k.sight.mine ≡ []
 
--- the operation that an event begins, if the pass in the seat begins one there
-abbrev pub begin_in : ℕ → Event → Option (ℕ × Op)
-begin_in seat (Begins s op) = if s == seat then Some (0, op) else None
-begin_in seat _ = None
-
--- where the pass in a seat began an operation last, and which
-abbrev pub last_begin : ℕ → List Event → Option (ℕ × Op)
-last_begin seat [] = None
-last_begin seat (e ∷ es) = option_or (option_map (λ x. (x.0 + 1, x.1)) (last_begin seat es)) (begin_in seat e)
-
--- the calls with one more, which ends here
-abbrev pub with_act : Option (ℕ × Op) → ℕ → Reply → Option ℕ → List Act → List Act
-with_act None end said took mine = mine
-with_act (Some b) end said took mine =
-    record { begin = b.0; end = end; op = b.1; said = said; took = took } ∷ mine
-
--- what a pass notes of the history, which is this up to its step: where it begins an operation or a look, or answers an
--- operation, it has seen all of it
-abbrev pub marked : Call → ℕ → List Event → Sight → Sight
-marked (call.Begin op) seat history g =
-    record g { seen = history ++ Begins seat op ∷ []; begun = Some (length history) }
-marked (call.Answer said took) seat history g =
-    record g {
-      seen = history ++ Ends seat said took ∷ [];
-      mine = with_act (last_begin seat history) (length history) said took g.mine;
-    }
-marked call.Look seat history g =
-    record g { seen = history ++ Looks seat ∷ []; looked = Some (length history) }
-marked _ seat history g = g
-
 -- The pass begins an operation, and has seen the history up to that: it begins behind all that the pass had seen.
 pub record SeesBegin (op : Op) (old new : Sight) : Type 0 where
   pub seat : ℕ

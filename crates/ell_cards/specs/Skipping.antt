@@ -90,10 +90,3 @@ MayStepOn plan p i f told =
 -- a card that was claimed is none for which a slot was taken, if there are places
 abbrev pub IsFresh : TablePlan → Option ℕ → Bool → ℕ → Type 0
 IsFresh plan slot won c = plan.slots ≢ None → won ≡ true → slot ≢ Some c
-
--- an exchange of the claim word that found this, and takes all numbers from a first card to a last one if it is won,
--- leaves of a pass what it is to know, and that names what is in its table; and the last card is a fresh one
-abbrev pub RowTells : TablePlan → ℕ → ℕ → NewNode → PassModel → ℕ → View → Type 0
-RowTells plan first last node p n w =
-    (w ≡ after_claimed_row (n == first) first last node p.view) × IsInside plan w
-    × IsFresh plan p.slot (n == first) last

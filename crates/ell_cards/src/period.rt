@@ -4,7 +4,7 @@
 ghost use Rattle.std.specs.Prelude.{◌≡◌, ℕ, ◌≢◌, ◌⊎◌, ◌≤◌, ◌<◌, ◌+◌, ◌%◌, ◌==◌, max, if◌then◌else◌, is_some, None, Some, true, false, IfSome};
 ghost use prog.Atomic.{either};
 ghost use Rattle.ell_word.specs.Node.{greatest_card};
-ghost use Rattle.ell_grace.specs.Grace.{least_with};
+ghost use Rattle.ell_grace.specs.epochs.Grace.{least_with};
 ghost use Rattle.ell_cards.specs.Models.{last_slot_of};
 ghost use Rattle.ell_cards.specs.Frames.{IsSeatOf, IsSeatWithSlots, KeepsSafe, LeavesTree, StandsStill};
 ghost use Rattle.ell_cards.specs.Inside.{PlaceFits};

@@ -1,4 +1,4 @@
-//! The table, and its one atomic step of each kind, of which a gate is told just before.
+//! The table, and the atomic steps of its passes on words, each told to a gate just before it is made.
 ghost use Rattle.std.specs.Prelude.{◌==◌, ◌≡◌, ◌≢◌, ℕ, ◌<◌, ◌≤◌, ◌+◌, None, Some, true};
 ghost use prog.Atomic.{either};
 ghost use Rattle.ell_core.specs.declared.fact.Fact.{Fact};

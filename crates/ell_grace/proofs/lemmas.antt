@@ -4,8 +4,8 @@ pub mod outs
 pub mod since
 -- So it is in every run.
 pub mod Runs
--- Grace periods.
-pub mod Grace
+-- Reclamation by epochs, which knows no tree.
+pub mod epochs
 -- The premises of the laws can be met.
 pub mod Premises
 -- A run in which the node that an edge insert names is gone.

@@ -8,10 +8,8 @@ pub mod Operations
 pub mod Looks
 -- An insert's card may name a node that is gone.
 pub mod Edges
--- The state that grace periods are about, and its steps.
-pub mod Grace
--- What its steps keep, and what was gone when a slot is taken.
-pub mod Periods
+-- How memory is reclaimed by epochs, whatever lies in it: passes announce readings of a clock. No tree is in this.
+pub mod epochs
 -- The premises of the laws can be met.
 pub mod Premises
 -- A state that comes from an earlier one.

@@ -3,8 +3,8 @@ use Rattle.ell_core.specs.state.Machine.{Machine}
 use Rattle.ell_core.specs.acts.Searching.{at_root}
 use Rattle.ell_core.specs.statements.RunLaws.{IsPassed}
 use Rattle.ell_grace.specs.Gone.{IsGone, HasOuts}
-use Rattle.ell_grace.specs.Grace.{Grace, GraceStep}
-use Rattle.ell_grace.specs.Periods.{IsStart}
+use Rattle.ell_grace.specs.epochs.Grace.{Grace, GraceStep}
+use Rattle.ell_grace.specs.epochs.Periods.{IsStart}
 
 -- a state of a run in which a worker begins at the root when a node is gone, however far the cards are said to have come
 pub record BeginsWhenGone : Type 0 where

@@ -6,7 +6,7 @@ ghost use Rattle.ell_grace.specs.Since.{StatesComeFromThemselves, EventsLeadOn, 
 ghost use Rattle.ell_grace.specs.Dead.{EveryStateHasUses, UsesBegin, EventsKeepUses, DeadStaysDead, DeadCardsHaveEnded, NeverComesStaysOut, TakenOutHadCome, ChildrenWereNotDead, WhatCameIsInOrOut};
 ghost use Rattle.ell_grace.specs.Tags.{EveryStateHasTags, TagsBegin, TagsLeadOn, TagsRiseByCards, TagsLagLittle};
 ghost use Rattle.ell_grace.specs.Edges.{EdgeNodeIsGone};
-ghost use Rattle.ell_grace.specs.Periods.{GraceStarts, GraceGoesOn, TakenCardsWereGone};
+ghost use Rattle.ell_grace.specs.epochs.Periods.{GraceStarts, GraceGoesOn, TakenCardsWereGone};
 ghost use Rattle.ell_grace.specs.Premises.{BeginsWhenGone, TakesWhenBusy};
 
 /// A node is gone for good once a card that took it out of the tree has ended. A worker that begins an operation at the root

@@ -9,15 +9,12 @@ use Rattle.ell_cards.specs.declared.view.Hindrance.TheVariants.{Claim, Found}
 use Rattle.ell_cards.specs.declared.view.View.{View}
 use Rattle.ell_cards.specs.Models.{Knows}
 use Rattle.ell_cards.specs.Changes.{in_the_way}
-
--- a delete whose flag was won is known to have ended: its parent was cut out, or its flag taken back
-abbrev pub IsDeleteEnded : View → ℕ → Type 0
-IsDeleteEnded v c = Knows v (fact.DOver c) ⊎ Knows v (fact.Backed c)
+use Rattle.ell_cards.specs.Dead.{KnowsDeleteEnded}
 
 -- what a flag or a mark of a card says is under way is known to have ended
 abbrev pub IsEnded : View → State → ℕ → Type 0
 IsEnded v state.IFlag c = Knows v (fact.IOver c)
-IsEnded v state.DFlag c = IsDeleteEnded v c
+IsEnded v state.DFlag c = KnowsDeleteEnded v c
 IsEnded v state.Mark c = Knows v (fact.DOver c)
 IsEnded v state.Clean c = Unit {0}
 
@@ -46,7 +43,7 @@ pub record Meets (v w : View) : Type 0 where
 pub record MeetsUpTo (c : ℕ) (v w : View) : Type 0 where
   pub met : List Hindrance
   pub list : w.hindrances ≡ met ++ v.hindrances
-  pub over : (x : View) → StillKnows w x → IsDeleteEnded x c → AreOver x met
+  pub over : (x : View) → StillKnows w x → KnowsDeleteEnded x c → AreOver x met
   pub knows : StillKnows v w
 
 -- what a search has read in the way of an operation, where it stands

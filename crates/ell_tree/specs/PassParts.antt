@@ -10,6 +10,7 @@ use Rattle.ell_tree.specs.Milestones.{milestones_known}
 use Rattle.ell_tree.specs.Ledgers.{TreeModel, ledger, present_in, answers, hindrances, IsIdle}
 pub use Rattle.ell_core.specs.state.Opening.{start_entry}
 use Rattle.ell_core.specs.declared.view.Entry.{Entry}
+use Rattle.ell_core.specs.statements.Premises.{entry_or}
 
 -- the first pass of a tree: it owns the keys of the tree's plan, of which the start keys are present with their values,
 -- and the others absent; it has the whole share, and has seen nothing of the tree's history
@@ -73,16 +74,11 @@ pub record IsRightPart (keys : List ℕ) (p part : PassModel) : Type 0 where
   pub outside : part.inside ≡ false
   pub sight : part.sight ≡ given_sight p.sight
 
--- an entry of one ledger, or else of another
-abbrev pub or_else : Option Entry → Option Entry → Option Entry
-or_else (Some present) other = Some present
-or_else None other = other
-
 -- two passes in one: it has the keys and the calls of both, adds the counts, and has the later reading of the claim word,
 -- the left one's safe number, and the longer one of the beginnings of the history that they have seen
 pub record IsUnion (left right both : PassModel) : Type 0 where
   pub own : both.table ≡ left.table
-  pub ledger : (k : ℕ) → ledger both k ≡ or_else (ledger left k) (ledger right k)
+  pub ledger : (k : ℕ) → ledger both k ≡ entry_or (ledger left k) (ledger right k)
   pub answers : answers both ≡ answers left + answers right
   pub hindrances : hindrances both ≡ hindrances left + hindrances right
   pub hindered : both.view.hindered ≡ left.view.hindered + right.view.hindered

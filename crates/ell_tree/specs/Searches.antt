@@ -67,17 +67,6 @@ abbrev pub FitsBelow : ℕ → View → Op → ℕ → Type 0
 FitsBelow from w (Insert k value) x = has_block from x ≡ true → (key : ℕ) × IsTold w (Key x key) × InBlockOf key k
 FitsBelow from w _ x = Unit {0}
 
--- a search stands at a node, below a parent and perhaps a grandparent
-pub record Stands (plan : TablePlan) (w : View) (op : Op) (node : ℕ) (parent : Passed) (grandparent : Option Passed) : Type 0 where
-  pub search : w.worker.search ≡ below node parent (seen_any grandparent)
-  pub met : IsTold w (Met node)
-  pub there : InTable plan.last_card node
-  pub passed : KnowsPassed plan.last_card w parent
-  pub passed_above : IfSome grandparent (λ x. KnowsPassed plan.last_card w x)
-  pub fits : FitsBelow (flat_from plan) w op parent.node
-  pub unknown : EndWasUnknownAt w parent
-  pub unknown_above : IfSome grandparent (EndWasUnknownAt w)
-
 -- a search stands at the node of a place, and was told its key and, of a leaf, its value
 pub record IsAt (w : View) (place : Place) : Type 0 where
   pub search : w.worker.search ≡ below place.node place.parent (seen_any place.grandparent)

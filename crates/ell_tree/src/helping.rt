@@ -9,7 +9,8 @@ ghost use Rattle.ell_cards.specs.declared.view.Told.TheVariants as told;
 ghost use Rattle.ell_cards.specs.Models.{IsTold, Knows};
 ghost use Rattle.ell_cards.specs.Depths.{deepest, depth_of};
 ghost use Rattle.ell_tree.specs.Helps.{DeleteEnds, HasSibling, HelpEnds, IsFlag, IsInsert, KnowsMark, IsParent, chain_steps, help_steps};
-ghost use Rattle.ell_tree.specs.Hindrances.{IsDeleteEnded, IsEnded, Meets};
+ghost use Rattle.ell_cards.specs.Dead.{KnowsDeleteEnded};
+ghost use Rattle.ell_tree.specs.Hindrances.{IsEnded, Meets};
 ghost use Rattle.ell_tree.specs.Keeping.{IsSeenAt, KeepsAll, KeepsAllButMet};
 
 use crate::steps::{
@@ -183,7 +184,7 @@ pub(crate) fn help_delete<M: Memory, G: StepGate>(
     ensures keeps_but_met { KeepsAllButMet pass.old pass.new
         (chain_steps (deepest steps.entry.table.now.plan) (depth_of pass.old.view flag.grandparent)) }
     ensures meets { Meets pass.old.view pass.new.view }
-    ensures ended { IsDeleteEnded pass.new.view flag.card }
+    ensures ended { KnowsDeleteEnded pass.new.view flag.card }
 {
     let mut flag = flag;
     while let Ending::Behind(next) = help_one_delete(steps, pass, flag) {

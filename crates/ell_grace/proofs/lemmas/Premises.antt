@@ -16,7 +16,7 @@ use Rattle.ell_core.proofs.lemmas.stages.Order.{insert_over-changed}
 use Rattle.ell_core.proofs.lemmas.runs.Passed.{passed_on}
 use Rattle.ell_core.proofs.lemmas.runs.SmallRun.{over_state, answered_state, at, by, answers, over_passed}
 use Rattle.ell_core.proofs.lemmas.outcomes.Decide.{some_not_none}
-use Rattle.ell_grace.specs.Grace.{Grace, least_with, ticks, dies, begins, stamps, frees, scans, looks, settles}
+use Rattle.ell_grace.specs.epochs.Grace.{Grace, least_with, ticks, dies, begins, stamps, frees, scans, looks, settles}
 use Rattle.ell_grace.specs.Premises.{BeginsWhenGone, IsLedTo, start, more, TakesWhenBusy}
 
 -- after the small run, in which card 1 took leaf 1 out of the tree, its worker takes a find in hand

@@ -13,10 +13,11 @@ use Rattle.ell_ops.specs.declared.op.Op.{Op}
 use Rattle.ell_ops.specs.declared.op.Op.TheVariants.{Find}
 use Rattle.ell_ops.specs.KeySet.{Lists}
 use Rattle.ell_ops.specs.Meaning.{key_of, final}
+use Rattle.ell_core.specs.statements.Premises.{entry_or}
 use Rattle.ell_parts.specs.PartedOps.{PartedOps, IsLawful, part, keys_of_part}
 use Rattle.ell_cards.specs.Models.{TablePlan}
 use Rattle.ell_tree.specs.Ledgers.{PassModel, TreeModel, Owns, ledger, present_in, Entry}
-use Rattle.ell_tree.specs.PassParts.{IsUnion, or_else}
+use Rattle.ell_tree.specs.PassParts.{IsUnion}
 use Rattle.ell_run.specs.Pieces.{all_not_done, ops_done}
 use Rattle.ell_run.specs.Work.{AreHalves, AreNotDone, AreReady, IsWorked, OwnsKeysOf, keys_for}
 use Rattle.ell_run.proofs.lemmas.ByParts.{in_part}
@@ -136,9 +137,9 @@ none_or : (o : Option Entry) → ((o ≢ None) → ⊥) → o ≡ None
 none_or None never = refl
 none_or (Some b) never = absurd (never (λ e. cc))
 
-or_else_none : (o : Option Entry) → or_else o None ≡ o
-or_else_none None = refl
-or_else_none (Some b) = refl
+entry_or_none : (o : Option Entry) → entry_or o None ≡ o
+entry_or_none None = refl
+entry_or_none (Some b) = refl
 
 -- a key that a pass does not own it does not own after work
 none_after : (p q : PassModel) (key : ℕ) → (Owns q key → Owns p key) → ledger p key ≡ None → ledger q key ≡ None
@@ -200,10 +201,10 @@ module _ (tree : TreeModel) (parting : PartedOps) (low high : List ℕ) (pass le
     -- the ledger of both at a key is that of its half
     ledger_at_left : (key : ℕ) → IsLeft parting high pass left right key → ledger both key ≡ ledger first key
     ledger_at_left key l =
-        union.ledger key ∙ ap (or_else (ledger first key)) (none_after right second key (other.owned key).0 l.none) ∙ or_else_none (ledger first key)
+        union.ledger key ∙ ap (entry_or (ledger first key)) (none_after right second key (other.owned key).0 l.none) ∙ entry_or_none (ledger first key)
 
     ledger_at_right : (key : ℕ) → IsRight parting low pass left right key → ledger both key ≡ ledger second key
-    ledger_at_right key r = union.ledger key ∙ ap (λ o. or_else o (ledger second key)) (none_after left first key (did.owned key).0 r.none)
+    ledger_at_right key r = union.ledger key ∙ ap (λ o. entry_or o (ledger second key)) (none_after left first key (did.owned key).0 r.none)
 
     set_at : (key : ℕ) → present_in both key ≡ final (present_in pass) (ops_done parting low ps ++ ops_done parting high qs) key
     set_at key =

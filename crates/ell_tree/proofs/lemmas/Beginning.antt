@@ -57,24 +57,6 @@ begins_anew old new op s busy =
       took = took_one old (anew (Some op) old.view) refl;
     })
 
--- a first try stands at the root already, and has met nothing
-pub begins_first : (p : PassModel) (op : Op) → AtRoot op p.view → Begins op (way_of op p.view) (tries_hindered p.view) p p
-begins_first p op at = record {
-  table = refl;
-  label = refl;
-  ledger = refl;
-  calls = refl;
-  share = record { share = refl; ownable = refl };
-  hindrances = ap (λ hs. hs ++ p.view.hindrances) (sym (root_way op p.view at.root));
-  hindered = sym (root_hindered op p.view at);
-  knows = λ f h. h;
-  before = at.before;
-  least = refl;
-  root = at;
-  taken = refl;
-  took = took_none p 1;
-}
-
 -- an operation that is laid down
 pub lays : (old new : PassModel) (op : Op) → EndsBy old new (after_leave old.view) → Does old.view op → Lays op old new
 lays old new op s busy = subst (λ (m : PassModel). Lays op old m) (sym s) (record {

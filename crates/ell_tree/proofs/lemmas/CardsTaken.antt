@@ -39,13 +39,6 @@ pub no_claims : (won : Bool) (k : Exchange) (c : ℕ) (es : List (Exchange × �
 no_claims true k c es other = ap (λ (b : Bool). if b then claims_in es + 1 else claims_in es) other
 no_claims false k c es other = refl
 
--- such an exchange, from which a fact is learnt, takes no card
-pub learning_walks : (old new : PassModel) (won : Bool) (k : Exchange) (c n : ℕ) (f : Fact) → is_claim k ≡ false
-    → Steps old new (exchanged (if_won won k c) n (with_fact f old.view)) → KeepsAll old new 1
-learning_walks old new won k c n f other s =
-    keeps_all_step old new (exchanged (if_won won k c) n (with_fact f old.view)) s (learning_keeps (if_won won k c) n f old.view) refl
-    (no_claims won k c old.view.won other) refl refl refl refl
-
 -- a step to a view with the same claims
 pub takes_none : (old new : PassModel) (v : View) → Steps old new v → claims_in v.won ≡ claims_in old.view.won → TakesNoCard old new
 takes_none old new v s same = ap (λ (p : PassModel). cards_taken p) s ∙ same

@@ -99,9 +99,6 @@ module _ (a b e : PassModel) (first : ℕ) (node : NewNode) (read : Steps a b (a
   pub may_lay_aside : (plan : TablePlan) → HoldsAside plan a → MayInTable plan e (call.Claim first node)
   may_lay_aside plan hand s is c h took = hand.aside (λ none. some_not_none is none) c (sym same_card ∙ h.0) (sym same_slot ∙ took)
 
-  pub lets_go_there : (plan : TablePlan) → HoldsAside plan a → LetsGo plan e
-  lets_go_there plan hand = lets_aside_go plan a e same_card same_flagged same_slot hand
-
   -- it tried to claim all cards from that to a last one
   module _ (d : PassModel) (last : ℕ) (order : first ≤ last) where
     abbrev ClaimsAll : Bool → Type 0

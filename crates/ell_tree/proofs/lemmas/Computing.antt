@@ -24,7 +24,7 @@ use Rattle.ell_tree.specs.Computing.{IsUntouched, Concludes, LastChangesNothing,
 use Rattle.ell_tree.specs.Promises.{MayDo}
 use Rattle.ell_tree.proofs.lemmas.Called.{its_take, by_take}
 use Rattle.ell_tree.proofs.lemmas.Keeping.{share_trans}
-use Rattle.ell_tree.proofs.lemmas.Sights.{no_change_call, no_change_last, no_change_more, no_change_self, no_change_trans, sees_last, sees_last_after}
+use Rattle.ell_tree.proofs.lemmas.Sights.{no_change_call, no_change_more, no_change_self, no_change_trans, sees_last, sees_last_after}
 
 -- an operation that leaves what a pass has, if the key is its own
 abbrev pub LeavesOwn : Op → PassModel → Type 0
@@ -133,23 +133,6 @@ pub reads_after : (t : TreeModel) (key : ℕ) (was : Option ℕ) (p q r : PassMo
 reads_after t key was p q r g (inl h) = inl (concludes_after t (Find key) (found was) p q r g h)
 reads_after t key was p q r g (inr h) = inr (h.0, h.1, h.2, concludes_after t (Swap key h.0 h.1) (found was) p q r g h.3)
 
--- a call that only reads leaves what a pass has
-reads_keep : (t : TreeModel) (op : Op) (said : Reply) (p q : PassModel) → LeavesOwn op p → said ≢ reply_of_change op → Concludes t op said p q → IsUntouched p q
-reads_keep t op said p q leaves other h = let last = its_take op (λ took. SeesLast op said took p.sight q.sight) h.sees in record {
-  table = h.table;
-  label = h.label;
-  map = λ key. elim (cases_option (ledger p (key_of op))) [
-    | inl is ↦ (let owns : Owns p (key_of op) = λ none. some_not_none is.1 none in h.map owns key ∙ leaves owns key)
-    | inr none ↦ h.stays (λ owns. owns none) key
-  ];
-  owned = h.owned;
-  answered = let one = h.answered in omega arith;
-  share = h.share;
-  idle = h.idle;
-  outside = λ was. h.outside;
-  sees = no_change_last op said last.0 p.sight q.sight other last.1;
-}
-
 -- a find leaves everything
 pub find_leaves : (key : ℕ) (p : PassModel) → LeavesOwn (Find key) p
 find_leaves key p owns k = refl
@@ -179,14 +162,6 @@ found_own t key was p q h owns = sym (found_one was (present_in p key) (h.says o
 pub reads_own : (t : TreeModel) (key : ℕ) (was : Option ℕ) (p q : PassModel) → ReadsValue t key was p q → Owns p key → present_in p key ≡ was
 reads_own t key was p q (inl h) owns = found_own t key was p q h owns
 reads_own t key was p q (inr h) owns = sym (found_one was (present_in p key) (h.3.says owns))
-
--- and reading changes nothing
-pub reads_leave : (t : TreeModel) (key : ℕ) (was : Option ℕ) (p q : PassModel) → ReadsValue t key was p q → IsUntouched p q
-reads_leave t key was p q (inl h) = reads_keep t (Find key) (found was) p q (find_leaves key p) (found_not_yes was) h
-reads_leave t key was p q (inr h) =
-    reads_keep t (Swap key h.0 h.1) (found was) p q
-    (λ owns k. left_by (present_in p) key h.0 h.1 (present_in p key) refl
-    (λ e. h.2 (found_one was (present_in p key) (h.3.says owns) ∙ e)) k) (λ e. h.2 (found_one was (Some h.0) e)) h.3
 
 -- a pass is as it is
 pub untouched_self : (p : PassModel) → IsIdle p → IsUntouched p p

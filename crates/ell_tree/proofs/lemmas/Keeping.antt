@@ -87,15 +87,6 @@ keeps_but_met_trans a b c m n k h h' le = record {
 keeps_within : (a b : PassModel) (m n : ℕ) → Keeps a b m → m ≤ n → Keeps a b n
 keeps_within a b m n h le = record { table = h.table; label = h.label; sight = h.sight; slot = h.slot; view = h.view; took = took_within a b m n h.took le }
 
-pub keeps_but_met_within : (a b : PassModel) (m n : ℕ) → KeepsAllButMet a b m → m ≤ n → KeepsAllButMet a b n
-keeps_but_met_within a b m n h le = record {
-  keeps = keeps_within a b m n h.keeps le;
-  taken = h.taken;
-  card = h.card;
-  flagged = h.flagged;
-  search = h.search;
-}
-
 pub keeps_but_met_of : (a b : PassModel) (n : ℕ) → KeepsAll a b n → KeepsAllButMet a b n
 keeps_but_met_of a b n h = record { keeps = h.keeps; taken = h.taken; card = h.card; flagged = h.flagged; search = h.search }
 
@@ -129,12 +120,6 @@ keeps_all_none a n = record {
   search = refl;
   hindrances = refl;
 }
-
-pub keeps_but_met_told : (a b : PassModel) (n : ℕ) (e : Told) → KeepsAllButMet a b n → IsTold a.view e → IsTold b.view e
-keeps_but_met_told a b n e w h = w.keeps.view.told e h
-
-pub keeps_but_met_knows : (a b : PassModel) (n : ℕ) (f : Fact) → KeepsAllButMet a b n → Knows a.view f → Knows b.view f
-keeps_but_met_knows a b n f w h = w.keeps.view.knows f h
 
 -- what was told and known stays so
 pub keeps_all_told : (a b : PassModel) (n : ℕ) (e : Told) → KeepsAll a b n → IsTold a.view e → IsTold b.view e
@@ -178,12 +163,6 @@ place_told x state.Clean c v w f t = tt
 -- a step to a view that keeps these
 pub keeps_step : (old new : PassModel) (v : View) → Steps old new v → LosesNothing old.view v → v.made ≡ old.view.made + 1 → Keeps old new 1
 keeps_step old new v s k made = subst (λ (m : PassModel). Keeps old m 1) (sym s) (record { table = refl; label = refl; sight = refl; slot = refl; view = k; took = took_one old v made })
-
-pub keeps_but_search_step : (old new : PassModel) (v : View) → Steps old new v → LosesNothing old.view v → v.made ≡ old.view.made + 1 → claims_in v.won ≡ claims_in old.view.won → v.worker.card ≡ old.view.worker.card
-    → v.worker.flagged ≡ old.view.worker.flagged → v.hindrances ≡ old.view.hindrances → KeepsAllButSearch old new 1
-keeps_but_search_step old new v s k made taken card flagged hindrances =
-    subst (λ (m : PassModel). KeepsAllButSearch old m 1) (sym s)
-    (record { keeps = record { table = refl; label = refl; sight = refl; slot = refl; view = k; took = took_one old v made }; taken = taken; card = card; flagged = flagged; hindrances = hindrances })
 
 -- a step that is not counted yet, to such a view
 pub keeps_but_search_unseen : (old new : PassModel) (v : View) → Sees old new v → LosesNothing old.view v → v.made ≡ old.view.made + 1 → claims_in v.won ≡ claims_in old.view.won → v.worker.card ≡ old.view.worker.card

@@ -16,12 +16,13 @@ use Rattle.ell_cards.specs.Models.{Knows}
 use Rattle.ell_cards.specs.Changes.{in_the_way, first_in_way, read_in_way, unless_clean, is_this}
 use Rattle.ell_cards.proofs.lemmas.words.Updates.{card_again}
 use Rattle.ell_tree.specs.declared.searching.Passed.{Passed}
-use Rattle.ell_tree.specs.Hindrances.{IsDeleteEnded, IsEnded, AreOver, StillKnows, Meets, MeetsUpTo, way_of}
+use Rattle.ell_tree.specs.Hindrances.{IsEnded, AreOver, StillKnows, Meets, MeetsUpTo, way_of}
 use Rattle.ell_tree.specs.Helps.{IsBacked, met_by_mark}
 use Rattle.ell_tree.specs.Searches.{seen, seen_any, below}
+use Rattle.ell_cards.specs.Dead.{KnowsDeleteEnded}
 
 -- what is over stays so
-pub delete_ended_still : (v w : View) (c : ℕ) → StillKnows v w → IsDeleteEnded v c → IsDeleteEnded w c
+pub delete_ended_still : (v w : View) (c : ℕ) → StillKnows v w → KnowsDeleteEnded v c → KnowsDeleteEnded w c
 delete_ended_still v w c k (inl h) = inl (k (fact.DOver c) h)
 delete_ended_still v w c k (inr h) = inr (k (fact.Backed c) h)
 
@@ -56,7 +57,7 @@ meets_trans u v w a b = record {
 }
 
 -- all that waited for a delete is over with it
-pub up_to_end : (c : ℕ) (u v w : View) → MeetsUpTo c u v → Meets v w → IsDeleteEnded w c → Meets u w
+pub up_to_end : (c : ℕ) (u v w : View) → MeetsUpTo c u v → Meets v w → KnowsDeleteEnded w c → Meets u w
 up_to_end c u v w a b e = record {
   met = b.met ++ a.met;
   list = b.list ∙ (ap (λ hs. b.met ++ hs) a.list ∙ sym (append_assoc b.met a.met u.hindrances));
@@ -67,7 +68,7 @@ up_to_end c u v w a b e = record {
 pub up_to_none : (c : ℕ) (v : View) → MeetsUpTo c v v
 up_to_none c v = record { met = []; list = refl; over = λ x k e. tt; knows = λ f h. h }
 
-pub up_to_trans : (c d : ℕ) (u v w : View) → MeetsUpTo c u v → MeetsUpTo d v w → IsDeleteEnded w c → MeetsUpTo d u w
+pub up_to_trans : (c d : ℕ) (u v w : View) → MeetsUpTo c u v → MeetsUpTo d v w → KnowsDeleteEnded w c → MeetsUpTo d u w
 up_to_trans c d u v w a b e = record {
   met = b.met ++ a.met;
   list = b.list ∙ (ap (λ hs. b.met ++ hs) a.list ∙ sym (append_assoc b.met a.met u.hindrances));

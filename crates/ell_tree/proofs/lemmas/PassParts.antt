@@ -15,13 +15,14 @@ use Rattle.ell_cards.proofs.lemmas.words.Keys.{ledger_at_start, present_at_start
 use Rattle.ell_cards.proofs.lemmas.lifetimes.Parts.{parts_on, parts_off}
 use Rattle.ell_cards.proofs.lemmas.lifetimes.Unions.{ledger_united}
 use Rattle.ell_tree.proofs.lemmas.CardsTaken.{claims_append}
-use Rattle.ell_tree.specs.PassParts.{IsFirst, IsLeftPart, IsRightPart, IsUnion, or_else}
+use Rattle.ell_tree.specs.PassParts.{IsFirst, IsLeftPart, IsRightPart, IsUnion}
 use Rattle.ell_core.specs.declared.view.Entry.{Entry}
 use Rattle.ell_core.specs.declared.view.Entry.TheVariants.{Present, Absent}
 use Rattle.ell_core.specs.statements.Effects.{value_in}
 use Rattle.ell_core.specs.state.Opening.{keys_at_start}
 use Rattle.ell_ops.specs.Contents.{contents_of}
 use Rattle.ell_core.specs.state.Opening.{start_entry}
+use Rattle.ell_core.specs.statements.Premises.{entry_or}
 
 -- what holds of a result by what held of it
 pub if_ok : {T E : Type 0} (P Q : T → Type 0) (r : Result T E) → ((x : T) → P x → Q x) → IfOk r P → IfOk r Q
@@ -123,14 +124,14 @@ right_part keys p part s = subst (IsRightPart keys p) (sym s) (record {
 })
 
 -- two ledgers in one
-first_or_else : (a b : Option Entry) → a ≢ None → or_else a b ≡ a
+first_or_else : (a b : Option Entry) → a ≢ None → entry_or a b ≡ a
 first_or_else (Some x) b some = refl
 first_or_else None b some = absurd (some refl)
 
-both_ledger : (l m : List (ℕ × Entry)) (k : ℕ) → ledger_of (united_ledgers l m) k ≡ or_else (ledger_of l k) (ledger_of m k)
+both_ledger : (l m : List (ℕ × Entry)) (k : ℕ) → ledger_of (united_ledgers l m) k ≡ entry_or (ledger_of l k) (ledger_of m k)
 both_ledger l m k = elim (ledger_united l m k) [
   | inl h ↦ h.0 ∙ sym (first_or_else (ledger_of l k) (ledger_of m k) h.1)
-  | inr h ↦ h.1 ∙ sym (ap (λ a. or_else a (ledger_of m k)) h.0)
+  | inr h ↦ h.1 ∙ sym (ap (λ a. entry_or a (ledger_of m k)) h.0)
 ]
 
 pub union : (left right both : PassModel)

@@ -126,9 +126,3 @@ put_done (Delete k) what is = absurd cc
 put_done (Swap k was value) what is =
     subst (IsDone (Swap k was value)) (same_Some (replacing k was value) what is)
     (record { says = refl; reply = refl; changes = eq-eqb was was refl })
-
-pub put_over : (op : Op) (what : Put) → put_of op ≡ Some what → (v : View) (c : ℕ) → Knows v (IOver c) → CardIsOver v op c
-put_over (Find k) what is v c over = absurd cc
-put_over (Insert k value) what is v c over = over
-put_over (Delete k) what is v c over = absurd cc
-put_over (Swap k was value) what is v c over = over

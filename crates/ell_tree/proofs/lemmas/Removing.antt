@@ -53,10 +53,6 @@ pub not_at : (plan : TablePlan) (p q : PassModel) (place : Place) (key was : ℕ
 not_at plan p q place key was same ends e owns = λ had.
     is_other was (there_at place key) e (sym (has_there plan p q same place (Delete key) ends owns) ∙ had)
 
--- an operation whose search has ended, without a card, may be laid down
-pub searched_stops : (plan : TablePlan) (op : Op) (place : Place) (v : View) → HasSearched plan op place v → MayStop (worker_of v.worker)
-searched_stops plan op place v h = record { op = op; busy = h.busy; backed = λ c is flagged. absurd (some_not_none is h.no_card) }
-
 -- an operation that begins, halts at its only try, and is laid down
 pub halts_laid : (t : TreeModel) (op : Op) (p q r s : PassModel) (n : ℕ) → Begins op [] n p q → SeesBegin op p.sight q.sight → Halts op q r → Lays op r s → LaidDown t op p s
 halts_laid t op p q r s n begins sees halts lays = record {

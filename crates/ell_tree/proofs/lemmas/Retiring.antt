@@ -60,13 +60,6 @@ own_nodes_dead v c ended (suc zero) is = (omega arith, inl ended)
 own_nodes_dead v c ended (suc (suc zero)) is = (omega arith, inl ended)
 own_nodes_dead v c ended (suc (suc (suc i))) is = absurd (false≢true is)
 
--- a delete that is over has taken its parent and its leaf out
-pub parent_dead : (v : View) (c x : ℕ) → v.worker.card ≡ Some c → Knows v (fact.DOver c) → IsTold v (Info c field.P x) → HasTakenOut v x
-parent_dead v c x hand over told = (c, hand, inr (over, inl told))
-
-pub leaf_dead : (v : View) (c x : ℕ) → v.worker.card ≡ Some c → Knows v (fact.DOver c) → IsTold v (Info c field.L x) → HasTakenOut v x
-leaf_dead v c x hand over told = (c, hand, inr (over, inr told))
-
 module _ (what : Put) (place : Place) (v : View) (c : ℕ) (h : HasPut what place v c) where
   -- a card that went to a node of its key has leaves of one key
   one_key : place.key ≡ what.key → KnowsOneKey v c
@@ -78,19 +71,9 @@ module _ (what : Put) (place : Place) (v : View) (c : ℕ) (h : HasPut what plac
         right = subst (λ k. IsTold v (Info c field.RightLeafKey k)) greater h.right_key;
       }
 
-  -- it has taken out the leaf where it went
-  pub below_dead : place.key ≡ what.key → HasTakenOut v place.node
-  below_dead same = (c, h.card, inl (h.over, one_key same, h.below))
-
   -- and what is not its right leaf never comes
   replaced_dead : (x : ℕ) → place.key ≡ what.key → card x ≡ c → x ≢ right_leaf c → KnowsNeverComes v c x
   replaced_dead x same on other = (on, inr (h.over, inl (record { same = one_key same; other = other })))
-
-  pub replaced_nodes_dead : place.key ≡ what.key → NeverCome v c (record { internal = true; left = true; right = false })
-  replaced_nodes_dead same zero is = replaced_dead (4 * c + 0) same (omega arith) (λ e. omega arith)
-  replaced_nodes_dead same (suc zero) is = replaced_dead (4 * c + 1) same (omega arith) (λ e. omega arith)
-  replaced_nodes_dead same (suc (suc zero)) is = absurd (false≢true is)
-  replaced_nodes_dead same (suc (suc (suc i))) is = absurd (false≢true is)
 
   -- above a node of another key the leaf of that key is not used
   unused_dead : (x : ℕ) → place.key ≢ what.key → card x ≡ c

@@ -21,7 +21,7 @@ use Rattle.ell_tree.specs.Ledgers.{TreeModel}
 use Rattle.ell_tree.specs.Looks.{stretch_steps}
 use Rattle.ell_tree.specs.Scans.{AreFoundIn, AreInOrder, HaveFound, HasFoundLast, HasFoundNext, IsLastIn, IsNextIn, value_there}
 use Rattle.ell_tree.proofs.lemmas.Cursors.{come_on}
-use Rattle.ell_tree.proofs.lemmas.Stretching.{Stretches, stretches_none, stretches_more}
+use Rattle.ell_tree.proofs.lemmas.Stretching.{Stretches, stretches_more}
 use Rattle.ell_cards.specs.Depths.{deepest}
 
 -- what a look has found of a key stays found while it goes on
@@ -82,14 +82,6 @@ pub record Gathers (v : View) (from at upto : ℕ) (pairs : List (ℕ × ℕ)) :
   pub ascending : IsStrictlyIncreasing (keys_of pairs)
   pub within : All (λ key. (from ≤ key) × (key < at) × (key < upto)) (keys_of pairs)
 
--- as it begins
-gathers_none : (v : View) (from upto : ℕ) → Gathers v from from upto []
-gathers_none v from upto = record {
-  found = λ key low less more. absurd (omega arith);
-  ascending = λ k low. absurd (omega arith);
-  within = λ k d low. absurd (omega arith);
-}
-
 module _ (old new : PassModel) (n from at high upto : ℕ) (pairs : List (ℕ × ℕ)) (g : Gathers old.view from at upto pairs) (on : KeepsLooking old new n)
     (began : from ≤ at) (deeper : at < high) where
   -- no pair so far has a key from here on
@@ -141,20 +133,6 @@ pub record Scans (plan : TablePlan) (old now : PassModel) (from at upto count : 
   pub own : from < at → ReadsItsOwn now.view
   pub one : now.view.looks ≡ old.view.looks + 1
   pub stretches : Stretches plan (λ key. nat_le key at) (at < upto) old now
-
--- as it begins
-pub scans_first : (plan : TablePlan) (old now : PassModel) (from upto : ℕ) (before : List Pair) → BeginsALook old now
-    → Scans plan old now from from upto 0 before before
-scans_first plan old now from upto before begins = record {
-  began = omega arith;
-  gathers = gathers_none now.view from upto;
-  fits = omega arith;
-  long = refl;
-  rest = refl;
-  own = λ less. absurd (omega arith);
-  one = begins.one;
-  stretches = stretches_none plan (λ key. nat_le key from) (from < upto) old now begins;
-}
 
 module _ (plan : TablePlan) (old now new : PassModel) (from at upto count : ℕ) (before room : List Pair) (s : Scans plan old now from at upto count before room)
     (about : About) (more : at < upto) (real : upto ≤ greatest_key + 1) (finds : FindsAbout plan.last_card new.view at about) (fixed : KeysAreFixed new.view)
@@ -222,15 +200,6 @@ pub record Descends (plan : TablePlan) (old now : PassModel) (below upto : ℕ) 
   pub found : (key : ℕ) → below ≤ key → key < upto → HasFound now.view key None
   pub one : now.view.looks ≡ old.view.looks + 1
   pub stretches : Stretches plan (λ key. nat_le below key) (0 < below) old now
-
--- as it begins
-pub descends_first : (plan : TablePlan) (old now : PassModel) (upto : ℕ) → BeginsALook old now → Descends plan old now upto upto
-descends_first plan old now upto begins = record {
-  most = omega arith;
-  found = λ key low less. absurd (omega arith);
-  one = begins.one;
-  stretches = stretches_none plan (λ key. nat_le upto key) (0 < upto) old now begins;
-}
 
 module _ (plan : TablePlan) (old now new : PassModel) (below upto : ℕ) (d : Descends plan old now below upto) (about : About) (more : 0 < below)
     (finds : FindsAbout plan.last_card new.view (below - 1) about) (fixed : KeysAreFixed new.view) (on : KeepsLooking now new (stretch_steps (deepest plan))) where

@@ -33,11 +33,22 @@ use Rattle.ell_tree.specs.declared.searching.Place.{Place}
 use Rattle.ell_tree.specs.Keeping.{LosesNothing, KeepsAllButSearch, IsInnerMet, IsSeenAt}
 use Rattle.ell_word.specs.declared.update.State.TheVariants as state
 use Rattle.ell_core.specs.declared.fact.Fact.{Fact}
-use Rattle.ell_tree.specs.Searches.{AtRoot, seen_any, below, KnowsPassed, EndWasUnknownAt, EndsAbove, MayPass, FitsBelow, Stands, IsAt, there_at, EndsAt, HasSearched}
+use Rattle.ell_tree.specs.Searches.{AtRoot, seen_any, below, KnowsPassed, EndWasUnknownAt, EndsAbove, MayPass, FitsBelow, IsAt, there_at, EndsAt, HasSearched}
 use Rattle.ell_tree.specs.Counts.{HasUncounted}
 use Rattle.ell_tree.proofs.lemmas.Counts.{uncounted_one, uncounted_trans}
 use Rattle.ell_tree.proofs.lemmas.Links.{link_same, word_node}
 use Rattle.ell_tree.proofs.lemmas.Keeping.{keeps_but_search_unseen, keeps_but_search_trans, upd_keeps, key_of_keeps, value_of_keeps, down_keeps, seen_kept, place_told}
+
+-- a search stands at a node, below a parent and perhaps a grandparent
+pub record Stands (plan : TablePlan) (w : View) (op : Op) (node : ℕ) (parent : Passed) (grandparent : Option Passed) : Type 0 where
+  pub search : w.worker.search ≡ below node parent (seen_any grandparent)
+  pub met : IsTold w (Met node)
+  pub there : InTable plan.last_card node
+  pub passed : KnowsPassed plan.last_card w parent
+  pub passed_above : IfSome grandparent (λ x. KnowsPassed plan.last_card w x)
+  pub fits : FitsBelow (flat_from plan) w op parent.node
+  pub unknown : EndWasUnknownAt w parent
+  pub unknown_above : IfSome grandparent (EndWasUnknownAt w)
 
 -- an update is read in a step, and so are a key and a value
 pub upd_seeks : (old new : PassModel) (x : ℕ) (u : Update) → Sees old new (after_upd x u old.view) → KeepsAllButSearch old new 1

@@ -114,9 +114,6 @@ sees_last op said took p q r g h = record { between = q; before = g; last = h }
 pub sees_last_after : (op : Op) (said : Reply) (took : Option ℕ) (p q r : Sight) → SeesNoChange p q → SeesLast op said took q r → SeesLast op said took p r
 sees_last_after op said took p q r g h = record { between = h.between; before = no_change_trans p q h.between g h.before; last = h.last }
 
-pub no_change_last : (op : Op) (said : Reply) (took : Option ℕ) (p q : Sight) → said ≢ reply_of_change op → SeesLast op said took p q → SeesNoChange p q
-no_change_last op said took p q other h = no_change_trans p h.between q h.before (no_change_call op said took h.between q other h.last)
-
 -- a call has ended in the history of which it is one
 pub ends_inside : (h : List Event) (begin end : ℕ) (op : Op) (said : Reply) (took : Option ℕ) → IsCall h begin end op said took → end < length h
 ends_inside h begin end op said took c = at_inside h end (Ends c.seat said took) c.ends

@@ -122,16 +122,6 @@ pub record Stretches (plan : TablePlan) (test : ℕ → Bool) (More : Type 0) (o
   pub few : count ≤ keys_told plan.last_card test now.view.told + 1
   pub fewer : More → count ≤ keys_told plan.last_card test now.view.told
 
--- as it begins, through none
-pub stretches_none : (plan : TablePlan) (test : ℕ → Bool) (More : Type 0) (old now : PassModel) → BeginsALook old now → Stretches plan test More old now
-stretches_none plan test More old now begins = record {
-  count = 0;
-  only = only_trans old now now 1 0 (0 * stretch_steps (deepest plan) + 1) begins.only (only_none_yet now) (omega arith);
-  saw = begins.saw;
-  few = omega arith;
-  fewer = λ more. omega arith;
-}
-
 -- then through one more, which ends at the key of an inner node that passes only now, or the look goes on no more
 pub stretches_more : (plan : TablePlan) (was is : ℕ → Bool) (More Then : Type 0) (old now new : PassModel) → Stretches plan was More old now → More
     → KeepsLooking now new (stretch_steps (deepest plan)) → ((key : ℕ) → was key ≡ true → is key ≡ true) → KeysAreFixed new.view

@@ -173,35 +173,3 @@ module _ (plan : TablePlan) (s : TableState) (r : HasMachine plan s) (seat : ℕ
       → wins_of (r'.stages d) ≡ wins_of (r.stages d) ++ turn_wins s (Makes seat c) d → IsAside r'.stages to.views d
   lost_is_aside d flags lost =
       dropped_is_aside d (flag_waits plan c v may d flags) (λ has. some_not_none has (flag_drops plan c (found_by s c) v may d flags lost))
-
-  -- and one that its pass has in hand while it claims another
-  pub claimed_over_is_aside : (e : ℕ) (q : NewNode) (d : ℕ) → c ≡ call.Claim e q → HoldsWaiting v d → is_won (atomic_of c) (found_by s c) ≡ true → (r' : HasMachine plan to)
-      → StagesLater r.stages r'.stages → wins_of (r'.stages d) ≡ wins_of (r.stages d) ++ turn_wins s (Makes seat c) d → IsAside r'.stages to.views d
-  claimed_over_is_aside e q d is hand won = dropped_is_aside d hand drops
-    where
-      found : get_or s.words 0 0 ≡ e
-      found = sym (ap (found_by s) is) ∙ eqb-true (found_by s c) e (sym (ap (λ x. is_won (atomic_of x) (found_by s c)) is) ∙ won)
-
-      below : d < r.words.next
-      below = (r.invariant.words.cards d).claimed.0
-          (waits-claimed (r.stages d) (hand_waits r.words r.stages (worker_of v.worker) d (mine_sound plan s r seat v there) hand.0 hand.1))
-
-      after_it : (after c (found_by s c) v).worker.card ≡ Some e
-      after_it =
-          ap (λ x. (after x (found_by s c) v).worker.card) is
-          ∙ ap (λ b. (after_claim b e q v).worker.card) (sym (ap (λ x. is_won (atomic_of x) (found_by s c)) is) ∙ won)
-
-      drops : (view_after s v c).worker.card ≢ Some d
-      drops has =
-          let same : e ≡ d = some_same (sym after_it ∙ has) in
-          let next : get_or s.words 0 0 ≡ r.words.next = r.next in
-          let there = found in
-          let low = below in
-          absurd (omega arith)
-
--- a flag is lost where another word was found than the one that was expected
-pub iflag_lost : (c p n : ℕ) (from : Update) → n ≢ packed from → is_won (atomic_of (call.IFlag c p from)) n ≡ false
-iflag_lost c p n from other = ne_eqb n (packed from) other
-
-pub dflag_lost : (c gp n : ℕ) (from : Update) → n ≢ packed from → is_won (atomic_of (call.DFlag c gp from)) n ≡ false
-dflag_lost c gp n from other = ne_eqb n (packed from) other

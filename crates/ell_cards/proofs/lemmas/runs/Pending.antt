@@ -64,17 +64,6 @@ IsPlain (call.Answer said took) = ⊥
 IsPlain call.Leave = ⊥
 IsPlain _ = Unit {0}
 
-pub does_stay : (plan : TablePlan) (c : Call) (n : ℕ) (v : View) → IsPlain c → May plan c v → (after c n v).worker.operation ≡ v.worker.operation
-does_stay plan (call.Begin op) n v plain may = absurd plain
-does_stay plan (call.Answer said took) n v plain may = absurd plain
-does_stay plan call.Leave n v plain may = absurd plain
-does_stay plan call.Rest n v plain may = sym may
-does_stay plan (call.Claim c q) n v plain may = does_claim (n == c) c q v
-does_stay plan (call.IFlag c p from) n v plain may = does_flag (n == packed from) (fact.IFlagged c) p (unpacked n) v
-does_stay plan (call.DFlag c gp from) n v plain may = does_flag (n == packed from) (fact.DFlagged c) gp (unpacked n) v
-does_stay plan (call.Mark c p was) n v plain may = does_mark (n == was) c p (unpacked n) v
-does_stay plan _ n v plain may = refl
-
 -- a pass that has an operation in hand begins no other, and is not split or joined
 keeps_of : (plan : TablePlan) (c : Call) (v : View) (op : Op) → Does v op → May plan c v → KeepsOn c
 keeps_of plan (call.Begin o) v op does may = absurd (some_not_none does may.0)

@@ -7,7 +7,6 @@ use Rattle.ell_cards.specs.Changes.{first_of, ownable_if, left_view, right_view,
 use Rattle.std.specs.Option.{option_or}
 use Rattle.ell_cards.specs.Calls.{after}
 use Rattle.ell_cards.specs.States.{TableState, seat_worker}
-use Rattle.ell_cards.specs.Machines.{NobodyShares}
 use Rattle.ell_cards.specs.Turns.{Turn, Makes, Splits, Joins, TableTurns, TableRun, found_by}
 use Rattle.ell_cards.specs.Starts.{IsReached, IsSharedIn}
 use Rattle.ell_cards.proofs.lemmas.seats.Taken.{owned_stays}
@@ -25,6 +24,10 @@ use Rattle.ell_cards.proofs.lemmas.runs.Reaching.{reached_kept}
 -- a pass takes no key for a shared one
 abbrev Closed : View → Type 0
 Closed v = v.worker.shared ≡ None
+
+-- no pass of a table takes any key for shared
+abbrev NobodyShares : TableState → Type 0
+NobodyShares s = (j : ℕ) (v : View) → get_elem? s.views j ≡ some v → v.worker.shared ≡ None
 
 turn_closed : (plan : TablePlan) (s : TableState) (t : Turn) (s' : TableState) → TableTurns plan s t s' → NobodyShares s → NobodyShares s'
 turn_closed plan s (Makes id c) s' turn h = λ j u at.

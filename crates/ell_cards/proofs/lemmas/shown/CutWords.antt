@@ -45,9 +45,6 @@ cut_node_in n = omega arith
 pub cut_tag_in : (n : ℕ) → (link_in (cut_word n)).tag ≡ cut_tag (link_in n).tag
 cut_tag_in n = omega arith
 
-pub cut_link : (n : ℕ) → link_in (cut_word n) ≡ shown_link (link_in n)
-cut_link n = λ t. record { node = cut_node_in n t; tag = cut_tag_in n t }
-
 -- the word of a link is cut to that of the link with its node and its tag cut
 pub cut_linked : (node tag : ℕ) → cut_word (linked (record { node = node; tag = tag })) ≡ linked (record { node = cut_node node; tag = cut_tag tag })
 cut_linked node tag = omega arith
@@ -55,9 +52,6 @@ cut_linked node tag = omega arith
 -- a number that a word holds stays, and each one that was cut is such a number
 pub cut_same : (n : ℕ) → IsWord n → cut_word n ≡ n
 cut_same n small = omega (arith, small)
-
-pub cut_is_word : (n : ℕ) → IsWord (cut_word n)
-cut_is_word n = omega arith
 
 pub cut_within : (n : ℕ) → cut_word n ≤ n
 cut_within n = omega arith
@@ -75,16 +69,6 @@ tag_again tag = omega arith
 
 pub tag_within : (tag : ℕ) → cut_tag tag ≤ tag
 tag_within tag = omega arith
-
--- a link is its number's, and that of each number
-pub link_again : (node tag : ℕ) → node < node_bound → link_in (linked (record { node = node; tag = tag })) ≡ record { node = node; tag = tag }
-link_again node tag small = λ t. record { node = node_again_of t; tag = tag_again_of t }
-  where
-    node_again_of : (link_in (linked (record { node = node; tag = tag }))).node ≡ node
-    node_again_of = omega (arith, small)
-
-    tag_again_of : (link_in (linked (record { node = node; tag = tag }))).tag ≡ tag
-    tag_again_of = omega (arith, small)
 
 pub number_again : (n : ℕ) → linked (link_in n) ≡ n
 number_again n = omega arith

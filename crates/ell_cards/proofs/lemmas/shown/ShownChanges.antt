@@ -21,72 +21,9 @@ use Rattle.ell_cards.proofs.lemmas.shown.CutWords.{node_again, tag_again, cut_ag
 use Rattle.ell_cards.proofs.lemmas.shown.ShownWords.{planned_shown_alike, tag_shown, told_of_claim}
 use Rattle.ell_cards.proofs.lemmas.shown.ShownSearches.{places_shown}
 
--- what is shown of what is shown is shown so
-seen_again : (o : Option Seen) → option_map shown_seen (option_map shown_seen o) ≡ option_map shown_seen o
-seen_again None = refl
-seen_again (Some seen) = λ t. Some (record seen { node = node_again seen.node t; tag = tag_again seen.tag t })
-
-stand_again : (o : Option ℕ) → option_map cut_node (option_map cut_node o) ≡ option_map cut_node o
-stand_again None = refl
-stand_again (Some x) = ap Some (node_again x)
-
 word_again : (o : Option ℕ) → option_map cut_word (option_map cut_word o) ≡ option_map cut_word o
 word_again None = refl
 word_again (Some n) = ap Some (cut_again n)
-
-glances_again : (l : List Glance) → map shown_glance (map shown_glance l) ≡ map shown_glance l
-glances_again [] = refl
-glances_again (g ∷ l) = λ t. record g { node = node_again g.node t } ∷ glances_again l t
-
-info_again : (f : Field) (x : ℕ) → shown_info f (shown_info f x) ≡ shown_info f x
-info_again field.Gp x = node_again x
-info_again field.P x = node_again x
-info_again field.L x = node_again x
-info_again field.Left x = node_again x
-info_again field.Right x = node_again x
-info_again _ x = refl
-
-entry_again : (e : Told) → shown_told (shown_told e) ≡ shown_told e
-entry_again (Met x) = ap Met (node_again x)
-entry_again (Depth x d) = ap (λ y. Depth y d) (node_again x)
-entry_again (Key x k) = ap (λ y. Key y k) (node_again x)
-entry_again (Value x n) = ap (λ y. Value y n) (node_again x)
-entry_again (Info c f x) = ap (Info c f) (info_again f x)
-entry_again (Expects c tag) = ap (Expects c) (tag_again tag)
-entry_again (Frozen c right x) = ap (Frozen c right) (node_again x)
-
-told_again : (told : List Told) → map shown_told (map shown_told told) ≡ map shown_told told
-told_again [] = refl
-told_again (e ∷ told) = λ t. entry_again e t ∷ told_again told t
-
-pub stored_again : (f : Field) (n : ℕ) → shown_word f (shown_word f n) ≡ shown_word f n
-stored_again field.Gp n = node_again n
-stored_again field.P n = node_again n
-stored_again field.L n = cut_again n
-stored_again field.Left n = cut_again n
-stored_again field.Right n = cut_again n
-stored_again _ n = refl
-
-stores_again : (words : List (Field × ℕ)) → shown_words (shown_words words) ≡ shown_words words
-stores_again [] = refl
-stores_again (e ∷ words) = λ t. (e.0, stored_again e.0 e.1 t) ∷ stores_again words t
-
-search_again : (search : Search) → shown_search (shown_search search) ≡ shown_search search
-search_again search = λ t. record search {
-  node = stand_again search.node t;
-  parent = seen_again search.parent t;
-  grandparent = seen_again search.grandparent t;
-}
-
-pub shown_again : (v : View) → shown (shown v) ≡ shown v
-shown_again v = λ t. record v {
-  worker = record (v.worker) { search = search_again v.worker.search t };
-  told = told_again v.told t;
-  planned = stores_again v.planned t;
-  stores = stores_again v.stores t;
-  found = word_again v.found t;
-  glances = glances_again v.glances t;
-}
 
 -- claim
 pub claims_are_shown : ClaimsAreShown

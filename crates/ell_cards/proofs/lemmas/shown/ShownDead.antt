@@ -18,12 +18,6 @@ use Rattle.ell_cards.proofs.lemmas.shown.ShownTold.{was_info}
 pub place_whole : (y x : ℕ) → cut_node y ≡ x → x % 4 ≡ y % 4
 place_whole y x is = omega arith
 
-inner_by : (y x : ℕ) → cut_node y ≡ x → IsInternal x → IsInternal y
-inner_by y x is inner = sym (place_whole y x is) ∙ inner
-
-leaf_by : (y x : ℕ) → cut_node y ≡ x → IsLeaf x → IsLeaf y
-leaf_by y x is outer inner = outer (place_whole y x is ∙ inner)
-
 module _ (v : View) where
   one_key_whole : (c : ℕ) → KnowsOneKey (shown v) c → KnowsOneKey v c
   one_key_whole c h =

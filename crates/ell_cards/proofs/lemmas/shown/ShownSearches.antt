@@ -47,10 +47,6 @@ way_for None node parent above = refl
 pub way_shown : (v : View) → way_now (shown v) ≡ way_now v
 way_shown v = way_for v.worker.operation v.worker.search.node v.worker.search.parent v.worker.search.grandparent
 
--- so is how many tries something hindered
-pub tries_shown : (v : View) → tries_hindered (shown v) ≡ tries_hindered v
-tries_shown v = ap (λ way. v.hindered + (if was_hindered v.worker.knows (way ++ v.met) then 1 else 0)) (way_shown v)
-
 given_up_shown : (v : View) → shown (given_up v) ≡ given_up (shown v)
 given_up_shown v =
     ap (λ way. record (shown v) {

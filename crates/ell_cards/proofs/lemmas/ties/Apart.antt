@@ -104,17 +104,6 @@ module _ (plan : TablePlan) (s : Slots) (tree : TableState) (t : WholeState) (r 
         leaf = names.1;
       }
 
-  -- and no node of a card that is alive is cut to what the root is, but the root
-  pub alive_no_root : (x : ℕ) → Born r.stages x → dead (card x) ≡ false → 0 < x → cut_node x ≢ 0
-  alive_no_root x born alive past cut =
-      let root : LiesThere s lie (card 0) = (omega arith, tied.root) in
-      let same = lying_apart s lie x 0 (tied.alive (card x) (born_won (r.stages (card x)) (x % 4) born) alive) root cut in
-      absurd (omega arith)
-
--- a pass that tells nodes apart has met no node but the root that is cut to what the root is
-pub met_no_root : (plan : TablePlan) (v : View) → IsApart plan v → (x : ℕ) → IsTold v (Met x) → 0 < x → cut_node x ≢ 0
-met_no_root plan v apart x met past cut = (let same = apart.met x 0 met apart.names.root cut in absurd (omega arith))
-
 -- a table without places has no more cards than there may be words for
 pub plain_few : (plan : TablePlan) → plan.slots ≡ None → MayStart plan → plan.last_card ≤ greatest_card
 plain_few plan none may = subst (SlotsFit plan) none may.slots

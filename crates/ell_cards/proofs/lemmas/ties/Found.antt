@@ -151,13 +151,6 @@ module _ (plan : TablePlan) (s : Slots) (tree : TableState) (t : WholeState) (r 
     block = lying_block plan s placed reached.starts.may found (tied.fits (card found) found_won);
   }
 
-  -- so it is not cut to what the root is, unless it is the root
-  pub child_no_root : 0 < child_now tree x right → cut_node (child_now tree x right) ≢ 0
-  child_no_root past cut =
-      let root : LiesThere s lie (card 0) = (omega arith, tied.root) in
-      let same = lying_apart s lie found 0 child_lies root cut in
-      absurd (omega arith)
-
 -- In a table without places it is not cut.
 pub child_apart_plain : (plan : TablePlan) → plan.slots ≡ None → (s : TableState) → IsReached plan s → (id : ℕ) (v : View) → get_elem? s.views id ≡ some v
     → (x : ℕ) (right : Bool) → IsInternal x → IsTold v (Met x) → IsToldApart plan v (child_now s x right)

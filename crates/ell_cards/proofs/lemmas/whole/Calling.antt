@@ -38,7 +38,7 @@ use Rattle.ell_cards.specs.Periods.{WholeState, IsAtRest, slots_size, after_flag
 use Rattle.ell_cards.specs.Apart.{IsApart}
 use Rattle.ell_cards.specs.Shown.{IsWord, cut_word, cut_by, shown_word, shown_words, shown, shown_call, FieldIsWhole, FillIsWhole, CanBeShown, StoresAreWhole, StoresWord}
 use Rattle.ell_cards.specs.Histories.{event_of, history_of}
-use Rattle.ell_cards.specs.Seeing.{AllHaveSeen, AreMade, AreSilent, Marks, IsCalm, marked}
+use Rattle.ell_cards.specs.Seeing.{AllHaveSeen, AreMade, AreSilent, Marks, IsCalm}
 use Rattle.ell_cards.specs.SlotWords.{slot_of}
 use Rattle.ell_cards.specs.Starts.{SlotsFit}
 use Rattle.ell_cards.specs.States.{TableState}
@@ -72,7 +72,7 @@ use Rattle.ell_cards.proofs.lemmas.whole.Lifts.{IsFill, is_its_own, can_be_shown
 use Rattle.ell_cards.proofs.lemmas.whole.Rests.{stays_at_rest}
 use Rattle.ell_cards.proofs.lemmas.whole.Retired.{HadInHand, held_before, retired_on}
 use Rattle.ell_cards.proofs.lemmas.whole.Seats.{lie_same}
-use Rattle.ell_cards.proofs.lemmas.whole.Seeing.{history_snoc, all_on, all_set, silent_set, marks_now, marks_shown, calm_marks}
+use Rattle.ell_cards.proofs.lemmas.whole.Seeing.{history_snoc, all_on, all_set, silent_set, marks_now, marks_shown, calm_marks, marked}
 use Rattle.ell_cards.proofs.lemmas.whole.Sighting.{Sighted, sighted}
 use Rattle.ell_cards.proofs.lemmas.whole.Trees.{tree_at, slots_stay, tree_periods}
 use Rattle.ell_cards.proofs.lemmas.words.Slotted.{slot_inside}
@@ -109,9 +109,6 @@ module _ (plan : TablePlan) (s : WholeState) (h : IsWhole plan s) (id : ℕ) (k 
   rest_by : (o : Option Slots) → PeriodsAre plan o h.tree s → o ≢ None → k.period.announced ≡ None → IsAtRest k.tree
   rest_by None periods placed none = absurd (placed refl)
   rest_by (Some sl) periods placed none = (periods.0.periods.each id k here).rests none
-
-  pub rest_here : plan.slots ≢ None → k.period.announced ≡ None → IsAtRest k.tree
-  rest_here = rest_by plan.slots h.periods
 
   -- and it tells nodes apart
   pub apart_here : IsApart plan k.tree

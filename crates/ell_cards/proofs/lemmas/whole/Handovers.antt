@@ -4,8 +4,8 @@ use mathlib.Core.Option.{some, some-injective, some-ne-none}
 use lib.ListN.{get_elem?}
 use Rattle.atomic_table.proofs.Lists.{at_set, set_else}
 use Rattle.ell_core.proofs.lemmas.outcomes.Decide.{some_not_none}
-use Rattle.ell_grace.specs.Grace.{Grace}
-use Rattle.ell_grace.specs.Periods.{GraceIsSound}
+use Rattle.ell_grace.specs.epochs.Grace.{Grace}
+use Rattle.ell_grace.specs.epochs.Periods.{GraceIsSound}
 use Rattle.ell_layout.specs.Words.{put}
 use Rattle.ell_layout.proofs.lemmas.Writes.{put_same, put_other, put_cases}
 use Rattle.ell_cards.specs.declared.view.Known.{Known}

@@ -57,6 +57,7 @@ use Rattle.ell_cards.proofs.lemmas.seats.Seats.{mine_sound, set_there}
 use Rattle.ell_cards.proofs.lemmas.whole.Ages.{noted_as}
 use Rattle.ell_cards.proofs.lemmas.whole.Duties.{all_retired}
 use Rattle.ell_cards.proofs.lemmas.ties.Winning.{IsWonStage, born_won, ended_long, start_won, insert_is_won, delete_is_won}
+use Rattle.ell_cards.specs.Meanwhile.{KeepsOn}
 
 -- a card that has won its flag is of the opening tree, or an insert's, or a delete's
 won_kind : (s : Stage) → IsWonStage s → (is_start s ≡ true) ⊎ ((insert_won s ≡ true) ⊎ (delete_won s ≡ true))

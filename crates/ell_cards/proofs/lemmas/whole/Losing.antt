@@ -42,12 +42,6 @@ use Rattle.ell_cards.proofs.lemmas.whole.Trees.{grace_same}
 use Rattle.ell_cards.proofs.lemmas.words.NotedBits.{unnoted}
 use Rattle.ell_cards.proofs.lemmas.words.Slotted.{slot_inside}
 
--- in the state to which a call leads that loses a flag, its card was laid aside
-pub aside_onward : (plan : TablePlan) (s : TableState) (r : HasMachine plan s) (uses : HasUses (machine_of_table plan s r)) (seat : ℕ) (v : View)
-    → get_elem? s.views seat ≡ some v → (c : Call) → May plan c v → (on : Onward plan s r uses (Makes seat c) (state_after s seat v c))
-    → (d : ℕ) → FlagsCard c d → is_won (atomic_of c) (found_by s c) ≡ false → IsAside on.next.stages (state_after s seat v c).views d
-aside_onward plan s r uses seat v there c may on d flags unwon = lost_is_aside plan s r seat v there c may d flags unwon on.next on.later (on.wins d)
-
 -- so it was by the ages after that call
 pub aside_in_ages : (plan : TablePlan) (s : Slots) (tree : TableState) (t : WholeState) (lie : ℕ → ℕ) (dead : ℕ → Bool) (was_dead : ℕ → ℕ → Bool)
     (h : AgesAreSound plan s tree t lie dead was_dead) (id : ℕ) (v : View) → get_elem? tree.views id ≡ some v → (c : Call) → May plan c v

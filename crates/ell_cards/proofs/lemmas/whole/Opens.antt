@@ -6,7 +6,7 @@ use mathlib.Core.Option.{some, some-injective, some-ne-none}
 use lib.ListN.{get_elem?}
 use Rattle.atomic_table.specs.Table.{opening}
 use Rattle.ell_core.proofs.lemmas.outcomes.Decide.{some_not_none}
-use Rattle.ell_grace.proofs.lemmas.Grace.{grace_starts}
+use Rattle.ell_grace.proofs.lemmas.epochs.Grace.{grace_starts}
 use Rattle.ell_word.specs.Node.{greatest_number, number_bound, turn_size}
 use Rattle.ell_layout.specs.Layout.{address, table_size}
 use Rattle.ell_layout.specs.Words.{words_of, table_words}

@@ -1,5 +1,5 @@
 -- What passes have seen of the history stays a beginning of it.
-use Rattle.std.proofs.Common.{◌≡◌, ◌≢◌, ℕ, zero, suc, ◌+◌, ◌<◌, ne_eqb, eq-eqb, option_map, ◌≤◌, Bool, true, false, Some, None, Option, List, [], ◌∷◌, ◌++◌, length, set, take, if◌then◌else◌, nat_le, inl, inr, ◌⊎◌, refl, sym, ap, ◌∙◌, subst, arith, append-nil}
+use Rattle.std.proofs.Common.{◌≡◌, ◌≢◌, ℕ, zero, suc, ◌+◌, ◌<◌, ne_eqb, eq-eqb, option_map, ◌≤◌, Bool, true, false, Some, None, Option, List, [], ◌∷◌, ◌++◌, length, set, take, if◌then◌else◌, nat_le, inl, inr, ◌⊎◌, refl, sym, ap, ◌∙◌, subst, arith, append-nil, ◌==◌}
 use Rattle.std.proofs.lemmas.List.{append_assoc}
 use Rattle.std.proofs.lemmas.Bool.{cases_eq, cases_lt}
 use Rattle.std.proofs.lemmas.Option.{same_Some}
@@ -31,7 +31,7 @@ use Rattle.ell_cards.proofs.lemmas.runs.Spent.{IsAllThere, all_there}
 use Rattle.ell_cards.proofs.lemmas.seats.Taken.{owned_stays}
 use Rattle.ell_cards.proofs.lemmas.seats.Seats.{set_there}
 use Rattle.std.specs.Option.{option_or}
-use Rattle.ell_cards.specs.Seeing.{BeganAt, HasSeen, AllHaveSeen, IsMadeBy, AreMade, AreAllApart, AreSilent, IsSpentIn, HasSeenAll, begin_in, last_begin, with_act, marked, SeesEnd, Marks, IsCalm}
+use Rattle.ell_cards.specs.Seeing.{BeganAt, HasSeen, AllHaveSeen, IsMadeBy, AreMade, AreAllApart, AreSilent, IsSpentIn, HasSeenAll, SeesEnd, Marks, IsCalm}
 use Rattle.ell_cards.specs.Shown.{shown, shown_call}
 use Rattle.ell_cards.specs.Sights.{IsPart, longer}
 use Rattle.ell_cards.specs.Starts.{IsReached}
@@ -41,6 +41,36 @@ use Rattle.ell_cards.proofs.lemmas.runs.Histories.{ended_only, lin, linear_of, c
 use Rattle.ell_cards.proofs.lemmas.runs.LinearizingAnswers.{behind}
 use Rattle.ell_cards.proofs.lemmas.runs.LinearizingPoints.{begun_of}
 use Rattle.ell_cards.proofs.lemmas.runs.LinearizingStates.{at_end, state_at, run_to}
+
+-- the operation that an event begins, if the pass in the seat begins one there
+abbrev pub begin_in : ℕ → Event → Option (ℕ × Op)
+begin_in seat (Begins s op) = if s == seat then Some (0, op) else None
+begin_in seat _ = None
+
+-- where the pass in a seat began an operation last, and which
+abbrev pub last_begin : ℕ → List Event → Option (ℕ × Op)
+last_begin seat [] = None
+last_begin seat (e ∷ es) = option_or (option_map (λ x. (x.0 + 1, x.1)) (last_begin seat es)) (begin_in seat e)
+
+-- the calls with one more, which ends here
+abbrev pub with_act : Option (ℕ × Op) → ℕ → Reply → Option ℕ → List Act → List Act
+with_act None end said took mine = mine
+with_act (Some b) end said took mine =
+    record { begin = b.0; end = end; op = b.1; said = said; took = took } ∷ mine
+
+-- what a pass notes of the history, which is this up to its step: where it begins an operation or a look, or answers an
+-- operation, it has seen all of it
+abbrev pub marked : Call → ℕ → List Event → Sight → Sight
+marked (call.Begin op) seat history g =
+    record g { seen = history ++ Begins seat op ∷ []; begun = Some (length history) }
+marked (call.Answer said took) seat history g =
+    record g {
+      seen = history ++ Ends seat said took ∷ [];
+      mine = with_act (last_begin seat history) (length history) said took g.mine;
+    }
+marked call.Look seat history g =
+    record g { seen = history ++ Looks seat ∷ []; looked = Some (length history) }
+marked _ seat history g = g
 
 -- the history of one turn more
 pub history_snoc : (ts : List Turn) (t : Turn) → history_of (ts ++ t ∷ []) ≡ history_of ts ++ event_of t ∷ []

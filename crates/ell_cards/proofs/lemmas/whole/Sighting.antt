@@ -14,7 +14,7 @@ use Rattle.ell_cards.specs.declared.view.View.{View}
 use Rattle.ell_cards.specs.Calls.{May, after}
 use Rattle.ell_cards.specs.Histories.{IsCall, event_of, history_of}
 use Rattle.ell_cards.specs.Models.{TablePlan, Has, IsFree}
-use Rattle.ell_cards.specs.Seeing.{AllHaveSeen, AreAllApart, AreApart, AreMade, AreSilent, HasSeen, IsCalm, IsSpentIn, marked}
+use Rattle.ell_cards.specs.Seeing.{AllHaveSeen, AreAllApart, AreApart, AreMade, AreSilent, HasSeen, IsCalm, IsSpentIn}
 use Rattle.ell_cards.specs.Starts.{IsReached}
 use Rattle.ell_cards.specs.States.{TableState}
 use Rattle.ell_cards.specs.Turns.{Makes}
@@ -23,7 +23,7 @@ use Rattle.ell_cards.proofs.lemmas.runs.LinearizingPoints.{one_end}
 use Rattle.ell_cards.proofs.lemmas.runs.Reaching.{call_on}
 use Rattle.ell_cards.proofs.lemmas.runs.Spent.{spent_are_spent}
 use Rattle.ell_cards.proofs.lemmas.whole.OwnCalls.{apart_set}
-use Rattle.ell_cards.proofs.lemmas.whole.Seeing.{act_of, at_inside, call_more, ends_call, has_first, history_snoc, made_by, made_quiet, made_set, marked_seen, seen_on, silent_call, spent_before, whole_part}
+use Rattle.ell_cards.proofs.lemmas.whole.Seeing.{act_of, at_inside, call_more, ends_call, has_first, history_snoc, made_by, made_quiet, made_set, marked_seen, seen_on, silent_call, spent_before, whole_part, marked}
 
 -- two calls of a run that begin together end together
 begin_once : (plan : TablePlan) (s : TableState) (h : IsReached plan s) (a b : Act) → IsCall (history_of h.turns) a.begin a.end a.op a.said a.took → IsCall (history_of h.turns) b.begin b.end b.op b.said b.took

@@ -21,7 +21,7 @@ use Rattle.ell_cards.specs.Naming.{IsPlaced}
 use Rattle.ell_cards.specs.Periods.{whole_size, WholeState}
 use Rattle.ell_cards.specs.Apart.{IsApart}
 use Rattle.ell_cards.specs.Shown.{IsWord, cut_word, cut_planned, shown}
-use Rattle.ell_cards.specs.Skipping.{after_one, after_row, after_claimed_row, IsFresh, MayStepOn, RowTells}
+use Rattle.ell_cards.specs.Skipping.{after_one, after_row, after_claimed_row, IsFresh, MayStepOn}
 use Rattle.ell_cards.specs.Starts.{SlotsFit}
 use Rattle.ell_cards.specs.Stepping.{IsInside, KeepsPass, MayInTable, SameShare, MayTell}
 use Rattle.ell_cards.specs.Turns.{found_by, state_after, view_after}
@@ -42,6 +42,13 @@ use Rattle.ell_cards.proofs.lemmas.whole.Apart.{passes_tell_apart}
 use Rattle.ell_cards.proofs.lemmas.whole.Going.{set_twice}
 use Rattle.ell_cards.proofs.lemmas.whole.Places.{size_some}
 use Rattle.ell_cards.proofs.lemmas.words.Slotted.{slot_inside}
+
+-- an exchange of the claim word that found this, and takes all numbers from a first card to a last one if it is won,
+-- leaves of a pass what it is to know, and that names what is in its table; and the last card is a fresh one
+abbrev pub RowTells : TablePlan → ℕ → ℕ → NewNode → PassModel → ℕ → View → Type 0
+RowTells plan first last node p n w =
+    (w ≡ after_claimed_row (n == first) first last node p.view) × IsInside plan w
+    × IsFresh plan p.slot (n == first) last
 
 -- a flat tree is flat from some card on
 pub from_some : (plan : TablePlan) → plan.flat ≡ true → 0 < flat_from plan

@@ -7,9 +7,9 @@ use mathlib.Core.Option.{some}
 use lib.ListN.{get_elem?}
 use Rattle.ell_layout.specs.Words.{put}
 use Rattle.ell_layout.proofs.lemmas.Writes.{put_same, put_other}
-use Rattle.ell_grace.specs.Grace.{Grace, dies, stamps, frees, takes}
-use Rattle.ell_grace.specs.Periods.{GraceIsSound}
-use Rattle.ell_grace.proofs.lemmas.Grace.{grace_goes_on, taken_cards_were_gone}
+use Rattle.ell_grace.specs.epochs.Grace.{Grace, dies, stamps, frees, takes}
+use Rattle.ell_grace.specs.epochs.Periods.{GraceIsSound}
+use Rattle.ell_grace.proofs.lemmas.epochs.Grace.{grace_goes_on, taken_cards_were_gone}
 use Rattle.ell_cards.specs.declared.view.Known.{Known}
 use Rattle.ell_cards.specs.declared.view.Period.{Period}
 use Rattle.ell_cards.specs.declared.view.Retired.{Retired}
@@ -27,19 +27,12 @@ free_stamp reading = omega arith
 pub free_bits : (reading : ℕ) → free_word reading % 8 ≡ 0
 free_bits reading = omega arith
 
-pub free_fits : (reading : ℕ) → reading ≤ last_reading → free_word reading < 2 ^ 64
-free_fits reading past = omega arith
-
 -- and the word of a slot that was taken has its turn, and no bit
 pub taken_turn : (turn : ℕ) → turn_in (taken_word turn) ≡ turn
 taken_turn turn = omega arith
 
 pub taken_bits : (turn : ℕ) → taken_word turn % 8 ≢ 0
 taken_bits turn e = omega arith
-
--- a card lies in its slot
-pub card_lies : (slot n : ℕ) → slot < turn_size → slot_of (card_by slot n) ≡ slot
-card_lies slot n low = omega arith
 
 -- a word sets its slot free if it has all bits, and else not
 pub freed_with : (n : ℕ) → n % 8 ≡ 0 → freed_by n ≡ Some (stamp_in n)

@@ -9,9 +9,9 @@ use Rattle.atomic_table.proofs.Lists.{at_set}
 use Rattle.ell_core.proofs.lemmas.outcomes.Decide.{some_not_none}
 use Rattle.ell_layout.specs.Words.{put}
 use Rattle.ell_layout.proofs.lemmas.Writes.{put_same, put_other}
-use Rattle.ell_grace.specs.Grace.{Grace, least_with, ticks, begins, ends, scans, looks, settles}
-use Rattle.ell_grace.specs.Periods.{GraceIsSound}
-use Rattle.ell_grace.proofs.lemmas.Grace.{grace_goes_on}
+use Rattle.ell_grace.specs.epochs.Grace.{Grace, least_with, ticks, begins, ends, scans, looks, settles}
+use Rattle.ell_grace.specs.epochs.Periods.{GraceIsSound}
+use Rattle.ell_grace.proofs.lemmas.epochs.Grace.{grace_goes_on}
 use Rattle.ell_cards.specs.declared.view.Known.{Known}
 use Rattle.ell_cards.specs.declared.view.Period.{Period}
 use Rattle.ell_cards.specs.declared.view.Sight.{Sight}

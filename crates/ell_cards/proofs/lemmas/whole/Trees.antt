@@ -4,8 +4,8 @@ use mathlib.Core.Option.{Option as Maybe}
 use lib.ListN.{get_elem?}
 use Rattle.atomic_table.proofs.Lists.{at_set}
 use Rattle.ell_layout.specs.Layout.{table_size}
-use Rattle.ell_grace.specs.Grace.{Grace}
-use Rattle.ell_grace.specs.Periods.{GraceIsSound}
+use Rattle.ell_grace.specs.epochs.Grace.{Grace}
+use Rattle.ell_grace.specs.epochs.Periods.{GraceIsSound}
 use Rattle.ell_cards.specs.declared.view.Known.{Known}
 use Rattle.ell_cards.specs.declared.view.Slots.{Slots}
 use Rattle.ell_cards.specs.declared.view.View.{View}

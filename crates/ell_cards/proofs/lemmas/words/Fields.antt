@@ -49,11 +49,6 @@ written_there w c g x f = elim (cases_eq (place g) (place f)) [
   | inr n ↦ written_elsewhere w c f c g x (λ e. n (omega arith)) ∙ sym (if_other (place g) (place f) x (word w c f) n)
 ]
 
--- another card's words stay
-pub filled_else : (w : Words) (d : ℕ) (es : List (Field × ℕ)) (c : ℕ) (f : Field) → c ≢ d → word (filled w d es) c f ≡ word w c f
-filled_else w d [] c f n = refl
-filled_else w d (e ∷ es) c f n = filled_else (written w d e.0 e.1) d es c f n ∙ written_elsewhere w c f d e.0 e.1 (apart c f d e.0 n)
-
 -- the place of a child
 pub child_place : (right : Bool) → place (child_field right) < 10
 child_place true = omega arith

@@ -222,26 +222,6 @@ all_by nodes n a b c = by nodes.internal nodes.left nodes.right (is_noted n 0) (
 pub all_of_full : (nodes : CardNodes) (n : ℕ) → n % 8 ≡ 0 → all_noted nodes n ≡ true
 all_of_full nodes n full = all_by nodes n (noted_by_all n 0 (omega arith) full) (noted_by_all n 1 (omega arith) full) (noted_by_all n 2 (omega arith) full)
 
--- by a word that notes three nodes the slot is free
-pub three_are_all : (n : ℕ) → 3 ≤ how_many_noted n → n % 8 ≡ 0
-three_are_all n most = by (is_noted n 0) (is_noted n 1) (is_noted n 2) (low_bits n) most
-  where
-    by : (a b c : Bool) → n % 8 + (one_if a + 2 * one_if b + 4 * one_if c) ≡ 7 → 3 ≤ one_if a + one_if b + one_if c → n % 8 ≡ 0
-    by true true true low most = omega arith
-    by true true false low most = absurd (omega arith)
-    by true false c low most = absurd (by_two c (omega arith))
-      where
-        by_two : (c : Bool) → 2 ≤ one_if c → ⊥
-        by_two true h = omega arith
-        by_two false h = omega arith
-    by false b c low most = absurd (by_two b c (omega arith))
-      where
-        by_two : (b c : Bool) → 3 ≤ one_if b + one_if c → ⊥
-        by_two true true h = omega arith
-        by_two true false h = omega arith
-        by_two false true h = omega arith
-        by_two false false h = omega arith
-
 -- what is left by a word: the slot is in use, some node is not noted, and the turn is the card's if it is the one in hand
 or_false : (a b : Bool) → (a || b) ≡ false → (a ≡ false) × (b ≡ false)
 or_false true b e = absurd (false≢true (sym e))

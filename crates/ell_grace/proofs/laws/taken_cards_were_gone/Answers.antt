@@ -1,4 +1,4 @@
-use Rattle.ell_grace.proofs.lemmas.Grace.{grace_starts, grace_goes_on, taken_cards_were_gone}
+use Rattle.ell_grace.proofs.lemmas.epochs.Grace.{grace_starts, grace_goes_on, taken_cards_were_gone}
 use Rattle.ell_grace.proofs.laws.taken_cards_were_gone.Goals as goal
 
 pub returns-clause-starts : goal.returns-clause-starts

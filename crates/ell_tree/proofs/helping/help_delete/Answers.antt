@@ -4,13 +4,14 @@ use Rattle.ell_tree.specs.declared.helping.Ending.{Ending}
 use Rattle.ell_tree.specs.declared.helping.Ending.TheVariants.{Done, Backed, Behind}
 use Rattle.ell_tree.specs.Ledgers.{PassModel}
 use Rattle.ell_tree.specs.Helps.{HelpEnds, chain_steps}
-use Rattle.ell_tree.specs.Hindrances.{IsDeleteEnded, Meets}
+use Rattle.ell_tree.specs.Hindrances.{Meets}
 use Rattle.ell_tree.specs.Keeping.{KeepsAllButMet}
 use Rattle.ell_tree.proofs.lemmas.Keeping.{keeps_but_met_trans}
 use Rattle.ell_tree.proofs.lemmas.Meeting.{delete_ended_still, up_to_none, up_to_trans, up_to_end}
 use Rattle.ell_tree.proofs.helping.help_delete.Goals as goal
 use Rattle.ell_cards.specs.Depths.{deepest, depth_of}
 use Rattle.ell_cards.specs.Models.{TablePlan}
+use Rattle.ell_cards.specs.Dead.{KnowsDeleteEnded}
 
 pub loop-next-init : goal.loop-next-init
 loop-next-init g c = record {
@@ -23,9 +24,9 @@ loop-next-init g c = record {
 }
 
 -- one delete more of the chain has ended
-still_ended : (first flag : DeleteFlag) (v w : PassModel) (n : ℕ) → KeepsAllButMet v w n → (flag ≡ first) ⊎ IsDeleteEnded v.view first.card
-    → IsDeleteEnded w.view flag.card → IsDeleteEnded w.view first.card
-still_ended first flag v w n h (inl same) ended = subst (λ (f : DeleteFlag). IsDeleteEnded w.view f.card) same ended
+still_ended : (first flag : DeleteFlag) (v w : PassModel) (n : ℕ) → KeepsAllButMet v w n → (flag ≡ first) ⊎ KnowsDeleteEnded v.view first.card
+    → KnowsDeleteEnded w.view flag.card → KnowsDeleteEnded w.view first.card
+still_ended first flag v w n h (inl same) ended = subst (λ (f : DeleteFlag). KnowsDeleteEnded w.view f.card) same ended
 still_ended first flag v w n h (inr before) ended = delete_ended_still v.view w.view first.card h.keeps.view.knows before
 
 pub loop-next-preserved : goal.loop-next-preserved
@@ -51,7 +52,7 @@ loop-next-smaller g c =
 
 -- the last delete of a chain
 last_ends : (plan : TablePlan) (flag : DeleteFlag) (old new : PassModel) (r : Ending) → HelpEnds plan flag old new r → ((next : DeleteFlag) → r ≡ Behind next → ⊥)
-    → KeepsAllButMet old new 12 × Meets old.view new.view × (depth_of old.view flag.grandparent + 1 ≤ deepest plan) × IsDeleteEnded new.view flag.card
+    → KeepsAllButMet old new 12 × Meets old.view new.view × (depth_of old.view flag.grandparent + 1 ≤ deepest plan) × KnowsDeleteEnded new.view flag.card
 last_ends plan flag old new Done h last = (h.0, h.1, h.2, inl h.3)
 last_ends plan flag old new Backed h last = (h.0, h.1, h.2, inr h.3)
 last_ends plan flag old new (Behind next) h last = absurd (last next refl)

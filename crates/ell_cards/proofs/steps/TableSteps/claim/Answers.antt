@@ -1,9 +1,9 @@
 use Rattle.std.proofs.Common.{◌+◌, ◌-◌, ◌==◌, sym, ap, ◌∙◌, subst, arith}
 use Rattle.ell_cards.specs.Models.{new_node}
 use prog.Atomic.{either}
-use Rattle.ell_cards.specs.Skipping.{IsFresh, RowTells, MayStepOn, after_claimed_row}
+use Rattle.ell_cards.specs.Skipping.{IsFresh, MayStepOn, after_claimed_row}
 use Rattle.ell_cards.proofs.lemmas.seats.Taken.{steps_by}
-use Rattle.ell_cards.proofs.lemmas.whole.Skipping.{claim_goes, one_back, row_keeps_pass}
+use Rattle.ell_cards.proofs.lemmas.whole.Skipping.{claim_goes, one_back, row_keeps_pass, RowTells}
 use Rattle.ell_cards.proofs.steps.TableSteps.claim.Goals as goal
 
 pub exchange_claim-requires-clause-rule : goal.exchange_claim-requires-clause-rule

@@ -1,6 +1,6 @@
 use Rattle.std.specs.Prelude.{◌-◌}
 use Rattle.ell_cards.specs.Models.{new_node}
-use Rattle.ell_cards.specs.Skipping.{RowTells}
+use Rattle.ell_cards.proofs.lemmas.whole.Skipping.{RowTells}
 use Rattle.ell_cards.proofs.steps.TableSteps.claim.Given as goal
 
 abbrev pub ghosts-exchange_claim : goal.ghosts-exchange_claim

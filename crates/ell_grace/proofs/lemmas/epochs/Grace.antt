@@ -3,8 +3,8 @@ use Rattle.std.proofs.lemmas.Bool.{cases_eq, false≢true}
 use Rattle.std.proofs.lemmas.Option.{same_Some}
 use Rattle.ell_layout.specs.Words.{put}
 use Rattle.ell_layout.proofs.lemmas.Writes.{put_same, put_other}
-use Rattle.ell_grace.specs.Grace.{Grace, least_with, ticks, dies, begins, ends, stamps, frees, scans, looks, settles, takes}
-use Rattle.ell_grace.specs.Periods.{IsStamp, GraceIsSound, GraceStarts, GraceGoesOn, TakenCardsWereGone}
+use Rattle.ell_grace.specs.epochs.Grace.{Grace, least_with, ticks, dies, begins, ends, stamps, frees, scans, looks, settles, takes}
+use Rattle.ell_grace.specs.epochs.Periods.{IsStamp, GraceIsSound, GraceStarts, GraceGoesOn, TakenCardsWereGone}
 use Rattle.ell_core.proofs.lemmas.outcomes.Decide.{some_not_none}
 
 -- what is put at a place is there

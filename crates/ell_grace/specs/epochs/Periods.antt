@@ -1,5 +1,5 @@
 use Rattle.std.specs.Prelude.{◌≡◌, ℕ, ◌<◌, ◌≤◌, true, false, Some, None}
-use Rattle.ell_grace.specs.Grace.{Grace, GraceStep}
+use Rattle.ell_grace.specs.epochs.Grace.{Grace, GraceStep}
 
 -- a stamp of a card is a past reading of the clock, the card is gone, and each pass that is in an operation which it began
 -- when the clock was past the stamp began it when the card was gone

@@ -1,0 +1,2 @@
+-- Grace periods.
+pub mod Grace
