@@ -4,25 +4,26 @@ use lib.ListN.{get_elem?}
 use Rattle.ell_word.specs.Node.{card}
 use Rattle.ell_grace.specs.Dead.{IsDead, HasUses}
 use Rattle.ell_layout.specs.Words.{Words}
-use Rattle.ell_cards.specs.declared.call.Call.{Call}
+use Rattle.ell_runs.specs.declared.call.Call.{Call}
 use Rattle.ell_cards.specs.declared.view.Known.{Known}
 use Rattle.ell_cards.specs.declared.view.Retired.{Retired}
 use Rattle.ell_cards.specs.declared.view.SlotRead.{SlotRead}
-use Rattle.ell_cards.specs.declared.view.Slots.{Slots}
-use Rattle.ell_cards.specs.declared.view.View.{View}
-use Rattle.ell_cards.specs.Aside.{IsAside}
-use Rattle.ell_cards.specs.Dead.{KnowsDead}
-use Rattle.ell_cards.specs.Laws.{machine_of_table}
-use Rattle.ell_cards.specs.Machines.{HasMachine}
-use Rattle.ell_cards.specs.Models.{TablePlan}
-use Rattle.ell_cards.specs.Periods.{WholeState, IsAtRest, LieInSlots, PeriodsAreSound, slot_word}
+use Rattle.ell_runs.specs.declared.view.Slots.{Slots}
+use Rattle.ell_runs.specs.declared.view.View.{View}
+use Rattle.ell_runs.specs.Aside.{IsAside}
+use Rattle.ell_runs.specs.Dead.{KnowsDead}
+use Rattle.ell_runs.specs.Laws.{machine_of_table}
+use Rattle.ell_runs.specs.Machines.{HasMachine}
+use Rattle.ell_runs.specs.Plans.{TablePlan}
+use Rattle.ell_cards.specs.Periods.{WholeState, LieInSlots, PeriodsAreSound, slot_word}
+use Rattle.ell_runs.specs.Touching.{IsAtRest}
 use Rattle.ell_cards.specs.CardNodes.{has_node}
 use Rattle.ell_cards.specs.SlotWords.{card_by, is_noted, slot_of}
-use Rattle.ell_cards.specs.Starts.{IsReached}
-use Rattle.ell_cards.specs.States.{TableState}
+use Rattle.ell_runs.specs.Starts.{IsReached}
+use Rattle.ell_runs.specs.States.{TableState}
 use Rattle.ell_cards.specs.Tied.{IsTied}
-use Rattle.ell_cards.specs.Touching.{forgets}
-use Rattle.ell_cards.specs.Turns.{Turn, CallIsMade, TableRun}
+use Rattle.ell_runs.specs.Touching.{forgets}
+use Rattle.ell_runs.specs.Turns.{Turn, CallIsMade, TableRun}
 
 -- A node is out: it is dead, or its card was laid aside, or no card of the table has its number.
 pub data IsOut (plan : TablePlan) (tree : TableState) (machine : HasMachine plan tree)

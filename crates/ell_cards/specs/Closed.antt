@@ -7,18 +7,19 @@ use Rattle.ell_layout.specs.Words.{words_of}
 use Rattle.ell_core.specs.state.Machine.{ledger_of}
 use Rattle.ell_core.specs.acts.Searching.{IsClean}
 use Rattle.ell_core.specs.tree.Tree.{Reached, IsTreeKey, IsTreePair, IsLawful}
-use Rattle.ell_cards.specs.declared.view.View.{View}
-use Rattle.ell_cards.specs.States.{TableState}
-use Rattle.ell_cards.specs.Starts.{IsReached, IsSharedIn, RunFromStart}
+use Rattle.ell_runs.specs.declared.view.View.{View}
+use Rattle.ell_runs.specs.States.{TableState}
+use Rattle.ell_runs.specs.Starts.{IsReached, IsSharedIn, RunFromStart}
 use Rattle.ell_core.specs.declared.view.Entry.{Entry}
 use Rattle.ell_core.specs.declared.view.Entry.TheVariants.{Present}
-use Rattle.ell_cards.specs.Models.{PassModel, TablePlan}
+use Rattle.ell_cards.specs.Models.{PassModel}
+use Rattle.ell_runs.specs.Plans.{TablePlan}
 use Rattle.ell_cards.specs.Shown.{shown}
-use Rattle.ell_cards.specs.declared.view.Event.{Event}
-use Rattle.ell_cards.specs.Changing.{HasMap}
-use Rattle.ell_cards.specs.Linearizing.{ops_of}
-use Rattle.ell_cards.specs.Seeing.{HasSeenAll}
-use Rattle.ell_cards.specs.Sights.{IsPart}
+use Rattle.ell_runs.specs.declared.view.Event.{Event}
+use Rattle.ell_runs.specs.Changing.{HasMap}
+use Rattle.ell_runs.specs.Linearizing.{ops_of}
+use Rattle.ell_runs.specs.Seeing.{HasSeenAll}
+use Rattle.ell_runs.specs.Sights.{IsPart}
 use Rattle.ell_ops.specs.Contents.{Contents, contents_of}
 use Rattle.ell_ops.specs.Meaning.{final}
 

@@ -1,6 +1,6 @@
 use Rattle.std.specs.Prelude.{◌≡◌, Some, []}
 use Rattle.ell_cards.specs.declared.view.Period.{Period}
-use Rattle.ell_cards.specs.declared.view.Slots.{Slots}
+use Rattle.ell_runs.specs.declared.view.Slots.{Slots}
 use Rattle.ell_cards.specs.Memories.{SeatModel}
 use Rattle.ell_cards.specs.Models.{TableModel}
 use Rattle.ell_cards.specs.Periods.{StandsAs}

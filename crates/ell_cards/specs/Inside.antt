@@ -10,15 +10,16 @@ use Rattle.ell_cards.specs.declared.pass.Standing.{Standing}
 use Rattle.ell_cards.specs.declared.share.Share.{Share}
 use Rattle.ell_cards.specs.declared.view.Known.{Known}
 use Rattle.ell_cards.specs.declared.view.Period.{Period}
-use Rattle.ell_cards.specs.declared.view.Slots.{Slots}
-use Rattle.ell_cards.specs.declared.view.View.{View}
-use Rattle.ell_cards.specs.Changes.{ledger_keys}
-use Rattle.ell_cards.specs.Naming.{IsNamed, IsPlaced}
-use Rattle.ell_cards.specs.Depths.{deepest}
-use Rattle.ell_cards.specs.Models.{TablePlan, flat_from}
+use Rattle.ell_runs.specs.declared.view.Slots.{Slots}
+use Rattle.ell_runs.specs.declared.view.View.{View}
+use Rattle.ell_runs.specs.Changes.{ledger_keys}
+use Rattle.ell_runs.specs.Naming.{IsNamed}
+use Rattle.ell_cards.specs.InSlots.{IsPlaced}
+use Rattle.ell_runs.specs.Depths.{deepest}
+use Rattle.ell_runs.specs.Plans.{TablePlan, flat_from}
 use Rattle.ell_cards.specs.Periods.{slots_size, whole_size}
 use Rattle.ell_cards.specs.Shown.{shown}
-use Rattle.ell_cards.specs.Starts.{SlotsFit}
+use Rattle.ell_runs.specs.Starts.{SlotsFit}
 use Rattle.ell_cards.specs.SlotWords.{slot_of}
 
 -- the share of a pass as its code keeps it is that of its view, and it counts where some keys are shared

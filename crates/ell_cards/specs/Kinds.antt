@@ -4,11 +4,11 @@ use Rattle.ell_ops.specs.KeySet.{set_of}
 use Rattle.ell_ops.specs.Meaning.{greatest_key}
 use Rattle.ell_word.specs.Node.{greatest_number}
 use Rattle.ell_core.specs.state.Opening.{last_card}
-use Rattle.ell_cards.specs.declared.view.Slots.{Slots}
+use Rattle.ell_runs.specs.declared.view.Slots.{Slots}
 use Rattle.ell_cards.specs.declared.kind.TreeKind.{TreeKind}
 use Rattle.ell_cards.specs.declared.kind.TreeKind.TheVariants.{Owned, Shared, Flat, Reusing}
-use Rattle.ell_cards.specs.Models.{TablePlan}
-use Rattle.ell_cards.specs.Starts.{most_places}
+use Rattle.ell_runs.specs.Plans.{TablePlan}
+use Rattle.ell_runs.specs.Starts.{most_places}
 
 -- whether a tree of a kind shares every key that is not among its given keys
 abbrev pub shares_others : TreeKind → Bool

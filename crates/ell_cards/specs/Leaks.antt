@@ -8,11 +8,11 @@ use Rattle.ell_core.specs.history.Stages.{Stages}
 use Rattle.ell_grace.specs.Dead.{NeverComes}
 use Rattle.ell_grace.specs.Gone.{TakesOut}
 use Rattle.ell_cards.specs.declared.view.Known.{Known}
-use Rattle.ell_cards.specs.declared.view.Slots.{Slots}
-use Rattle.ell_cards.specs.declared.view.View.{View}
+use Rattle.ell_runs.specs.declared.view.Slots.{Slots}
+use Rattle.ell_runs.specs.declared.view.View.{View}
 use Rattle.ell_cards.specs.Periods.{WholeState, slot_word}
 use Rattle.ell_cards.specs.SlotWords.{is_noted}
-use Rattle.ell_cards.specs.Holding.{HoldsWaiting, HasFlagged}
+use Rattle.ell_runs.specs.Holding.{HoldsWaiting, HasFlagged}
 use Rattle.ell_cards.specs.Tied.{HasWon}
 
 -- A pass holds the slot of a card: it has taken that for the card, which it has in hand and has not flagged yet; or

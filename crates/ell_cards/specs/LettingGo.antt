@@ -6,12 +6,12 @@ use Rattle.ell_word.specs.Node.{IsNode, card}
 use Rattle.ell_core.specs.declared.fact.Fact.TheVariants.{IOver, DOver, Backed}
 use Rattle.ell_layout.specs.declared.field.Field.TheVariants as field
 use Rattle.ell_cards.specs.declared.view.Retired.{Retired}
-use Rattle.ell_cards.specs.declared.view.Slots.{Slots}
-use Rattle.ell_cards.specs.declared.view.Told.TheVariants.{Info}
-use Rattle.ell_cards.specs.declared.view.View.{View}
-use Rattle.ell_cards.specs.Models.{IsTold, Knows, Does}
+use Rattle.ell_runs.specs.declared.view.Slots.{Slots}
+use Rattle.ell_runs.specs.declared.view.Told.TheVariants.{Info}
+use Rattle.ell_runs.specs.declared.view.View.{View}
+use Rattle.ell_runs.specs.Views.{IsTold, Knows, Does}
 use Rattle.ell_cards.specs.SlotWords.{has_slot_in}
-use Rattle.ell_cards.specs.Holding.{HasFlagged, HoldsWaiting}
+use Rattle.ell_runs.specs.Holding.{HasFlagged, HoldsWaiting}
 
 -- A pass was told where the card of its insert or swap went, and the keys of the card's leaves, which are two above
 -- an internal node. If they are one, it has noted the leaf that the card took out, and what of the card never came;

@@ -1,117 +1,52 @@
--- how deep the nodes are that a pass has met
-pub mod Depths
+-- where a step call touches memory
+pub mod Addresses
+-- that what a pass names lies in slots
+pub mod InSlots
+-- what the passes of a table have seen of its history
+pub mod AllSeen
+-- what is shown of a pass says of each run that leads there
+pub mod InRuns
 -- what the words of slots say
 pub mod SlotWords
 -- what a pass notes of the nodes that its card in hand made dead
 pub mod Retiring
--- what a pass knows of its table's history
-pub mod Sights
 -- what contracts see of a memory and of a seat
 pub mod Memories
 -- what contracts see of a table and of a pass
 pub mod Models
--- how each step call changes what a pass knows
-pub mod Changes
--- which words a card says
-pub mod Sayings
--- what each step call asks of what the pass knows
-pub mod Guards
--- the step calls as one table: the word that each touches, what it does to it, its event, the change, the guard, what
--- it tells
-pub mod Calls
 -- nodes that a pass tells apart by what words hold of their numbers
 pub mod Apart
 -- what is shown of all this where words have 64 bits
 pub mod Shown
 -- what a step call leaves of a pass, as it is shown
 pub mod ShownTakings
--- states of a table
-pub mod States
--- turns of its passes, and runs of a table, one turn after the other
-pub mod Turns
--- what turns do, by the table's own words and what its passes know
-pub mod TurnEffects
--- tables as they start, and where runs lead from there
-pub mod Starts
 -- the places of passes and the clock: where their words stand, and what passes know of grace periods
 pub mod Periods
 -- what the steps on the words of periods and of slots leave as it was
 pub mod Frames
 -- the kinds of trees, and the plan by which each opens
 pub mod Kinds
--- cards that were laid aside
-pub mod Aside
 -- what is dead in a table's tree, and was when periods began
 pub mod Ages
 -- some of the three nodes of a card
 pub mod CardNodes
 -- that dead nodes are noted
 pub mod Noting
--- what passes have seen of their table's history
-pub mod Seeing
 -- the rule of a table: its tree, its history, and its periods
 pub mod Whole
 pub mod SeenLaws
 -- what the safe numbers of passes tell
 pub mod PeriodLaws
--- a small run, in which each step call is made
-pub mod SmallRun
 -- how a table ends
 pub mod Closed
--- laws of each table that turns have led to, by its own words
-pub mod OwnWords
--- what passes know of the claim word and of claims
-pub mod Readings
--- what comes to its end while a search goes on
-pub mod Meanwhile
--- how many tries of a pass others may hinder
-pub mod Contention
--- What can happen while no exchange of a child is won.
-pub mod Stretches
--- what a look for any key finds, and when it was so
-pub mod Looking
--- what no step can tell
-pub mod Tellings
--- what a pass names is in its table
-pub mod Naming
 -- a pass as its code keeps it
 pub mod Inside
 -- what the generic step asks and tells
 pub mod Stepping
 -- rows of numbers that a pass takes at once
 pub mod Skipping
--- the machine that a table has, wherever turns lead, and what the invariant has to keep of what passes know
-pub mod Machines
--- step calls, splits and joins as the machine's
-pub mod Laws
--- runs of a table as the machine's
-pub mod Runs
--- what runs of a table win for each card, after what its machine won
-pub mod RunLaws
--- the shares that the passes of a table have
-pub mod Sharing
--- calls, and the point at which each takes effect
-pub mod Changing
--- one sequence of the calls of a run, which replies as they do
-pub mod Linearizing
--- histories of tables, and that they are linearizable
-pub mod Histories
--- the point of the call that a pass answered last
-pub mod Answering
--- the value that a delete took
-pub mod Taking
--- calls that were laid down
-pub mod LayingDown
--- the places of looks in the sequence of calls
-pub mod Placing
--- and in the history that passes have seen
-pub mod LookPlaces
 -- what its public clauses cite of the crates below
 pub use Rattle.ell_ops.specs.KeySet
--- What step calls touch, and what was there before.
-pub mod Touching
--- What step calls touch was not dead, and what passes know to be dead.
-pub mod Dead
 pub use Rattle.ell_ops.specs.Meaning
 pub use Rattle.ell_word.specs.Node
 pub use Rattle.ell_word.specs.Word
@@ -126,9 +61,28 @@ pub use Rattle.ell_core.specs.statements.Effects
 pub use Rattle.ell_core.specs.statements.Readers
 -- what the memory of a table with places has of its tree
 pub mod Ties
--- the card that a pass has in hand, and what it is to have noted before it lets that go
-pub mod Holding
 pub mod LettingGo
 pub mod Tied
 -- that no slot stays in use for nothing
 pub mod Leaks
+-- what passes know, and what runs are, in the words of the crate below
+pub use Rattle.ell_runs.specs.Aside
+pub use Rattle.ell_runs.specs.Calls
+pub use Rattle.ell_runs.specs.Changes
+pub use Rattle.ell_runs.specs.Dead
+pub use Rattle.ell_runs.specs.Depths
+pub use Rattle.ell_runs.specs.Guards
+pub use Rattle.ell_runs.specs.Holding
+pub use Rattle.ell_runs.specs.LookPlaces
+pub use Rattle.ell_runs.specs.Looking
+pub use Rattle.ell_runs.specs.Naming
+pub use Rattle.ell_runs.specs.Plans
+pub use Rattle.ell_runs.specs.Sayings
+pub use Rattle.ell_runs.specs.Seeing
+pub use Rattle.ell_runs.specs.Sights
+pub use Rattle.ell_runs.specs.Starts
+pub use Rattle.ell_runs.specs.Touching
+pub use Rattle.ell_runs.specs.Views
+pub use Rattle.ell_runs.specs.declared.call.Call
+pub use Rattle.ell_runs.specs.declared.view.Told
+pub use Rattle.ell_runs.specs.declared.view.View

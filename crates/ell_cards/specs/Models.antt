@@ -1,41 +1,23 @@
-use Rattle.std.specs.Prelude.{◌≡◌, ◌≢◌, ℕ, ◌⊎◌, ◌+◌, ◌<◌, ◌≤◌, ◌*◌, ◌==◌, ◌||◌, ◌/◌, nat_le, nat_lt, if◌then◌else◌, Bool, true, false, Option, Some, None, is_some, List, [], ◌∷◌, length, min}
+use Rattle.std.specs.Prelude.{◌≡◌, ◌≢◌, ℕ, ◌+◌, ◌≤◌, Bool, false, Option, Some, None, is_some, min}
 use Rattle.atomic_table.specs.Seated.{TableId}
-use Rattle.ell_ops.specs.declared.op.Op.{Op}
 use Rattle.ell_word.specs.Node.{most_cards}
-use Rattle.ell_word.specs.declared.update.State.{State}
-use Rattle.ell_word.specs.declared.update.State.TheVariants as state
-use Rattle.ell_core.specs.declared.fact.Fact.{Fact}
-use Rattle.ell_core.specs.declared.fact.Fact.TheVariants.{IFlagged, DFlagged, Marked, IOver, DOver, Backed}
-use Rattle.ell_layout.specs.declared.field.Field.{Field}
-use Rattle.ell_layout.specs.Layout.{place}
-use Rattle.ell_core.specs.state.Facts.{known_of}
 use Rattle.ell_core.specs.state.Machine.{Ledger, ledger_of}
 use Rattle.ell_cards.specs.declared.fault.CardFault.{CardFault}
 use Rattle.ell_cards.specs.declared.fault.CardFault.TheVariants.{BadCards, NoMemory}
 use Rattle.ell_cards.specs.declared.fault.SplitFault.{SplitFault}
 use Rattle.ell_cards.specs.declared.fault.SplitFault.TheVariants.{TooManyPasses}
 use Rattle.ell_cards.specs.declared.fault.SplitFault.TheVariants as split_fault
-use Rattle.ell_cards.specs.declared.glance.Glance.{Glance}
-use Rattle.ell_cards.specs.declared.view.Told.{Told}
-use Rattle.ell_cards.specs.declared.view.View.{View}
+use Rattle.ell_runs.specs.declared.view.View.{View}
 use Rattle.ell_cards.specs.declared.view.Retired.{Retired}
-use Rattle.ell_cards.specs.declared.view.Sight.{Sight}
+use Rattle.ell_runs.specs.declared.view.Sight.{Sight}
 use Rattle.ell_cards.specs.declared.view.Survey.{Survey}
-use Rattle.ell_cards.specs.declared.view.Slots.{Slots}
+use Rattle.ell_runs.specs.declared.view.Slots.{Slots}
 use Rattle.ell_cards.specs.Retiring.{none_retired}
-use Rattle.ell_cards.specs.Sights.{given_sight}
-use Rattle.ell_cards.specs.declared.call.NewNode.{NewNode}
-
--- what a table opens with: the keys that may have owners, the start pairs, the last card, if all other keys are
--- shared, and if the tree is flat; and, if passes have places in it, how many cards have words and how many places
--- there are
-pub record TablePlan : Type 0 where
-  pub keys : List ℕ
-  pub start : List (ℕ × ℕ)
-  pub last_card : ℕ
-  pub shared : Bool
-  pub flat : Bool
-  pub slots : Option Slots
+use Rattle.ell_runs.specs.Sights.{given_sight, no_sight}
+use Rattle.ell_runs.specs.Views.{MayPart}
+use Rattle.ell_runs.specs.Plans.{TablePlan}
+use Rattle.ell_runs.specs.Changes.{first_of}
+use Rattle.ell_runs.specs.LookPlaces.{SeesMoreInLook}
 
 -- the last slot: each card lies in one, and without places in one of its own
 abbrev pub last_slot_of : Option Slots → ℕ → ℕ
@@ -44,14 +26,6 @@ last_slot_of (Some s) last = s.last
 
 abbrev pub last_slot : TablePlan → ℕ
 last_slot plan = last_slot_of plan.slots plan.last_card
-
--- the first card that is not of the opening tree, if the tree of a table is flat, else 0
-abbrev pub flat_from : TablePlan → ℕ
-flat_from plan = if plan.flat then length plan.start + 1 else 0
-
--- what the node of an insert's or a swap's card is to be, of this key
-abbrev pub new_node : TablePlan → ℕ → NewNode
-new_node plan key = record { key = key; flat = nat_lt 0 (flat_from plan) }
 
 -- which table it is, and what it was opened with
 pub record TableModel : Type 0 where
@@ -81,18 +55,6 @@ ledger p = ledger_of p.view.worker.ledger
 -- a pass owns a key
 abbrev pub Owns : PassModel → ℕ → Type 0
 Owns p key = ledger p key ≢ None
-
--- the whole share of a table, which its first pass has
-abbrev pub whole_share : ℕ
-whole_share = 4611686018427387904
-
--- the part of a share that a split gives away: of a great one little, so that one pass may part often; else half
-abbrev pub given_share : ℕ → ℕ
-given_share n = if nat_le 4294967296 n then n / 65536 else n / 2
-
--- a pass may be parted: where some keys are shared, each part gets a share
-abbrev pub MayPart : View → Type 0
-MayPart v = v.worker.shared ≢ None → 2 ≤ v.share
 
 -- one step more, but no more than 64 bits hold
 abbrev pub one_more : ℕ → ℕ
@@ -162,78 +124,6 @@ StepsOut old new v =
       sight = given_sight old.sight;
     }
 
--- of a list, the last first, one is this
-pub data Has {A : Type 0} : List A → A → Type 0 where
-  latest : (e : A) (es : List A) → Has (e ∷ es) e
-  earlier : (e d : A) (es : List A) → Has es e → Has (d ∷ es) e
-
--- the pass was told this
-abbrev pub IsTold : View → Told → Type 0
-IsTold v e = Has v.told e
-
--- the look that a pass began last has come to a node by the keys from low on and below high: by these, or by more
-pub record HasCome (v : View) (node low high : ℕ) : Type 0 where
-  pub glance : Glance
-  pub among : Has v.glances glance
-  pub there : glance.node ≡ node
-  pub from : glance.low ≤ low
-  pub upto : high ≤ glance.high
-
--- and by all of them as one
-pub record HasComeWhole (v : View) (node low high : ℕ) : Type 0 where
-  pub come : HasCome v node low high
-  pub whole : come.glance.whole ≡ true
-
--- the pass knows a fact
-abbrev pub Knows : View → Fact → Type 0
-Knows v fact = known_of v.worker.knows fact ≡ true
-
--- the pass knew a fact when its search began
-abbrev pub KnewBefore : View → Fact → Type 0
-KnewBefore v fact = known_of v.knew_before fact ≡ true
-
--- by these facts what a card was for has come to its end: the flag of its insert or delete was taken away
-abbrev pub EndedBy : List Fact → ℕ → Type 0
-EndedBy facts c =
-    (known_of facts (IOver c) ≡ true) ⊎ ((known_of facts (DOver c) ≡ true) ⊎ (known_of facts (Backed c) ≡ true))
-
--- whether facts tell that
-abbrev pub knows_end : List Fact → ℕ → Bool
-knows_end facts c = known_of facts (IOver c) || (known_of facts (DOver c) || known_of facts (Backed c))
-
--- an update that is not clean is of a card beside card 0, whose end the pass did not know when its search began
-abbrev pub EndWasUnknown : View → State → ℕ → Type 0
-EndWasUnknown v s c = s ≢ state.Clean → (0 < c) × (¬ EndedBy v.knew_before c)
-
--- the pass knows the flag or the mark of a delete's card
-abbrev pub KnowsDelete : View → ℕ → Type 0
-KnowsDelete v c = Knows v (DFlagged c) ⊎ Knows v (Marked c)
-
--- the pass knows the flag or the mark of a card
-abbrev pub KnowsCard : View → ℕ → Type 0
-KnowsCard v c = Knows v (IFlagged c) ⊎ (Knows v (DFlagged c) ⊎ Knows v (Marked c))
-
--- the pass has this operation in hand
-abbrev pub Does : View → Op → Type 0
-Does v op = v.worker.operation ≡ Some op
-
--- the pass stands at a node
-abbrev pub StandsAt : View → ℕ → Type 0
-StandsAt v x = v.worker.search.node ≡ Some x
-
--- the pass has nothing in hand
-abbrev pub IsFree : View → Type 0
-IsFree v = v.worker.operation ≡ None
-
--- a node of a table with this last card
-abbrev pub InTable : ℕ → ℕ → Type 0
-InTable last x = x ≤ 4 * last + 2
-
--- the word that a list of stores, the last first, leaves in a field that had 0
-abbrev pub stored_at : List (Field × ℕ) → Field → ℕ
-stored_at [] f = 0
-stored_at (e ∷ es) f = if place e.0 == place f then e.1 else stored_at es f
-
 -- when a pass is not parted: for its share exactly where that may not be; or, where there are places, for want of one
 abbrev pub SplitRefuses : Option Slots → View → SplitFault → Type 0
 SplitRefuses None v TooManyPasses = ¬ MayPart v
@@ -248,3 +138,26 @@ IsCardCount cards = (1 ≤ cards) × (cards ≤ most_cards)
 abbrev pub RefusesCards : ℕ → CardFault → Type 0
 RefusesCards cards BadCards = ¬ IsCardCount cards
 RefusesCards cards NoMemory = IsCardCount cards
+
+-- a table is opened by a plan: it has the plan, and its one pass knows what a first pass does, has made no step, is in no
+-- period, has looked at no place, and has seen nothing of the history, which is empty
+pub record OpensBy (plan : TablePlan) (made : TableModel × PassModel) : Type 0 where
+  pub table : made.0.plan ≡ plan
+  pub pass : made.1
+      ≡ record {
+        table = made.0.id;
+        view = first_of plan;
+        steps = 0;
+        label = 0;
+        safe = 0;
+        inside = false;
+        surveyed = no_survey;
+        slot = None;
+        retired = none_retired;
+        sight = no_sight;
+      }
+
+-- a pass made one step of a look that it has not counted yet, knows this now, and has seen more of the history
+pub record SeesInLook (old new : PassModel) (v : View) : Type 0 where
+  pub step : SeesOn old new v
+  pub sees : SeesMoreInLook old.sight new.sight

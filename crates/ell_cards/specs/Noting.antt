@@ -3,13 +3,14 @@ use Rattle.std.specs.Prelude.{◌≡◌, ◌≢◌, ℕ, ◌+◌, ◌*◌, ◌%�
 use Rattle.ell_word.specs.Node.{card}
 use Rattle.ell_cards.specs.declared.card_nodes.CardNodes.{CardNodes}
 use Rattle.ell_cards.specs.declared.view.Retired.{Retired}
-use Rattle.ell_cards.specs.declared.view.Slots.{Slots}
-use Rattle.ell_cards.specs.declared.view.Told.TheVariants.{Met}
-use Rattle.ell_cards.specs.declared.view.View.{View}
+use Rattle.ell_runs.specs.declared.view.Slots.{Slots}
+use Rattle.ell_runs.specs.declared.view.Told.TheVariants.{Met}
+use Rattle.ell_runs.specs.declared.view.View.{View}
 use Rattle.ell_cards.specs.Ages.{KnowsDeadNode}
 use Rattle.ell_cards.specs.CardNodes.{has_node}
-use Rattle.ell_cards.specs.Dead.{HasTakenOut, KnowsNeverComes}
-use Rattle.ell_cards.specs.Models.{PassModel, IsTold}
+use Rattle.ell_runs.specs.Dead.{HasTakenOut, KnowsNeverComes}
+use Rattle.ell_cards.specs.Models.{PassModel}
+use Rattle.ell_runs.specs.Views.{IsTold}
 use Rattle.ell_cards.specs.Retiring.{how_many_noted, is_done, with_retired}
 use Rattle.ell_cards.specs.SlotWords.{card_by, has_slot_in, slot_of, turn_in, turn_of}
 

@@ -3,23 +3,24 @@ use Rattle.std.specs.List.{IsDistinct, AllByRecursion}
 use mathlib.Core.Option.{some}
 use lib.ListN.{get_elem?}
 use Rattle.ell_cards.specs.declared.view.Known.{Known}
-use Rattle.ell_cards.specs.declared.view.Slots.{Slots}
-use Rattle.ell_cards.specs.declared.view.Told.TheVariants.{Info}
+use Rattle.ell_runs.specs.declared.view.Slots.{Slots}
+use Rattle.ell_runs.specs.declared.view.Told.TheVariants.{Info}
 use Rattle.ell_word.specs.Node.{card}
 use Rattle.ell_layout.specs.declared.field.Field.{Field}
 use Rattle.ell_layout.specs.declared.field.Field.TheVariants as field
 use Rattle.ell_layout.specs.Layout.{address}
 use Rattle.ell_core.specs.tree.Tree.{ListsTreePairs}
-use Rattle.ell_cards.specs.declared.call.Call.{Call}
-use Rattle.ell_cards.specs.Calls.{May, word_of}
+use Rattle.ell_runs.specs.declared.call.Call.{Call}
+use Rattle.ell_runs.specs.Calls.{May, word_of}
 use Rattle.ell_cards.specs.Leaks.{NothingLeaks}
-use Rattle.ell_cards.specs.Machines.{HasMachine}
-use Rattle.ell_cards.specs.Models.{TablePlan, IsTold}
+use Rattle.ell_runs.specs.Machines.{HasMachine}
+use Rattle.ell_runs.specs.Plans.{TablePlan}
+use Rattle.ell_runs.specs.Views.{IsTold}
 use Rattle.ell_cards.specs.Periods.{WholeState, clock_word, slot_word}
 use Rattle.ell_cards.specs.SlotWords.{card_by, is_noted, slot_of, stamp_in}
 use Rattle.ell_cards.specs.CardNodes.{has_node}
 use Rattle.ell_cards.specs.Tied.{MayInMemory}
-use Rattle.ell_cards.specs.TurnEffects.{own_words}
+use Rattle.ell_runs.specs.TurnEffects.{own_words}
 use Rattle.ell_cards.specs.Whole.{IsWhole}
 
 -- a pass in a seat of a table is in a period: it has a place, and announces a reading there

@@ -1,6 +1,5 @@
-use Rattle.std.specs.Prelude.{◌≡◌, ◌≢◌, ℕ, zero, suc, ◌+◌, ◌-◌, ◌*◌, ◌/◌, ◌<◌, ◌≤◌, ◌==◌, ◌++◌, ◌&&◌, ◌⊎◌, max, nat_lt, nat_le, if◌then◌else◌, ◌%◌, Bool, Option, Some, None, List, [], length, replicate, slice_index, slice_set, true, false}
-use mathlib.Core.Option.{some, none}
-use mathlib.Core.Option.{Option as Maybe}
+use Rattle.std.specs.Prelude.{◌≡◌, ◌≢◌, ℕ, zero, suc, ◌+◌, ◌-◌, ◌*◌, ◌/◌, ◌<◌, ◌≤◌, ◌==◌, ◌++◌, ◌&&◌, ◌⊎◌, max, nat_lt, nat_le, if◌then◌else◌, ◌%◌, Bool, Option, Some, None, List, length, replicate, slice_index, slice_set, true, false}
+use mathlib.Core.Option.{some, none, Option as Maybe}
 use lib.ListN.{get_elem?}
 use Rattle.atomic_table.specs.Table.{State}
 use Rattle.ell_layout.specs.Layout.{table_size}
@@ -9,15 +8,14 @@ use Rattle.ell_grace.specs.epochs.Periods.{GraceIsSound}
 use Rattle.ell_cards.specs.declared.card_nodes.CardNodes.{CardNodes}
 use Rattle.ell_cards.specs.declared.view.Known.{Known}
 use Rattle.ell_cards.specs.declared.view.Period.{Period}
-use Rattle.ell_cards.specs.declared.view.Slots.{Slots}
+use Rattle.ell_runs.specs.declared.view.Slots.{Slots}
 use Rattle.ell_cards.specs.declared.view.Stamp.{Stamp}
 use Rattle.ell_cards.specs.declared.view.Survey.{Survey}
-use Rattle.ell_cards.specs.declared.view.Told.{Told}
-use Rattle.ell_cards.specs.declared.view.Told.TheVariants.{Met, Key}
-use Rattle.ell_cards.specs.declared.view.View.{View}
-use Rattle.ell_cards.specs.Models.{TablePlan, IsFree, IsTold, no_survey}
+use Rattle.ell_runs.specs.Plans.{TablePlan}
+use Rattle.ell_cards.specs.Models.{no_survey}
 use Rattle.ell_cards.specs.Retiring.{is_done, none_retired, retires_if, with_retired}
 use Rattle.ell_cards.specs.SlotWords.{slot_of, card_by, free_word, freed_by, has_slot_in, taken_word}
+use Rattle.ell_runs.specs.Touching.{IsAtRest}
 
 -- the state of a table, with all that its passes know
 abbrev pub WholeState : Type 0
@@ -264,20 +262,6 @@ joined_period p other = record p { other = other.place; other_says = other.annou
 pub data HasPlace (p : Period) (q : ℕ) : Type 0 where
   own : p.place ≡ Some q → HasPlace p q
   spare : p.other ≡ Some q → HasPlace p q
-
--- what was told names no node but the root
-abbrev pub IsOfRoot : Told → Type 0
-IsOfRoot (Met x) = x ≡ 0
-IsOfRoot (Key x key) = x ≡ 0
-IsOfRoot _ = ⊥
-
--- a pass has nothing in hand and stands nowhere, and has forgotten what it was told, and where a look had come to
-pub record IsAtRest (v : View) : Type 0 where
-  pub free : IsFree v
-  pub nowhere : v.worker.search.node ≡ None
-  pub empty : v.worker.card ≡ None
-  pub forgot : (e : Told) → IsTold v e → IsOfRoot e
-  pub nothing : v.glances ≡ []
 
 -- a place is one of the table, and its word says that this is announced there, or that nothing is
 abbrev pub PlaceHas : Slots → List ℕ → ℕ → Option ℕ → Type 0

@@ -3,11 +3,11 @@ use mathlib.Core.Option.{some}
 use lib.ListN.{get_elem?}
 use Rattle.ell_ops.specs.Contents.{contents_of}
 use Rattle.ell_cards.specs.declared.view.Known.{Known}
-use Rattle.ell_cards.specs.Histories.{IsLinearizable, history_of}
-use Rattle.ell_cards.specs.Models.{TablePlan}
+use Rattle.ell_runs.specs.Histories.{IsLinearizable, history_of}
+use Rattle.ell_runs.specs.Plans.{TablePlan}
 use Rattle.ell_cards.specs.Periods.{WholeState}
-use Rattle.ell_cards.specs.Seeing.{HasSeenAll}
-use Rattle.ell_cards.specs.Sights.{IsPart}
+use Rattle.ell_runs.specs.Seeing.{HasSeenAll}
+use Rattle.ell_runs.specs.Sights.{IsPart}
 use Rattle.ell_cards.specs.Whole.{IsWhole}
 
 -- what each pass has seen of its table's history is linearizable

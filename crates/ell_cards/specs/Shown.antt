@@ -10,18 +10,20 @@ use Rattle.ell_layout.specs.Cards.{stored}
 use Rattle.ell_core.specs.declared.view.Seen.{Seen}
 use Rattle.ell_core.specs.declared.view.Search.{Search}
 use Rattle.ell_core.specs.state.Machine.{WorkerView}
-use Rattle.ell_cards.specs.declared.call.Call.{Call}
-use Rattle.ell_cards.specs.declared.call.Call.TheVariants as call
-use Rattle.ell_cards.specs.declared.call.NewNode.{NewNode}
-use Rattle.ell_cards.specs.declared.glance.Glance.{Glance}
-use Rattle.ell_cards.specs.declared.view.Told.{Told}
-use Rattle.ell_cards.specs.declared.view.Told.TheVariants.{Met, Depth, Key, Value, Info, Expects, Frozen}
-use Rattle.ell_cards.specs.declared.view.View.{View}
+use Rattle.ell_runs.specs.declared.call.Call.{Call}
+use Rattle.ell_runs.specs.declared.call.Call.TheVariants as call
+use Rattle.ell_runs.specs.declared.call.NewNode.{NewNode}
+use Rattle.ell_runs.specs.declared.glance.Glance.{Glance}
+use Rattle.ell_runs.specs.declared.view.Told.{Told}
+use Rattle.ell_runs.specs.declared.view.Told.TheVariants.{Met, Depth, Key, Value, Info, Expects, Frozen}
+use Rattle.ell_runs.specs.declared.view.View.{View}
 use Rattle.ell_cards.specs.Apart.{cut_node, IsApart}
-use Rattle.ell_cards.specs.Models.{TablePlan, stored_at}
-use Rattle.ell_cards.specs.Changes.{after_claim, first_of, spent_view, left_view, right_view, joined_view}
-use Rattle.ell_cards.specs.Calls.{May, Tells, after, place_of, atomic_of, left_by, is_won, act_of, said_of}
-use Rattle.ell_cards.specs.Periods.{IsAtRest}
+use Rattle.ell_runs.specs.Plans.{TablePlan}
+use Rattle.ell_runs.specs.Views.{stored_at}
+use Rattle.ell_runs.specs.Changes.{after_claim, first_of, spent_view, left_view, right_view, joined_view}
+use Rattle.ell_runs.specs.Calls.{May, Tells, after, atomic_of, left_by, is_won, act_of, said_of}
+use Rattle.ell_cards.specs.Addresses.{place_of}
+use Rattle.ell_runs.specs.Touching.{IsAtRest}
 
 -- a number that a word holds whole
 abbrev pub IsWord : ℕ → Type 0

@@ -1,10 +1,10 @@
 -- What a step call leaves of a pass is so of what is shown of it too.
 use Rattle.std.specs.Prelude.{ℕ}
-use Rattle.ell_cards.specs.declared.call.Call.{Call}
-use Rattle.ell_cards.specs.declared.view.View.{View}
-use Rattle.ell_cards.specs.Models.{TablePlan}
+use Rattle.ell_runs.specs.declared.call.Call.{Call}
+use Rattle.ell_runs.specs.declared.view.View.{View}
+use Rattle.ell_runs.specs.Plans.{TablePlan}
 use Rattle.ell_cards.specs.Apart.{IsApart}
-use Rattle.ell_cards.specs.Calls.{May}
+use Rattle.ell_runs.specs.Calls.{May}
 use Rattle.ell_cards.specs.Shown.{cut_by, shown, shown_call, CanBeShown, IsNoClaim}
 use Rattle.ell_cards.specs.Stepping.{IsTaken}
 

@@ -1,20 +1,21 @@
 -- A pass takes the numbers of cards from one to another at once, where only the last one's slot is one that it may
 -- take.
-use Rattle.std.specs.Prelude.{◌≡◌, ◌≢◌, ◌⊎◌, ℕ, zero, suc, ◌+◌, ◌-◌, ◌*◌, ◌≤◌, ◌==◌, List, [], ◌∷◌, if◌then◌else◌, Bool, true, false, Option, None, Some}
+use Rattle.std.specs.Prelude.{◌≡◌, ◌≢◌, ◌⊎◌, ℕ, zero, suc, ◌+◌, ◌-◌, ◌*◌, ◌≤◌, List, [], ◌∷◌, if◌then◌else◌, Bool, true, false, Option, None, Some}
 use Rattle.atomic_table.specs.Table.{Allows}
 use Rattle.ell_core.specs.declared.exchange.Exchange.{Exchange}
 use Rattle.ell_core.specs.declared.exchange.Exchange.TheVariants as exchange
-use Rattle.ell_cards.specs.declared.call.Call.TheVariants as call
-use Rattle.ell_cards.specs.declared.call.NewNode.{NewNode}
+use Rattle.ell_runs.specs.declared.call.Call.TheVariants as call
+use Rattle.ell_runs.specs.declared.call.NewNode.{NewNode}
 use Rattle.ell_cards.specs.declared.view.Known.{Known}
-use Rattle.ell_cards.specs.declared.view.Told.{Told}
-use Rattle.ell_cards.specs.declared.view.Told.TheVariants.{Expects}
-use Rattle.ell_cards.specs.declared.view.View.{View}
-use Rattle.ell_cards.specs.Models.{TablePlan, PassModel, Has, IsTold}
-use Rattle.ell_cards.specs.Changes.{after_claim, expected_tag, filling_of, tagged, told_filling, value_told}
-use Rattle.ell_cards.specs.Calls.{after}
+use Rattle.ell_runs.specs.declared.view.Told.{Told}
+use Rattle.ell_runs.specs.declared.view.Told.TheVariants.{Expects}
+use Rattle.ell_runs.specs.declared.view.View.{View}
+use Rattle.ell_runs.specs.Plans.{TablePlan}
+use Rattle.ell_cards.specs.Models.{PassModel}
+use Rattle.ell_runs.specs.Views.{Has, IsTold}
+use Rattle.ell_runs.specs.Changes.{after_claim, expected_tag, filling_of, tagged, told_filling, value_told}
+use Rattle.ell_runs.specs.Calls.{after}
 use Rattle.ell_cards.specs.Shown.{cut_planned, shown_words, shown}
-use Rattle.ell_cards.specs.Stepping.{IsInside}
 use Rattle.ell_cards.specs.Whole.{IsWhole}
 
 -- what a pass knows once it has claimed a card, and then read the claim word

@@ -4,29 +4,33 @@ use lib.ListN.{get_elem?}
 use Rattle.std.specs.List.Sorted.{IsStrictlyIncreasing}
 use Rattle.atomic_table.specs.Table.{Allows}
 use Rattle.ell_layout.specs.declared.field.Field.{Field}
-use Rattle.ell_cards.specs.declared.call.Call.{Call}
-use Rattle.ell_cards.specs.declared.call.Call.TheVariants as call
+use Rattle.ell_runs.specs.declared.call.Call.{Call}
+use Rattle.ell_runs.specs.declared.call.Call.TheVariants as call
 use Rattle.ell_cards.specs.declared.view.Known.{Known}
 use Rattle.ell_cards.specs.declared.view.Period.{Period}
-use Rattle.ell_cards.specs.declared.view.Slots.{Slots}
-use Rattle.ell_cards.specs.declared.view.View.{View}
-use Rattle.ell_cards.specs.Models.{Steps, flat_from, last_slot, TablePlan, PassModel, IsFree, MayPart, one_more, given_share}
-use Rattle.ell_cards.specs.Changes.{ledger_keys}
-use Rattle.ell_cards.specs.Depths.{deepest, IsShallow}
-use Rattle.ell_cards.specs.Naming.{IsNamed, IsPlaced}
-use Rattle.ell_cards.specs.Calls.{Exchange, atomic_of, after, May, Tells}
+use Rattle.ell_runs.specs.declared.view.Slots.{Slots}
+use Rattle.ell_runs.specs.declared.view.View.{View}
+use Rattle.ell_cards.specs.Models.{Steps, last_slot, PassModel, one_more}
+use Rattle.ell_runs.specs.Plans.{flat_from, TablePlan}
+use Rattle.ell_runs.specs.Views.{IsFree, MayPart, given_share}
+use Rattle.ell_runs.specs.Changes.{ledger_keys}
+use Rattle.ell_runs.specs.Depths.{deepest, IsShallow}
+use Rattle.ell_runs.specs.Naming.{IsNamed}
+use Rattle.ell_cards.specs.InSlots.{IsPlaced}
+use Rattle.ell_runs.specs.Calls.{Exchange, atomic_of, after, May, Tells}
 use Rattle.ell_cards.specs.Apart.{IsApart}
-use Rattle.ell_cards.specs.Seeing.{Marks}
+use Rattle.ell_runs.specs.Seeing.{Marks}
 use Rattle.ell_cards.specs.Shown.{cut_word, cut_by, shown, shown_call, CanBeShown}
-use Rattle.ell_cards.specs.States.{TableState}
+use Rattle.ell_runs.specs.States.{TableState}
 use Rattle.ell_cards.specs.LettingGo.{MayLetGo}
 use Rattle.ell_cards.specs.Tied.{HasStoredAll, MayInMemory}
-use Rattle.ell_cards.specs.Turns.{found_by, view_after}
-use Rattle.ell_cards.specs.Starts.{IsReached}
-use Rattle.ell_cards.specs.Looking.{KeysAreFixed, ReadsItsOwn, MissesItsOwn}
+use Rattle.ell_runs.specs.Turns.{found_by, view_after}
+use Rattle.ell_runs.specs.Starts.{IsReached}
+use Rattle.ell_runs.specs.Looking.{KeysAreFixed, ReadsItsOwn, MissesItsOwn}
 use Rattle.ell_cards.specs.declared.share.Share.{Share}
 use Rattle.ell_cards.specs.Whole.{IsWhole}
 use Rattle.ell_cards.specs.Inside.{HasShare}
+use Rattle.ell_runs.specs.Views.{SameShare}
 
 -- Wherever turns have led the table, and whatever a pass knows of which this is shown, and which tells nodes apart: each
 -- call of which that one is shown, if the pass may make it, finds a word, and this holds of what is shown of the word
@@ -61,11 +65,6 @@ MayGoOn plan k i f then =
 pub record MaySplit (v : View) : Type 0 where
   pub free : IsFree v
   pub may : MayPart v
-
--- a pass has the share that it had
-pub record SameShare (old new : View) : Type 0 where
-  pub share : new.share ≡ old.share
-  pub ownable : new.worker.shared ≡ old.worker.shared
 
 -- a pass with these keys may know this, where a pass of its table knew that
 pub record MayHave (old : View) (keys : List ℕ) (v : View) : Type 0 where

@@ -5,20 +5,20 @@ use lib.ListN.{get_elem?}
 use Rattle.ell_layout.specs.declared.field.Field.{Field}
 use Rattle.ell_layout.specs.Layout.{address}
 use Rattle.ell_core.specs.history.Stages.{Stages, is_claimed, waits}
-use Rattle.ell_cards.specs.declared.call.Call.{Call}
-use Rattle.ell_cards.specs.declared.call.Call.TheVariants as call
+use Rattle.ell_runs.specs.declared.call.Call.{Call}
+use Rattle.ell_runs.specs.declared.call.Call.TheVariants as call
 use Rattle.ell_cards.specs.declared.view.Known.{Known}
 use Rattle.ell_cards.specs.declared.view.Retired.{Retired}
-use Rattle.ell_cards.specs.declared.view.Slots.{Slots}
-use Rattle.ell_cards.specs.declared.view.View.{View}
-use Rattle.ell_cards.specs.Holding.{HoldsWaiting}
+use Rattle.ell_runs.specs.declared.view.Slots.{Slots}
+use Rattle.ell_runs.specs.declared.view.View.{View}
+use Rattle.ell_runs.specs.Holding.{HoldsWaiting}
 use Rattle.ell_cards.specs.LettingGo.{MayLetGo}
-use Rattle.ell_cards.specs.Models.{Has}
+use Rattle.ell_runs.specs.Views.{Has}
 use Rattle.ell_cards.specs.Periods.{WholeState}
-use Rattle.ell_cards.specs.Sayings.{says, put_says, delete_says}
+use Rattle.ell_runs.specs.Sayings.{says, put_says, delete_says}
 use Rattle.ell_cards.specs.Shown.{cut_field}
 use Rattle.ell_cards.specs.SlotWords.{has_slot_in, slot_of}
-use Rattle.ell_cards.specs.States.{TableState}
+use Rattle.ell_runs.specs.States.{TableState}
 
 -- a card lies in its slot, where these lie in the slots of a table
 abbrev pub LiesThere : Slots → (ℕ → ℕ) → ℕ → Type 0

@@ -10,28 +10,31 @@ use Rattle.ell_layout.specs.Layout.{table_size}
 use Rattle.ell_word.specs.Link.{link_in}
 use Rattle.ell_word.specs.Node.{IsInternal, card, greatest_card, turn_size}
 use Rattle.ell_core.specs.history.Stages.{Stages}
-use Rattle.ell_cards.specs.declared.call.Call.{Call}
-use Rattle.ell_cards.specs.declared.call.Call.TheVariants as call
+use Rattle.ell_runs.specs.declared.call.Call.{Call}
+use Rattle.ell_runs.specs.declared.call.Call.TheVariants as call
 use Rattle.ell_cards.specs.declared.view.Known.{Known}
 use Rattle.ell_cards.specs.declared.view.Period.{Period}
-use Rattle.ell_cards.specs.declared.view.Slots.{Slots}
-use Rattle.ell_cards.specs.declared.view.Told.TheVariants.{Met}
+use Rattle.ell_runs.specs.declared.view.Slots.{Slots}
+use Rattle.ell_runs.specs.declared.view.Told.TheVariants.{Met}
 use Rattle.ell_cards.specs.Ages.{AgesAreSound}
-use Rattle.ell_cards.specs.Changes.{left_view, right_view}
+use Rattle.ell_runs.specs.Changes.{left_view, right_view}
 use Rattle.ell_cards.specs.Apart.{IsApart, IsToldApart}
-use Rattle.ell_cards.specs.Calls.{May, child_address, place_of, atomic_of, left_by}
-use Rattle.ell_cards.specs.Models.{TablePlan, IsFree, IsTold, MayPart}
+use Rattle.ell_runs.specs.Calls.{May, child_address, atomic_of, left_by}
+use Rattle.ell_cards.specs.Addresses.{place_of}
+use Rattle.ell_runs.specs.Plans.{TablePlan}
+use Rattle.ell_runs.specs.Views.{IsFree, IsTold, MayPart}
 use Rattle.ell_cards.specs.PeriodLaws.{IsInPeriod}
-use Rattle.ell_cards.specs.Periods.{WholeState, IsAtRest, slot_word, slots_size, AreOpeningWords, after_give, after_taking, given_period}
+use Rattle.ell_cards.specs.Periods.{WholeState, slot_word, slots_size, AreOpeningWords, after_give, after_taking, given_period}
+use Rattle.ell_runs.specs.Touching.{IsAtRest}
 use Rattle.ell_cards.specs.Shown.{IsWord, cut_by, IsNear}
-use Rattle.ell_cards.specs.Sights.{given_sight}
+use Rattle.ell_runs.specs.Sights.{given_sight}
 use Rattle.ell_cards.specs.SlotWords.{has_slot_in, slot_of, turn_of, taken_word}
-use Rattle.ell_cards.specs.Starts.{MayStart, IsReached}
-use Rattle.ell_cards.specs.States.{TableState}
-use Rattle.ell_cards.specs.Holding.{HoldsWaiting}
+use Rattle.ell_runs.specs.Starts.{MayStart, IsReached}
+use Rattle.ell_runs.specs.States.{TableState}
+use Rattle.ell_runs.specs.Holding.{HoldsWaiting}
 use Rattle.ell_cards.specs.Tied.{LiesThere, IsTied, MayInMemory}
-use Rattle.ell_cards.specs.Touching.{Touched, AtNode, OfCard, AtRoot, touched_by}
-use Rattle.ell_cards.specs.Turns.{found_by, view_after, state_after, state_split, state_joined}
+use Rattle.ell_runs.specs.Touching.{Touched, AtNode, OfCard, AtRoot, touched_by}
+use Rattle.ell_runs.specs.Turns.{found_by, view_after, state_after, state_split, state_joined}
 use Rattle.ell_cards.specs.Whole.{IsWhole, trees_of, first_known, joined_known, spent_known}
 
 -- the card whose word a call touches; the claim word is taken for one of card 0

@@ -1,23 +1,23 @@
-use Rattle.std.specs.Prelude.{◌≡◌, ℕ, Option, Some, None, List, length, map, slice_index}
+use Rattle.std.specs.Prelude.{◌≡◌, ℕ, Option, Some, None, List, length, map, slice_index, []}
 use mathlib.Core.Option.{some}
 use lib.ListN.{get_elem?}
 use Rattle.ell_layout.specs.declared.field.Field.{Field}
 use Rattle.ell_layout.specs.Layout.{address}
 use Rattle.ell_layout.specs.Cards.{stored}
 use Rattle.ell_cards.specs.declared.view.Known.{Known}
-use Rattle.ell_cards.specs.declared.view.Slots.{Slots}
-use Rattle.ell_cards.specs.declared.view.View.{View}
-use Rattle.ell_cards.specs.Models.{TablePlan}
-use Rattle.ell_cards.specs.Changes.{first_of, joined_view, spent_view}
+use Rattle.ell_runs.specs.declared.view.Slots.{Slots}
+use Rattle.ell_runs.specs.declared.view.View.{View}
+use Rattle.ell_runs.specs.Plans.{TablePlan}
+use Rattle.ell_runs.specs.Changes.{first_of, joined_view, spent_view}
 use Rattle.ell_cards.specs.Periods.{WholeState, slots_size, no_period, first_period, joined_period}
 use Rattle.ell_cards.specs.Ages.{HasPeriods}
 use Rattle.ell_cards.specs.Leaks.{NothingLeaks}
 use Rattle.ell_cards.specs.Shown.{shown_word, FieldIsWhole, StoresAreWhole}
-use Rattle.ell_cards.specs.Histories.{history_of}
-use Rattle.ell_cards.specs.Seeing.{AllHaveSeen, AreAllApart, AreMade, AreSilent}
-use Rattle.ell_cards.specs.Sights.{no_sight, joined_sight}
-use Rattle.ell_cards.specs.Starts.{IsReached}
-use Rattle.ell_cards.specs.States.{TableState}
+use Rattle.ell_runs.specs.Histories.{history_of}
+use Rattle.ell_cards.specs.AllSeen.{AllHaveSeen, AreAllApart, AreMade, AreSilent}
+use Rattle.ell_runs.specs.Sights.{no_sight, joined_sight}
+use Rattle.ell_runs.specs.Starts.{IsReached}
+use Rattle.ell_runs.specs.States.{TableState}
 
 -- what the passes of a table know of its tree
 abbrev pub trees_of : List Known → List View
@@ -76,7 +76,7 @@ pub record IsWhole (plan : TablePlan) (t : WholeState) : Type 0 where
   pub silent : AreSilent plan t.views
   pub apart : AreAllApart t.views
   pub views : trees_of t.views ≡ tree.views
-  pub homes : tree.homes ≡ t.homes
+  pub homes : t.homes ≡ []
   pub words : WordsAre plan.slots t.words tree.words
   pub stores : AllStoresAreWhole plan.slots tree
   pub periods : PeriodsAre plan plan.slots tree t

@@ -6,7 +6,8 @@ ghost use Rattle.ell_word.specs.Node.{card, greatest_card, IsNode};
 ghost use Rattle.ell_layout.specs.Layout.{table_size};
 ghost use Rattle.ell_layout.specs.Words.{word, words_of};
 ghost use Rattle.ell_core.specs.state.Machine.{ledger_of};
-ghost use Rattle.ell_cards.specs.Models.{IsFree, last_slot, whole_share};
+ghost use Rattle.ell_runs.specs.Views.{IsFree, whole_share};
+ghost use Rattle.ell_cards.specs.Models.{last_slot};
 ghost use Rattle.ell_cards.specs.Closed.{ClosedModel, HistoryEnds, TableEnds};
 
 use crate::fixed::FixedMemory;

@@ -1,6 +1,6 @@
 //! What a worker reports of its steps.
-use crate::call::Call;
 use ell_core::Exchange;
+use ell_runs::Call;
 
 /// The kinds of step that a worker makes. All but `Begin` are one atomic step each.
 #[derive(Clone, Copy, Debug, PartialEq, Eq)]

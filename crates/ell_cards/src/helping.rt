@@ -6,17 +6,17 @@ ghost use Rattle.ell_word.specs.Link.{linked, IsLink};
 ghost use Rattle.ell_word.specs.declared.link.Link.{Link};
 ghost use Rattle.ell_core.specs.declared.exchange.Exchange.TheVariants as exchange;
 ghost use Rattle.ell_core.specs.declared.fact.Fact.TheVariants.{IChanged, Marked, Unmarkable, Cut};
-ghost use Rattle.ell_cards.specs.Depths.{IsShallow, deepest};
+ghost use Rattle.ell_runs.specs.Depths.{IsShallow, deepest};
 ghost use Rattle.ell_layout.specs.declared.field.Field.TheVariants.{Gp, P};
 ghost use Rattle.ell_layout.specs.Cards.{says_by};
-ghost use Rattle.ell_cards.specs.Models.{Steps, InTable};
-ghost use Rattle.ell_cards.specs.Changes.{after_mark, if_won, exchanged, found_update, found_word};
-ghost use Rattle.ell_cards.specs.declared.call.Call.TheVariants as call;
-ghost use Rattle.ell_cards.specs.Guards.{KnowsPlace, MayAsk, MayDChild, MayIChild, MayMark};
-ghost use Rattle.ell_cards.specs.Calls.{after, TellsNode};
+ghost use Rattle.ell_cards.specs.Models.{Steps};
+ghost use Rattle.ell_runs.specs.Views.{InTable};
+ghost use Rattle.ell_runs.specs.Changes.{after_mark, if_won, exchanged, found_update, found_word};
+ghost use Rattle.ell_runs.specs.declared.call.Call.TheVariants as call;
+ghost use Rattle.ell_runs.specs.Guards.{KnowsPlace, MayAsk, MayDChild, MayIChild, MayMark};
+ghost use Rattle.ell_runs.specs.Calls.{after, TellsNode};
 ghost use Rattle.ell_cards.specs.Stepping.{StepsBySome};
 
-use crate::call::Call;
 use crate::gate::StepGate;
 use crate::memory::Memory;
 use crate::outcomes::update_outcome;
@@ -24,6 +24,7 @@ use crate::pass::Pass;
 use crate::places::{child_address, field_address, update_address};
 use crate::steps::TableSteps;
 use ell_layout::{Field, brought_node, update_word};
+use ell_runs::Call;
 use ell_word::{Link, State, Update};
 
 impl<M: Memory, G: StepGate> TableSteps<'_, M, G> {

@@ -2,7 +2,7 @@
 ghost use Rattle.std.specs.Prelude.{◌≡◌};
 ghost use Rattle.ell_cards.specs.Kinds.{is_flat, last_number, shares_others, slots_of};
 
-use crate::view::Slots;
+use ell_runs::Slots;
 use ell_word::NUMBER_MAX;
 
 /// What a tree is like, beside its keys and its cards.

@@ -11,15 +11,18 @@ ghost use Rattle.ell_core.specs.state.Machine.{ledger_of};
 ghost use Rattle.ell_layout.specs.Layout.{table_size};
 ghost use Rattle.ell_layout.specs.Start.{words_at_start};
 ghost use Rattle.ell_layout.specs.Words.{has_block, words_of};
-ghost use Rattle.ell_cards.specs.Models.{flat_from, Steps, StepsOut, IsFree, IsCardCount, MayPart, RefusesCards, SplitRefuses, one_more};
-ghost use Rattle.ell_cards.specs.Changes.{left_view, right_view, joined_view};
+ghost use Rattle.ell_runs.specs.Plans.{flat_from};
+ghost use Rattle.ell_cards.specs.Models.{Steps, StepsOut, IsCardCount, RefusesCards, SplitRefuses, one_more};
+ghost use Rattle.ell_runs.specs.Views.{IsFree, MayPart};
+ghost use Rattle.ell_runs.specs.Changes.{left_view, right_view, joined_view};
 ghost use Rattle.ell_cards.specs.Inside.{IsNewTable};
 ghost use Rattle.ell_cards.specs.Stepping.{MaySplit, MayHave, PartsShare};
 ghost use Rattle.ell_cards.specs.Periods.{AreWholeWords, most_claims, slot_word, slots_size, whole_size, words_of_free_slots};
 ghost use Rattle.ell_cards.specs.Shown.{IsWord};
-ghost use Rattle.ell_cards.specs.Sights.{joined_sight};
+ghost use Rattle.ell_runs.specs.Sights.{joined_sight};
 ghost use Rattle.ell_cards.specs.SlotWords.{taken_word};
-ghost use Rattle.ell_cards.specs.Starts.{MayStart, OpensBy};
+ghost use Rattle.ell_runs.specs.Starts.{MayStart};
+ghost use Rattle.ell_cards.specs.Models.{OpensBy};
 ghost use Rattle.ell_cards.specs.Kinds.{HasRoomForPasses, MayStartWith, opened_plan};
 ghost use Rattle.ell_cards.specs.Whole.{IsWhole, first_known};
 ghost use Rattle.atomic_table.specs.Table.{opening};
@@ -29,15 +32,16 @@ use crate::fixed::FixedMemory;
 use crate::kind::TreeKind;
 use crate::memory::{Memory, Seat, join_seat};
 use crate::pass::{Pass, Standing};
-use crate::period::last_slot;
+use crate::period::{clock_word, last_slot, place_word, slots_size};
 use crate::rule::{Joined, PartedBy, SplitBy};
 use crate::share::{Share, WHOLE_SHARE};
-use crate::slot_words::{FREE_FROM_START, USED_FROM_START};
+use crate::slot_words::{FREE_FROM_START, USED_FROM_START, slot_word};
 use crate::table::CardTable;
-use crate::view::{Plan, Slots};
+use crate::view::Plan;
 use atomic_table::Table;
 use ell_layout::{table_size, write_opening};
 use ell_ops::{NoMemory, united_keys};
+use ell_runs::Slots;
 use ell_word::{CARDS_MAX, card_of, is_internal};
 use std::alloc::{AllocError, Allocator};
 use std::marker::Brand;
@@ -426,7 +430,7 @@ fn first_words<A: Allocator + Copy>(alloc: A, plan: &Plan<A>) -> Result<Vec<u64,
     let last = last_slot(plan.slots, plan.last_card);
     let room = match plan.slots {
         None => table_size(last),
-        Some(slots) => slots.size(),
+        Some(slots) => slots_size(slots),
     };
     let cards = card_words(alloc, plan, last, room)?;
     are_words(cards.as_slice());
@@ -492,10 +496,10 @@ fn with_free_slots<A: Allocator + Copy>(
     ensures { IfOk result (λ all. all.items ≡ words_of_free_slots slots words.items) }
 {
     let mut words = words;
-    words.resize(slots.slot_word(0), 0)?;
-    words.resize(slots.size(), FREE_FROM_START)?;
-    words[slots.clock_word()] = 1;
-    words[slots.place_word(0)] = 1;
+    words.resize(slot_word(slots, 0), 0)?;
+    words.resize(slots_size(slots), FREE_FROM_START)?;
+    words[clock_word(slots)] = 1;
+    words[place_word(slots, 0)] = 1;
     Ok(words)
 }
 
@@ -511,7 +515,7 @@ fn use_slots(words: &mut [u64], slots: Slots, upto: u64)
         → slice_index words.new i ≡ slice_index words.old i }
 {
     for slot in 0..upto + 1 {
-        words[slots.slot_word(slot)] = USED_FROM_START;
+        words[slot_word(slots, slot)] = USED_FROM_START;
     }
 }
 

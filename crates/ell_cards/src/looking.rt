@@ -1,17 +1,19 @@
 //! The loads by which a look comes to its answer.
 ghost use Rattle.std.specs.Prelude.{◌≡◌, ℕ};
 ghost use Rattle.ell_layout.specs.Words.{IsLeaf};
-ghost use Rattle.ell_cards.specs.declared.call.Call.TheVariants as call;
-ghost use Rattle.ell_cards.specs.declared.view.Told.TheVariants.{Met};
-ghost use Rattle.ell_cards.specs.Calls.{place_of, atomic_of, Load, after, May, Tells, TellsKey};
-ghost use Rattle.ell_cards.specs.Depths.{IsShallow, deepest};
-ghost use Rattle.ell_cards.specs.LookPlaces.{FindsHavePlaces, SeesInLook, SeesMoreInLook};
-ghost use Rattle.ell_cards.specs.Looking.{KeysAreFixed, ReadsItsOwn, MissesItsOwn};
-ghost use Rattle.ell_cards.specs.Models.{IsTold, flat_from};
-ghost use Rattle.ell_cards.specs.Seeing.{IsCalm};
+ghost use Rattle.ell_runs.specs.declared.call.Call.TheVariants as call;
+ghost use Rattle.ell_runs.specs.declared.view.Told.TheVariants.{Met};
+ghost use Rattle.ell_cards.specs.Addresses.{place_of};
+ghost use Rattle.ell_runs.specs.Calls.{atomic_of, Load, after, May, Tells, TellsKey};
+ghost use Rattle.ell_runs.specs.Depths.{IsShallow, deepest};
+ghost use Rattle.ell_runs.specs.LookPlaces.{FindsHavePlaces, SeesMoreInLook};
+ghost use Rattle.ell_cards.specs.Models.{SeesInLook};
+ghost use Rattle.ell_runs.specs.Looking.{KeysAreFixed, ReadsItsOwn, MissesItsOwn};
+ghost use Rattle.ell_runs.specs.Views.{IsTold};
+ghost use Rattle.ell_runs.specs.Plans.{flat_from};
+ghost use Rattle.ell_runs.specs.Seeing.{IsCalm};
 ghost use Rattle.ell_cards.specs.Stepping.{IsQuiet, MayInTable, MayTell, KeepsPass, SeesOnBy};
 
-use crate::call::Call;
 use crate::gate::{StepGate, kind_of};
 use crate::memory::Memory;
 use crate::pass::Pass;
@@ -19,6 +21,7 @@ use crate::places::{key_address, value_address};
 use crate::rule::{Looked, TellingAll};
 use crate::steps::TableSteps;
 use crate::table::CardTable;
+use ell_runs::Call;
 use std::marker::Brand;
 
 impl<M: Memory> CardTable<M> {

@@ -29,7 +29,7 @@ impl<M: Memory> Model for Seat<M> {
 pub trait Memory: Drop {
     ghost use Rattle.atomic_table.specs.Seated.{TableId};
     ghost use Rattle.ell_cards.specs.Memories.{SeatModel};
-    ghost use Rattle.ell_cards.specs.Models.{TablePlan};
+    ghost use Rattle.ell_runs.specs.Plans.{TablePlan};
 
     /// The allocator of the memory, which the keys of passes come from too.
     type Alloc: Allocator + Copy;

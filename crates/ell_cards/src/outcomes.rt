@@ -1,6 +1,6 @@
 //! What the exchange of an update word answers.
 ghost use Rattle.std.specs.Prelude.{◌≡◌};
-ghost use Rattle.ell_cards.specs.Changes.{update_outcome};
+ghost use Rattle.ell_runs.specs.Changes.{update_outcome};
 
 use ell_word::{Update, unpack};
 

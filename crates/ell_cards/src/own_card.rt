@@ -3,16 +3,16 @@ ghost use Rattle.std.specs.Prelude.{◌≡◌, ◌≢◌, ◌≤◌, true, is_ok
 ghost use Rattle.ell_core.specs.declared.fact.Fact.TheVariants.{IFlagged, DFlagged};
 ghost use Rattle.ell_word.specs.Word.{packed};
 ghost use Rattle.ell_core.specs.declared.exchange.Exchange.TheVariants as exchange;
-ghost use Rattle.ell_cards.specs.Models.{Steps, flat_from, new_node};
-ghost use Rattle.ell_cards.specs.Changes.{after_fill, after_flag, if_won, exchanged, found_update, found_word};
+ghost use Rattle.ell_cards.specs.Models.{Steps};
+ghost use Rattle.ell_runs.specs.Plans.{flat_from, new_node};
+ghost use Rattle.ell_runs.specs.Changes.{after_fill, after_flag, if_won, exchanged, found_update, found_word};
 ghost use Rattle.ell_cards.specs.Skipping.{IsFresh, after_claimed_row};
 ghost use Rattle.ell_cards.specs.Shown.{shown_word};
-ghost use Rattle.ell_cards.specs.declared.call.Call.TheVariants as call;
-ghost use Rattle.ell_cards.specs.Sayings.{delete_says, put_says};
+ghost use Rattle.ell_runs.specs.declared.call.Call.TheVariants as call;
+ghost use Rattle.ell_runs.specs.Sayings.{delete_says, put_says};
 ghost use Rattle.ell_cards.specs.Stepping.{IsWholeIn, MayInTable};
-ghost use Rattle.ell_cards.specs.Guards.{MayClaim, MayFill, MayIFlag, MayDFlag};
+ghost use Rattle.ell_runs.specs.Guards.{MayClaim, MayFill, MayIFlag, MayDFlag};
 
-use crate::call::Call;
 use crate::gate::StepGate;
 use crate::memory::Memory;
 use crate::outcomes::update_outcome;
@@ -20,6 +20,7 @@ use crate::pass::Pass;
 use crate::places::{field_address, update_address};
 use crate::steps::TableSteps;
 use ell_layout::{Field, update_word};
+use ell_runs::Call;
 use ell_word::{State, Update, pack};
 use std::marker::Brand;
 

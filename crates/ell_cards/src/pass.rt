@@ -1,13 +1,14 @@
 //! What a thread steps with.
 ghost use Rattle.std.specs.Prelude.{◌≡◌, ◌↔◌, IsTrue, false};
 ghost use Rattle.std.specs.List.Sorted.{IsStrictlyIncreasing};
-ghost use Rattle.ell_cards.specs.Models.{Counts, MayPart, Owns, PassModel, one_more, whole_share};
-ghost use Rattle.ell_cards.specs.Changes.{ledger_keys};
+ghost use Rattle.ell_cards.specs.Models.{Counts, Owns, PassModel, one_more};
+ghost use Rattle.ell_runs.specs.Views.{MayPart, whole_share};
+ghost use Rattle.ell_runs.specs.Changes.{ledger_keys};
 ghost use Rattle.ell_cards.specs.Periods.{period_by};
 
 use crate::memory::{Memory, Seat};
 use crate::share::{Share, WHOLE_SHARE};
-use crate::view::Slots;
+use ell_runs::Slots;
 use std::marker::Model;
 
 /// What a thread steps with on a table: keys of its own, a label, and a count of its steps. If a pass is dropped, its

@@ -8,7 +8,8 @@ ghost use Rattle.ell_grace.specs.epochs.Grace.{least_with};
 ghost use Rattle.ell_cards.specs.Models.{last_slot_of};
 ghost use Rattle.ell_cards.specs.Frames.{IsSeatOf, IsSeatWithSlots, KeepsSafe, LeavesTree, StandsStill};
 ghost use Rattle.ell_cards.specs.Inside.{PlaceFits};
-ghost use Rattle.ell_cards.specs.Periods.{IsAtRest, LooksAnew, after_announce, after_retract, after_clock, after_give, after_look_at, after_release, after_take, after_tick, announced_by, clock_word, last_reading, place_word, slots_size};
+ghost use Rattle.ell_runs.specs.Touching.{IsAtRest};
+ghost use Rattle.ell_cards.specs.Periods.{LooksAnew, after_announce, after_retract, after_clock, after_give, after_look_at, after_release, after_take, after_tick, announced_by, clock_word, last_reading, place_word, slots_size};
 ghost use Rattle.ell_cards.specs.Stepping.{MayGoOn};
 ghost use Rattle.ell_cards.specs.Shown.{shown};
 
@@ -16,52 +17,50 @@ use crate::memory::{Memory, Seat};
 use crate::pass::{Pass, Standing};
 use crate::rule::{InPeriod, PeriodTelling};
 use crate::table::CardTable;
-use crate::view::Slots;
+use ell_runs::Slots;
 use std::marker::Brand;
 
 /// The clock stops here, so that a place has a word for each reading, and so has a slot that was set free with it.
 const LAST_READING: u64 = 1_152_921_504_606_846_976;
 
-impl Slots {
-    /// Returns the address of the clock: behind the group of the last card.
-    #[inline(always)]
-    pub(crate) fn clock_word(self) -> usize
-        requires { self.last ≤ greatest_card }
-        ensures { result ≡ clock_word self }
-    {
-        (774 + 768 * (self.last / 64)) as usize
-    }
+/// Returns the address of the clock: behind the group of the last card.
+#[inline(always)]
+pub(crate) fn clock_word(slots: Slots) -> usize
+    requires { slots.last ≤ greatest_card }
+    ensures { result ≡ clock_word slots }
+{
+    (774 + 768 * (slots.last / 64)) as usize
+}
 
-    /// Returns the address of a place. The first place stands at the end.
-    #[inline(always)]
-    pub(crate) fn place_word(self, place: u64) -> usize
-        requires last { self.last ≤ greatest_card }
-        requires few { self.places ≤ greatest_card }
-        ensures { result ≡ place_word self place }
-    {
-        self.clock_word() + 1 + 8 * self.places.saturating_sub(place) as usize
-    }
+/// Returns the address of a place. The first place stands at the end.
+#[inline(always)]
+pub(crate) fn place_word(slots: Slots, place: u64) -> usize
+    requires last { slots.last ≤ greatest_card }
+    requires few { slots.places ≤ greatest_card }
+    ensures { result ≡ place_word slots place }
+{
+    clock_word(slots) + 1 + 8 * slots.places.saturating_sub(place) as usize
+}
 
-    /// Returns the place at which to look after so many looks at those behind a place. The first place comes after the last
-    /// one.
-    #[inline(always)]
-    pub(crate) fn place_behind(self, place: u64, looks: u64) -> u64
-        requires few { self.places ≤ greatest_card }
-        requires looks { looks < self.places }
-        ensures there { result < self.places }
-        ensures is { result ≡ (place % self.places + 1 + looks) % self.places }
-    {
-        (place % self.places + 1 + looks) % self.places
-    }
+/// Returns the place at which to look after so many looks at those behind a place. The first place comes after the last
+/// one.
+#[inline(always)]
+pub(crate) fn place_behind(slots: Slots, place: u64, looks: u64) -> u64
+    requires few { slots.places ≤ greatest_card }
+    requires looks { looks < slots.places }
+    ensures there { result < slots.places }
+    ensures is { result ≡ (place % slots.places + 1 + looks) % slots.places }
+{
+    (place % slots.places + 1 + looks) % slots.places
+}
 
-    /// Returns how many words a table with places has.
-    pub(crate) fn size(self) -> usize
-        requires last { self.last ≤ greatest_card }
-        requires few { self.places ≤ greatest_card }
-        ensures { result ≡ slots_size self }
-    {
-        self.clock_word() + 9 + 8 * self.places as usize + 64 * (self.last / 64 + 1) as usize
-    }
+/// Returns how many words a table with places has.
+pub(crate) fn slots_size(slots: Slots) -> usize
+    requires last { slots.last ≤ greatest_card }
+    requires few { slots.places ≤ greatest_card }
+    ensures { result ≡ slots_size slots }
+{
+    clock_word(slots) + 9 + 8 * slots.places as usize + 64 * (slots.last / 64 + 1) as usize
 }
 
 /// Returns the last slot: without places each card has one of its own.
@@ -144,7 +143,7 @@ impl<M: Memory> CardTable<M> {
         ensures inside { result < self.now.id.words }
     {
         let _ = &self.table;
-        slots.clock_word()
+        clock_word(slots)
     }
 
     // Returns the address of a place, which is one of the table.
@@ -155,7 +154,7 @@ impl<M: Memory> CardTable<M> {
         ensures inside { result < self.now.id.words }
     {
         let _ = &self.table;
-        slots.place_word(place)
+        place_word(slots, place)
     }
 
     // Reads the clock, which never goes back.
@@ -260,7 +259,7 @@ impl<M: Memory> CardTable<M> {
     {
         let slots = self.slots?;
         for looks in 0..slots.places {
-            let place = slots.place_behind(found, looks);
+            let place = place_behind(slots, found, looks);
             if self.take_place(seat, slots, place) {
                 return Some(place);
             }

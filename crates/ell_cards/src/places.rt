@@ -3,7 +3,7 @@ ghost use Rattle.std.specs.Prelude.{◌≡◌, ◌≤◌, ◌%◌, false};
 ghost use Rattle.ell_word.specs.Node.{greatest_card, card};
 ghost use Rattle.ell_layout.specs.Words.{IsLeaf, child_field, key_field, value_field};
 ghost use Rattle.ell_layout.specs.declared.field.Field.TheVariants as field;
-ghost use Rattle.ell_cards.specs.Calls.{slot_address};
+ghost use Rattle.ell_cards.specs.Addresses.{slot_address};
 ghost use Rattle.ell_cards.specs.SlotWords.{slot_of};
 
 use crate::slot_words::slot_of;

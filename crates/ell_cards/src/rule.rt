@@ -19,7 +19,7 @@ impl<A: Allocator + Copy> TableRule<(), Known, Plan<A>> for CardRule {
 /// the step picks it.
 pub(crate) trait Telling {
     ghost use Rattle.std.specs.Prelude.{ℕ};
-    ghost use Rattle.ell_cards.specs.declared.view.View.{View};
+    ghost use Rattle.ell_runs.specs.declared.view.View.{View};
 
     ghost then: { ℕ → View → Type 0 };
 }
@@ -48,7 +48,7 @@ impl<J: Telling> Play<(), Known> for By<J> {
 pub(crate) trait Noting {
     ghost use Rattle.std.specs.Prelude.{ℕ};
     ghost use Rattle.ell_cards.specs.declared.view.Period.{Period};
-    ghost use Rattle.ell_cards.specs.declared.view.View.{View};
+    ghost use Rattle.ell_runs.specs.declared.view.View.{View};
 
     ghost then: { ℕ → View → Type 0 };
 
@@ -80,8 +80,8 @@ impl<J: Noting> Play<(), Known> for Noted<J> {
 /// the step picks both.
 pub(crate) trait Marking {
     ghost use Rattle.std.specs.Prelude.{ℕ};
-    ghost use Rattle.ell_cards.specs.declared.call.Call.{Call};
-    ghost use Rattle.ell_cards.specs.declared.view.View.{View};
+    ghost use Rattle.ell_runs.specs.declared.call.Call.{Call};
+    ghost use Rattle.ell_runs.specs.declared.view.View.{View};
 
     ghost then: { ℕ → View → Type 0 };
 
@@ -90,7 +90,7 @@ pub(crate) trait Marking {
 
 impl Marking for Brand {
     ghost use Rattle.std.specs.Prelude.{⊤};
-    ghost use Rattle.ell_cards.specs.declared.call.Call.TheVariants as call;
+    ghost use Rattle.ell_runs.specs.declared.call.Call.TheVariants as call;
 
     ghost then = { λ found v. ⊤ };
 
@@ -105,7 +105,7 @@ pub(crate) struct Marked<J> {
 
 impl<J: Marking> Play<(), Known> for Marked<J> {
     ghost use Rattle.std.specs.Prelude.{◌≡◌};
-    ghost use Rattle.ell_cards.specs.Seeing.{Marks};
+    ghost use Rattle.ell_runs.specs.Seeing.{Marks};
     ghost use Rattle.ell_cards.specs.Shown.{shown};
 
     ghost then = { λ step old found new. J.then found (shown new.0.tree)
@@ -117,8 +117,8 @@ impl<J: Marking> Play<(), Known> for Marked<J> {
 /// both.
 pub(crate) trait TellingAll {
     ghost use Rattle.std.specs.Prelude.{ℕ};
-    ghost use Rattle.ell_cards.specs.Models.{TablePlan};
-    ghost use Rattle.ell_cards.specs.declared.view.View.{View};
+    ghost use Rattle.ell_runs.specs.Plans.{TablePlan};
+    ghost use Rattle.ell_runs.specs.declared.view.View.{View};
 
     ghost then: { ℕ → View → Type 0 };
 
@@ -141,7 +141,7 @@ pub(crate) struct All<J> {
 
 impl<J: TellingAll> Play<(), Known> for All<J> {
     ghost use Rattle.std.specs.Prelude.{◌≡◌};
-    ghost use Rattle.ell_cards.specs.Seeing.{HasSeenAll, HasSeenMore};
+    ghost use Rattle.ell_runs.specs.Seeing.{HasSeenAll, HasSeenMore};
     ghost use Rattle.ell_cards.specs.Shown.{shown};
 
     ghost then = { λ step old found new. J.then found (shown new.0.tree)
@@ -158,7 +158,7 @@ pub(crate) struct Looked<J> {
 
 impl<J: TellingAll> Play<(), Known> for Looked<J> {
     ghost use Rattle.std.specs.Prelude.{◌≡◌};
-    ghost use Rattle.ell_cards.specs.LookPlaces.{FindsHavePlaces, SeesMoreInLook};
+    ghost use Rattle.ell_runs.specs.LookPlaces.{FindsHavePlaces, SeesMoreInLook};
     ghost use Rattle.ell_cards.specs.Shown.{shown};
 
     ghost then = { λ step old found new. J.then found (shown new.0.tree)
@@ -212,9 +212,9 @@ pub(crate) struct PartedBy<J> {
 }
 
 impl<J: SplitBy> Split<Known> for PartedBy<J> {
-    ghost use Rattle.ell_cards.specs.Changes.{left_view, right_view};
+    ghost use Rattle.ell_runs.specs.Changes.{left_view, right_view};
     ghost use Rattle.ell_cards.specs.Periods.{after_give, given_period};
-    ghost use Rattle.ell_cards.specs.Sights.{given_sight};
+    ghost use Rattle.ell_runs.specs.Sights.{given_sight};
 
     ghost left = { λ k. record k { tree = left_view J.keys k.tree; period = after_give k.period } };
 

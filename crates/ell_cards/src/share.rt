@@ -1,6 +1,6 @@
 //! The share that a pass has of its table.
 ghost use Rattle.std.specs.Prelude.{◌≡◌, ◌≤◌, ◌+◌, ◌-◌, ◌%◌, ◌^◌, ◌||◌, ◌↔◌, IsTrue, true};
-ghost use Rattle.ell_cards.specs.Models.{whole_share, given_share};
+ghost use Rattle.ell_runs.specs.Views.{whole_share, given_share};
 
 /// The whole share of a table, 2 ^ 62, which its first pass has.
 pub const WHOLE_SHARE: u64 = 4611686018427387904;

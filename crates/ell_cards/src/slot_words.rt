@@ -7,7 +7,8 @@ ghost use Rattle.ell_cards.specs.Retiring.{is_done};
 ghost use Rattle.ell_cards.specs.SlotWords.{could_take, has_slot_in, has_slots, slot_of, stamp_in, turn_in, turn_of};
 
 use crate::card_nodes::CardNodes;
-use crate::view::Slots;
+use crate::period::clock_word;
+use ell_runs::Slots;
 use ell_word::TURN_SIZE;
 
 /// How many turns child words tell apart: of two turns that are a multiple of this apart, they hold the same.
@@ -87,62 +88,60 @@ fn spread(slot: u64) -> u64
     64 * (slot / 64) + 8 * (slot % 8) + slot / 8 % 8
 }
 
-impl Slots {
-    /// Returns how many numbers that have slots a pass goes by until it looks at all places again: few enough that the
-    /// clock goes on several times while each slot is passed once, and at most 128, so that a look at a place is
-    /// seldom.
-    #[inline(always)]
-    pub(crate) fn numbers_per_look(self) -> u64 {
-        (self.last / 8).clamp(1, 128)
-    }
+/// Returns how many numbers that have slots a pass goes by until it looks at all places again: few enough that the
+/// clock goes on several times while each slot is passed once, and at most 128, so that a look at a place is
+/// seldom.
+#[inline(always)]
+pub(crate) fn numbers_per_look(slots: Slots) -> u64 {
+    (slots.last / 8).clamp(1, 128)
+}
 
-    /// Returns whether a slot is for each change, as all are but the last ones, which are left to deletes.
-    #[inline(always)]
-    pub(crate) fn is_for_all(self, slot: u64) -> bool
-        requires slot { slot < turn_size }
-        ensures { result ≡ nat_le (slot + 2) self.last }
-    {
-        slot + LEFT_TO_DELETES <= self.last
-    }
+/// Returns whether a slot is for each change, as all are but the last ones, which are left to deletes.
+#[inline(always)]
+pub(crate) fn is_for_all(slots: Slots, slot: u64) -> bool
+    requires slot { slot < turn_size }
+    ensures { result ≡ nat_le (slot + 2) slots.last }
+{
+    slot + LEFT_TO_DELETES <= slots.last
+}
 
-    /// Returns whether a card has a slot: it is one of the table, and the card's turn is the first one, or one that
-    /// child words tell from the first.
-    #[inline(always)]
-    pub(crate) fn has_slot(self, card: u64) -> bool
-        ensures has { result ≡ has_slot_in self.last card }
-        ensures inside { result ≡ true → slot_of card ≤ self.last }
-    {
-        slot_of(card) <= self.last && has_slots(turn_of(card))
-    }
+/// Returns whether a card has a slot: it is one of the table, and the card's turn is the first one, or one that
+/// child words tell from the first.
+#[inline(always)]
+pub(crate) fn has_slot(slots: Slots, card: u64) -> bool
+    ensures has { result ≡ has_slot_in slots.last card }
+    ensures inside { result ≡ true → slot_of card ≤ slots.last }
+{
+    slot_of(card) <= slots.last && has_slots(turn_of(card))
+}
 
-    /// Returns the least number of a card that has a slot, from this card on: the first one of the next turn that has
-    /// slots, if the card has none.
-    #[inline(always)]
-    pub(crate) fn next_with_slot(self, card: u64) -> u64
-        requires { card ≤ greatest_number + 1 }
-        ensures from { card ≤ result }
-        ensures slot { has_slot_in self.last result ≡ true }
-        ensures first { (c : ℕ) → card ≤ c → has_slot_in self.last c ≡ true → result ≤ c }
-    {
-        if self.has_slot(card) {
-            return card;
-        }
-        let next = turn_of(card) + 1;
-        if has_slots(next) {
-            TURN_SIZE * next
-        } else {
-            TURN_SIZE * (next + 1)
-        }
+/// Returns the least number of a card that has a slot, from this card on: the first one of the next turn that has
+/// slots, if the card has none.
+#[inline(always)]
+pub(crate) fn next_with_slot(slots: Slots, card: u64) -> u64
+    requires { card ≤ greatest_number + 1 }
+    ensures from { card ≤ result }
+    ensures slot { has_slot_in slots.last result ≡ true }
+    ensures first { (c : ℕ) → card ≤ c → has_slot_in slots.last c ≡ true → result ≤ c }
+{
+    if has_slot(slots, card) {
+        return card;
     }
+    let next = turn_of(card) + 1;
+    if has_slots(next) {
+        TURN_SIZE * next
+    } else {
+        TURN_SIZE * (next + 1)
+    }
+}
 
-    /// Returns the address of the word of a slot: behind the places.
-    #[inline(always)]
-    pub(crate) fn slot_word(self, slot: u64) -> usize
-        requires last { self.last ≤ greatest_card }
-        requires few { self.places ≤ greatest_card }
-        requires slot { slot ≤ self.last }
-        ensures { result ≡ slot_word self slot }
-    {
-        self.clock_word() + 9 + 8 * self.places as usize + spread(slot) as usize
-    }
+/// Returns the address of the word of a slot: behind the places.
+#[inline(always)]
+pub(crate) fn slot_word(slots: Slots, slot: u64) -> usize
+    requires last { slots.last ≤ greatest_card }
+    requires few { slots.places ≤ greatest_card }
+    requires slot { slot ≤ slots.last }
+    ensures { result ≡ slot_word slots slot }
+{
+    clock_word(slots) + 9 + 8 * slots.places as usize + spread(slot) as usize
 }

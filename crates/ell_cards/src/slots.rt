@@ -7,24 +7,28 @@ ghost use Rattle.std.specs.Prelude.{◌==◌, ◌≡◌, ◌≢◌, ◌+◌, ◌
 ghost use Rattle.ell_word.specs.Node.{card, turn_size};
 ghost use Rattle.ell_cards.specs.Ages.{MayStamp};
 ghost use Rattle.ell_cards.specs.CardNodes.{NotesToo, has_node, node_alone};
-ghost use Rattle.ell_cards.specs.Dead.{HasTakenOut};
+ghost use Rattle.ell_runs.specs.Dead.{HasTakenOut};
 ghost use Rattle.ell_cards.specs.Frames.{IsSeatOf, IsSeatWithSlots, KeepsSafe, LeavesTree, StandsStill};
-ghost use Rattle.ell_cards.specs.Guards.{MayFill};
+ghost use Rattle.ell_runs.specs.Guards.{MayFill};
 ghost use Rattle.ell_cards.specs.Periods.{clock_word, LostIs, after_freeing, after_noting, after_noting_read, after_read, after_stamp, after_taking, has_slot, last_reading, slot_word};
 ghost use Rattle.ell_cards.specs.Retiring.{is_done, none_retired, retires_if, with_retired};
 ghost use Rattle.ell_cards.specs.Noting.{AreTakenOut, HasNoted, MayNote, MayNoteNext, MayRetire, NeverCome, retires_in};
 ghost use Rattle.ell_cards.specs.SlotWords.{card_by, has_slot_in, is_noted, slot_of, stamp_in, turn_of};
 ghost use Rattle.ell_cards.specs.Stepping.{MayGoOn};
-ghost use Rattle.ell_cards.specs.Holding.{HoldsWaiting};
+ghost use Rattle.ell_runs.specs.Holding.{HoldsWaiting};
 ghost use Rattle.ell_cards.specs.Shown.{shown};
 
 use crate::card_nodes::CardNodes;
 use crate::memory::{Memory, Seat};
 use crate::pass::Pass;
 use crate::rule::PeriodTelling;
-use crate::slot_words::{is_done, is_free_before, slot_of, turn_of};
+use crate::slot_words::{
+    has_slot, is_done, is_for_all, is_free_before, next_with_slot, numbers_per_look, slot_of,
+    slot_word, turn_of,
+};
 use crate::table::CardTable;
-use crate::view::{SlotRead, Slots};
+use crate::view::SlotRead;
+use ell_runs::Slots;
 use ell_word::card_of;
 use std::marker::Brand;
 
@@ -38,7 +42,7 @@ impl<M: Memory> CardTable<M> {
         ensures inside { result < self.now.id.words }
     {
         let _ = &self.table;
-        slots.slot_word(slot)
+        slot_word(slots, slot)
     }
 
     // Reads the word of a slot.
@@ -340,7 +344,7 @@ impl<M: Memory> CardTable<M> {
         let Some(slots) = self.slots else {
             return false;
         };
-        if !slots.has_slot(card) {
+        if !has_slot(slots, card) {
             return false;
         }
         self.note_dead(&mut pass.seat, slots, card, nodes, true)
@@ -365,7 +369,7 @@ impl<M: Memory> CardTable<M> {
         let Some(slots) = self.slots else {
             return false;
         };
-        if !slots.has_slot(card) {
+        if !has_slot(slots, card) {
             return false;
         }
         self.note_dead(&mut pass.seat, slots, card, nodes, false)
@@ -400,8 +404,8 @@ impl<M: Memory> CardTable<M> {
         ensures more { pass.old.safe ≤ pass.new.safe }
     {
         let numbers = pass.standing.numbers.saturating_add(1);
-        let per_look = slots.numbers_per_look();
-        if numbers < per_look && slots.is_for_all(slot_of(card)) {
+        let per_look = numbers_per_look(slots);
+        if numbers < per_look && is_for_all(slots, slot_of(card)) {
             pass.standing.numbers = numbers;
             return;
         }
@@ -419,7 +423,7 @@ impl<M: Memory> CardTable<M> {
         ensures same { pass.new ≡ pass.old }
     {
         let word = self.read_slot(&mut pass.seat, slots, slot_of(card));
-        is_free_before(word, pass.standing.safe) && (for_delete || slots.is_for_all(slot_of(card)))
+        is_free_before(word, pass.standing.safe) && (for_delete || is_for_all(slots, slot_of(card)))
     }
 
     // Returns the least number of a card, from this card on, whose slot the pass could take for a delete, or for
@@ -438,7 +442,7 @@ impl<M: Memory> CardTable<M> {
         ensures found { IfSome result (λ c. (card ≤ c) × (c ≤ self.now.plan.last_card) × (has_slot_in slots.last c ≡ true)) }
     {
         let _ = &self.table;
-        let mut next = slots.next_with_slot(card);
+        let mut next = next_with_slot(slots, card);
         for read in 0..slots.last + 1 {
             if self.last_card < next {
                 return None;
@@ -447,7 +451,7 @@ impl<M: Memory> CardTable<M> {
                 pass.standing.numbers = pass.standing.numbers.saturating_add(read);
                 return Some(next);
             }
-            next = slots.next_with_slot(next + 1);
+            next = next_with_slot(slots, next + 1);
         }
         None
     }
@@ -504,7 +508,7 @@ impl<M: Memory> CardTable<M> {
         let Some(slots) = self.slots else {
             return true;
         };
-        if !slots.has_slot(card) {
+        if !has_slot(slots, card) {
             return false;
         }
         self.look_now_and_then(pass, slots, card);

@@ -1,9 +1,9 @@
 //! What a pass may know of all that was done with its table.
 ghost use Rattle.std.specs.Prelude.{◌≡◌, ℕ};
-ghost use Rattle.ell_cards.specs.declared.call.Call.TheVariants as call;
+ghost use Rattle.ell_runs.specs.declared.call.Call.TheVariants as call;
 ghost use Rattle.ell_cards.specs.Models.{SeesOn};
-ghost use Rattle.ell_cards.specs.Calls.{after};
-ghost use Rattle.ell_cards.specs.Seeing.{HasSeenAll, HasSeenMore};
+ghost use Rattle.ell_runs.specs.Calls.{after};
+ghost use Rattle.ell_runs.specs.Seeing.{HasSeenAll, HasSeenMore};
 
 use crate::memory::Memory;
 use crate::pass::Pass;

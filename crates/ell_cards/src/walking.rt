@@ -2,30 +2,32 @@
 //! each node, so those calls leave it to their caller to count the step ([`Pass::count`]).
 ghost use Rattle.std.specs.Prelude.{◌≡◌, ◌≤◌, ◌<◌, ◌+◌, ℕ, Some};
 ghost use Rattle.ell_core.specs.state.Machine.{ledger_of, worker_of};
-ghost use Rattle.ell_cards.specs.Depths.{IsShallow, deepest};
+ghost use Rattle.ell_runs.specs.Depths.{IsShallow, deepest};
 ghost use Rattle.ell_word.specs.Link.{linked, IsLink};
 ghost use Rattle.ell_layout.specs.Words.{IsLeaf};
 ghost use Rattle.ell_core.specs.statements.Effects.{AnswersAsMap};
 ghost use Rattle.ell_core.specs.acts.Searching.{MayStop};
-ghost use Rattle.ell_cards.specs.declared.view.Told.TheVariants.{Met};
-ghost use Rattle.ell_cards.specs.Models.{AnswersBy, BeginsBy, Does, EndsBy, LooksBy, Sees, Steps, flat_from, IsTold, InTable, EndWasUnknown, IsFree};
-ghost use Rattle.ell_cards.specs.Changes.{after_begin, after_again, after_leave, after_answer, after_rest, after_upd};
-ghost use Rattle.ell_cards.specs.declared.call.Call.TheVariants as call;
-ghost use Rattle.ell_cards.specs.Guards.{MayBegin, MayAnswer, MayRead, MayGoDown, MayLookDown};
-ghost use Rattle.ell_cards.specs.Calls.{after, TellsKey, TellsLedgerValue};
+ghost use Rattle.ell_runs.specs.declared.view.Told.TheVariants.{Met};
+ghost use Rattle.ell_cards.specs.Models.{AnswersBy, BeginsBy, EndsBy, LooksBy, Sees, Steps};
+ghost use Rattle.ell_runs.specs.Views.{Does, IsTold, InTable, EndWasUnknown, IsFree};
+ghost use Rattle.ell_runs.specs.Plans.{flat_from};
+ghost use Rattle.ell_runs.specs.Changes.{after_begin, after_again, after_leave, after_answer, after_rest, after_upd};
+ghost use Rattle.ell_runs.specs.declared.call.Call.TheVariants as call;
+ghost use Rattle.ell_runs.specs.Guards.{MayBegin, MayAnswer, MayRead, MayGoDown, MayLookDown};
+ghost use Rattle.ell_runs.specs.Calls.{after, TellsKey, TellsLedgerValue};
 ghost use Rattle.ell_ops.specs.declared.op.Op.{Op};
-ghost use Rattle.ell_cards.specs.Seeing.{SeesBegin, SeesEnd, SeesLook};
+ghost use Rattle.ell_runs.specs.Seeing.{SeesBegin, SeesEnd, SeesLook};
 ghost use Rattle.ell_cards.specs.Stepping.{LetsGo};
-ghost use Rattle.ell_cards.specs.Looking.{IsKnownInRun, KeysAreFixed, ReadsItsOwn, MissesItsOwn};
+ghost use Rattle.ell_cards.specs.InRuns.{IsKnownInRun};
+ghost use Rattle.ell_runs.specs.Looking.{KeysAreFixed, ReadsItsOwn, MissesItsOwn};
 
-use crate::call::Call;
 use crate::gate::StepGate;
-use crate::glance::{Glance, Stretch};
 use crate::memory::Memory;
 use crate::pass::Pass;
 use crate::places::{child_address, key_address, root_key, update_address, value_address};
 use crate::steps::TableSteps;
 use ell_ops::{Op, Reply};
+use ell_runs::{Call, Glance, Stretch};
 use ell_word::{Link, Update, unpack};
 use std::marker::Brand;
 

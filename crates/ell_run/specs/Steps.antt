@@ -1,7 +1,7 @@
 use Rattle.std.specs.Prelude.{◌≡◌, None, ℕ, ◌+◌, ◌-◌, ◌*◌, ◌≤◌, List, [], ◌∷◌, length, max}
 use Rattle.std.specs.List.{sum_by}
 use Rattle.ell_parts.specs.PartedOps.{PartedOps, part}
-use Rattle.ell_cards.specs.Models.{TablePlan}
+use Rattle.ell_runs.specs.Plans.{TablePlan}
 use Rattle.ell_tree.specs.Ends.{try_steps_in}
 use Rattle.ell_tree.specs.Ledgers.{PassModel}
 use Rattle.ell_tree.specs.Milestones.{milestones_known}

@@ -8,7 +8,7 @@ use Rattle.ell_parts.specs.PartedOps.{PartedOps, IsLawful, part, keys_of_part}
 use Rattle.ell_tree.specs.Ledgers.{PassModel, TreeModel, Owns, IsIdle, answers, hindrances, present_in}
 use Rattle.ell_tree.specs.PassParts.{IsLeftPart, IsRightPart}
 use Rattle.ell_run.specs.ByParts.{ops_in}
-use Rattle.ell_cards.specs.Models.{TablePlan}
+use Rattle.ell_runs.specs.Plans.{TablePlan}
 use Rattle.ell_run.specs.Steps.{AreWithin, total_steps, work_steps}
 use Rattle.ell_run.specs.Pieces.{ArePieces, IsPiece, all_not_done, all_workers, busy, front, lists_of, one_not_done, ops_done}
 use Rattle.ell_ops.specs.declared.reply.Reply.{Reply}

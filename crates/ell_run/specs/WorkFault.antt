@@ -1,5 +1,5 @@
 use Rattle.std.specs.Prelude.{◌≡◌, ◌≢◌, None, ⊤}
-use Rattle.ell_cards.specs.Models.{TablePlan}
+use Rattle.ell_runs.specs.Plans.{TablePlan}
 use Rattle.ell_cards.specs.declared.fault.SplitFault.{SplitFault}
 use Rattle.ell_cards.specs.declared.fault.SplitFault.TheVariants as split
 use Rattle.ell_tree.specs.Ledgers.{PassModel}

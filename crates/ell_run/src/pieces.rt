@@ -1,7 +1,7 @@
 //! What one worker does on its part, with a pass of the shared tree, and the pieces that workers leave.
 ghost use Rattle.std.specs.Prelude.{◌≡◌, ◌≤◌, ◌+◌, ℕ, IfOk, length};
 ghost use Rattle.ell_ops.specs.Meaning.{key_of};
-ghost use Rattle.ell_cards.specs.Models.{TablePlan};
+ghost use Rattle.ell_runs.specs.Plans.{TablePlan};
 ghost use Rattle.ell_tree.specs.Counts.{TookIn};
 ghost use Rattle.ell_tree.specs.Ends.{Ends};
 ghost use Rattle.ell_tree.specs.Ledgers.{IsIdlePassOf, PassModel};

@@ -5,7 +5,7 @@ ghost use Rattle.ell_ops.specs.KeySet.{Lists};
 ghost use Rattle.ell_ops.specs.Meaning.{key_of};
 ghost use Rattle.ell_parts.specs.PartedOps.{IsLawful, PartedOps, keys_of_ops};
 ghost use Rattle.ell_tree.specs.Ledgers.{IsIdlePassOf, Owns, PassModel};
-ghost use Rattle.ell_cards.specs.Models.{TablePlan};
+ghost use Rattle.ell_runs.specs.Plans.{TablePlan};
 ghost use Rattle.ell_run.specs.Pieces.{busy, lists_of};
 ghost use Rattle.ell_run.specs.WorkFault.{StopsWork};
 ghost use Rattle.ell_run.specs.Work.{AllHaveWorked, AreHalves, AreReady, HaveWorked, IsWorkedWithin, keys_for, label_after};

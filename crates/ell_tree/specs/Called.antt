@@ -5,12 +5,13 @@ use Rattle.ell_ops.specs.declared.reply.Reply.{Reply}
 use Rattle.ell_ops.specs.declared.reply.Reply.TheVariants.{Yes}
 use Rattle.ell_ops.specs.Meaning.{found, yes_if}
 use Rattle.ell_core.specs.statements.Effects.{reply_of_change}
-use Rattle.ell_cards.specs.declared.view.Act.{Act}
-use Rattle.ell_cards.specs.declared.view.Sight.{Sight}
-use Rattle.ell_cards.specs.Histories.{IsCall}
-use Rattle.ell_cards.specs.Models.{Has, PassModel}
-use Rattle.ell_cards.specs.Seeing.{HasSeenMore, SeesCall}
-use Rattle.ell_cards.specs.Sights.{IsPart}
+use Rattle.ell_runs.specs.declared.view.Act.{Act}
+use Rattle.ell_runs.specs.declared.view.Sight.{Sight}
+use Rattle.ell_runs.specs.Histories.{IsCall}
+use Rattle.ell_runs.specs.Views.{Has}
+use Rattle.ell_cards.specs.Models.{PassModel}
+use Rattle.ell_runs.specs.Seeing.{HasSeenMore, SeesCall}
+use Rattle.ell_runs.specs.Sights.{IsPart}
 use Rattle.ell_tree.specs.declared.operations.NotDone.{NotDone}
 
 -- what is so of what an operation took: a delete may have taken a value, and no other has

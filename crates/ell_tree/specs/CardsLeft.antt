@@ -1,12 +1,12 @@
 use Rattle.std.specs.Prelude.{◌≡◌, ℕ, ◌+◌, ◌≤◌, slice_index}
 use mathlib.Core.Option.{some}
 use lib.ListN.{get_elem?}
-use Rattle.ell_cards.specs.declared.view.View.{View}
+use Rattle.ell_runs.specs.declared.view.View.{View}
 use Rattle.ell_cards.specs.Models.{PassModel, Steps}
-use Rattle.ell_cards.specs.Calls.{after}
-use Rattle.ell_cards.specs.declared.call.Call.TheVariants as call
-use Rattle.ell_cards.specs.States.{TableState}
-use Rattle.ell_cards.specs.Starts.{IsReached}
+use Rattle.ell_runs.specs.Calls.{after}
+use Rattle.ell_runs.specs.declared.call.Call.TheVariants as call
+use Rattle.ell_runs.specs.States.{TableState}
+use Rattle.ell_runs.specs.Starts.{IsReached}
 use Rattle.ell_tree.specs.Ledgers.{TreeModel}
 
 -- a pass read the claim word, which is the number of the card that is given out next, and did nothing else: so many

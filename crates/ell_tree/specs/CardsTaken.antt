@@ -1,6 +1,6 @@
 use Rattle.std.specs.Prelude.{◌≡◌, ℕ, ◌+◌, ◌≤◌, if◌then◌else◌, Bool, true, false, List, [], ◌∷◌, Result, Ok, Err}
 use Rattle.ell_core.specs.declared.exchange.Exchange.{Exchange}
-use Rattle.ell_cards.specs.Contention.{is_claim}
+use Rattle.ell_runs.specs.Contention.{is_claim}
 use Rattle.ell_ops.specs.declared.op.Op.{Op}
 use Rattle.ell_cards.specs.Models.{PassModel}
 use Rattle.ell_tree.specs.Ends.{changes_by}

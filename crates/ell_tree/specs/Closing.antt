@@ -7,7 +7,7 @@ use Rattle.ell_layout.specs.Words.{words_of}
 use Rattle.ell_core.specs.tree.Tree.{ListsTreePairs}
 use Rattle.ell_cards.specs.Models.{PassModel}
 use Rattle.std.specs.List.Sorted.{IsStrictlyIncreasing}
-use Rattle.ell_cards.specs.Starts.{IsSharedIn}
+use Rattle.ell_runs.specs.Starts.{IsSharedIn}
 use Rattle.ell_cards.specs.Closed.{ClosedModel, TableRan}
 use Rattle.ell_tree.specs.Ledgers.{TreeModel, present_in}
 

@@ -5,12 +5,13 @@ use Rattle.ell_ops.specs.declared.reply.Reply.{Reply}
 use Rattle.ell_ops.specs.declared.reply.Reply.TheVariants.{Yes}
 use Rattle.ell_ops.specs.Meaning.{key_of, reply_of, after, found}
 use Rattle.ell_core.specs.statements.Effects.{reply_of_change}
-use Rattle.ell_cards.specs.Answering.{IsAnsweredInRuns}
-use Rattle.ell_cards.specs.LayingDown.{IsLaidDownInRuns}
-use Rattle.ell_cards.specs.declared.view.View.{View}
-use Rattle.ell_cards.specs.Depths.{deepest}
-use Rattle.ell_cards.specs.Models.{PassModel, TablePlan}
-use Rattle.ell_cards.specs.Stepping.{SameShare}
+use Rattle.ell_cards.specs.InRuns.{IsAnsweredInRuns}
+use Rattle.ell_cards.specs.InRuns.{IsLaidDownInRuns}
+use Rattle.ell_runs.specs.declared.view.View.{View}
+use Rattle.ell_runs.specs.Depths.{deepest}
+use Rattle.ell_cards.specs.Models.{PassModel}
+use Rattle.ell_runs.specs.Plans.{TablePlan}
+use Rattle.ell_runs.specs.Views.{SameShare}
 use Rattle.ell_tree.specs.declared.computing.Computed.{Computed}
 use Rattle.ell_tree.specs.declared.computing.Replaced.{Replaced}
 use Rattle.ell_tree.specs.declared.computing.Replaced.TheVariants.{Done, Lost}

@@ -1,5 +1,6 @@
 use Rattle.std.specs.Prelude.{◌≡◌, None, ℕ, ◌+◌, ◌-◌, ◌*◌, ◌≤◌}
-use Rattle.ell_cards.specs.Models.{TablePlan, PassModel, some_more}
+use Rattle.ell_runs.specs.Plans.{TablePlan}
+use Rattle.ell_cards.specs.Models.{PassModel, some_more}
 use Rattle.ell_tree.specs.Ends.{try_steps_in}
 use Rattle.ell_tree.specs.Milestones.{milestones_known}
 

@@ -2,18 +2,19 @@ use Rattle.std.specs.Prelude.{◌≡◌, ℕ, ◌+◌, ◌<◌, ◌≤◌, ◌�
 use Rattle.ell_ops.specs.Meaning.{greatest_key}
 use Rattle.ell_word.specs.Node.{IsInternal}
 use Rattle.ell_layout.specs.Words.{IsLeaf}
-use Rattle.ell_cards.specs.declared.glance.Glance.{Glance}
-use Rattle.ell_cards.specs.declared.view.Told.{Told}
-use Rattle.ell_cards.specs.declared.view.Told.TheVariants.{Met, Key}
-use Rattle.ell_cards.specs.declared.view.View.{View}
-use Rattle.ell_cards.specs.LookPlaces.{SawLookBegin, SeesMoreInLook}
-use Rattle.ell_cards.specs.Looking.{TellsBetween, ReadsItsOwn}
-use Rattle.ell_cards.specs.Models.{HasCome, Has, InTable, IsTold, PassModel}
+use Rattle.ell_runs.specs.declared.glance.Glance.{Glance}
+use Rattle.ell_runs.specs.declared.view.Told.{Told}
+use Rattle.ell_runs.specs.declared.view.Told.TheVariants.{Met, Key}
+use Rattle.ell_runs.specs.declared.view.View.{View}
+use Rattle.ell_runs.specs.LookPlaces.{SawLookBegin, SeesMoreInLook}
+use Rattle.ell_runs.specs.Looking.{TellsBetween, ReadsItsOwn}
+use Rattle.ell_runs.specs.Views.{HasCome, Has, InTable, IsTold}
+use Rattle.ell_cards.specs.Models.{PassModel}
 use Rattle.ell_tree.specs.declared.cursor.About.{About}
 use Rattle.ell_tree.specs.declared.cursor.Cursor.{Cursor}
 use Rattle.ell_tree.specs.Looks.{OnlyLooks}
 use Rattle.ell_tree.specs.Scans.{HaveFound, IsAbout, value_there}
-use Rattle.ell_cards.specs.Depths.{depth_of}
+use Rattle.ell_runs.specs.Depths.{depth_of}
 
 -- a pass was told of an inner node beside the root that has this key
 pub record IsNodeKey (last : ℕ) (v : View) (key : ℕ) : Type 0 where

@@ -1,18 +1,19 @@
-use Rattle.std.specs.Prelude.{◌≡◌, ℕ, ◌+◌, ◌*◌, ◌≤◌, ◌↔◌, ◌==◌, Bool, true, false, Option, None, Some, is_some, IfSome, Result, Ok, Err, ◌∷◌}
+use Rattle.std.specs.Prelude.{◌≡◌, ℕ, ◌+◌, ◌*◌, ◌≤◌, ◌↔◌, ◌==◌, Bool, true, false, Option, None, Some, is_some, IfSome, Result, Ok, Err}
 use Rattle.ell_core.specs.statements.Effects.{reply_of_change}
 use Rattle.ell_ops.specs.declared.op.Op.{Op}
 use Rattle.ell_ops.specs.declared.op.Op.TheVariants.{Find, Insert, Delete, Swap}
 use Rattle.ell_ops.specs.declared.reply.Reply.{Reply}
 use Rattle.ell_ops.specs.Meaning.{key_of, yes_if, reply_of, after, found}
-use Rattle.ell_cards.specs.Answering.{IsAnsweredInRuns}
-use Rattle.ell_cards.specs.LayingDown.{IsLaidDownInRuns}
-use Rattle.ell_cards.specs.Taking.{IsTakenInRuns}
-use Rattle.ell_cards.specs.declared.view.Sight.{Sight}
-use Rattle.ell_cards.specs.declared.view.Slots.{Slots}
-use Rattle.ell_cards.specs.Depths.{deepest}
-use Rattle.ell_cards.specs.Models.{PassModel, TablePlan}
-use Rattle.ell_cards.specs.Seeing.{HasSeenMore, SeesCall}
-use Rattle.ell_cards.specs.Stepping.{SameShare}
+use Rattle.ell_cards.specs.InRuns.{IsAnsweredInRuns}
+use Rattle.ell_cards.specs.InRuns.{IsLaidDownInRuns}
+use Rattle.ell_cards.specs.InRuns.{IsTakenInRuns}
+use Rattle.ell_runs.specs.declared.view.Sight.{Sight}
+use Rattle.ell_runs.specs.declared.view.Slots.{Slots}
+use Rattle.ell_runs.specs.Depths.{deepest}
+use Rattle.ell_cards.specs.Models.{PassModel}
+use Rattle.ell_runs.specs.Plans.{TablePlan}
+use Rattle.ell_runs.specs.Seeing.{HasSeenMore, SeesCall}
+use Rattle.ell_runs.specs.Views.{SameShare}
 use Rattle.ell_tree.specs.declared.operations.NotDone.{NotDone}
 use Rattle.ell_tree.specs.declared.operations.NotDone.TheVariants.{Busy, Spent}
 use Rattle.ell_tree.specs.Called.{ByItsTake, SeesTake}

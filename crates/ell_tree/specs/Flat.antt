@@ -1,7 +1,7 @@
 use Rattle.std.specs.Prelude.{◌≡◌, ◌≤◌, ℕ, [], true, length}
 use Rattle.ell_word.specs.Node.{most_start}
-use Rattle.ell_cards.specs.Depths.{deepest}
-use Rattle.ell_cards.specs.Models.{TablePlan}
+use Rattle.ell_runs.specs.Depths.{deepest}
+use Rattle.ell_runs.specs.Plans.{TablePlan}
 
 -- a bound that goes by how deep internal nodes may be: in each flat tree that opened empty it is this number, and in
 -- any flat tree at most that

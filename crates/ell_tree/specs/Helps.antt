@@ -3,20 +3,22 @@ use Rattle.ell_word.specs.declared.link.Link.{Link}
 use Rattle.ell_word.specs.declared.update.Update.{Update}
 use Rattle.ell_core.specs.declared.fact.Fact.TheVariants as fact
 use Rattle.ell_layout.specs.declared.field.Field.TheVariants as field
-use Rattle.ell_cards.specs.declared.view.Told.TheVariants.{Info, Expects, Key, Met}
-use Rattle.ell_cards.specs.declared.view.Hindrance.{Hindrance}
-use Rattle.ell_cards.specs.declared.view.Hindrance.TheVariants.{Found}
-use Rattle.ell_cards.specs.declared.view.View.{View}
-use Rattle.ell_cards.specs.Models.{TablePlan, PassModel, IsTold, Knows}
-use Rattle.ell_cards.specs.Changes.{is_mark_of, is_this}
-use Rattle.ell_cards.specs.Guards.{IsSibling}
+use Rattle.ell_runs.specs.declared.view.Told.TheVariants.{Info, Expects, Key, Met}
+use Rattle.ell_runs.specs.declared.view.Hindrance.{Hindrance}
+use Rattle.ell_runs.specs.declared.view.Hindrance.TheVariants.{Found}
+use Rattle.ell_runs.specs.declared.view.View.{View}
+use Rattle.ell_runs.specs.Plans.{TablePlan}
+use Rattle.ell_cards.specs.Models.{PassModel}
+use Rattle.ell_runs.specs.Views.{IsTold, Knows}
+use Rattle.ell_runs.specs.Changes.{is_mark_of, is_this}
+use Rattle.ell_runs.specs.Guards.{IsSibling}
 use Rattle.ell_tree.specs.declared.steps.KeyedNode.{KeyedNode}
 use Rattle.ell_tree.specs.declared.helping.DeleteFlag.{DeleteFlag}
 use Rattle.ell_tree.specs.declared.helping.Ending.{Ending}
 use Rattle.ell_tree.specs.declared.helping.Ending.TheVariants.{Done, Backed, Behind}
 use Rattle.ell_tree.specs.Hindrances.{Meets, MeetsUpTo}
 use Rattle.ell_tree.specs.Keeping.{KeepsAllButMet, IsInnerMet, IsSeenAt}
-use Rattle.ell_cards.specs.Depths.{deepest, depth_of}
+use Rattle.ell_runs.specs.Depths.{deepest, depth_of}
 
 -- the flag of an insert is known, and where its card goes
 pub record IsInsert (v : View) (c p : ℕ) (l : Link) (k j : ℕ) : Type 0 where

@@ -1,15 +1,15 @@
-use Rattle.std.specs.Prelude.{◌≡◌, ◌⊎◌, ◌++◌, List, [], ◌∷◌, ℕ, Some}
+use Rattle.std.specs.Prelude.{◌≡◌, ◌++◌, List, [], ◌∷◌, ℕ, Some}
 use Rattle.ell_ops.specs.declared.op.Op.{Op}
 use Rattle.ell_word.specs.declared.update.State.{State}
 use Rattle.ell_word.specs.declared.update.State.TheVariants as state
 use Rattle.ell_core.specs.declared.fact.Fact.{Fact}
 use Rattle.ell_core.specs.declared.fact.Fact.TheVariants as fact
-use Rattle.ell_cards.specs.declared.view.Hindrance.{Hindrance}
-use Rattle.ell_cards.specs.declared.view.Hindrance.TheVariants.{Claim, Found}
-use Rattle.ell_cards.specs.declared.view.View.{View}
-use Rattle.ell_cards.specs.Models.{Knows}
-use Rattle.ell_cards.specs.Changes.{in_the_way}
-use Rattle.ell_cards.specs.Dead.{KnowsDeleteEnded}
+use Rattle.ell_runs.specs.declared.view.Hindrance.{Hindrance}
+use Rattle.ell_runs.specs.declared.view.Hindrance.TheVariants.{Claim, Found}
+use Rattle.ell_runs.specs.declared.view.View.{View}
+use Rattle.ell_runs.specs.Views.{Knows}
+use Rattle.ell_runs.specs.Changes.{in_the_way}
+use Rattle.ell_runs.specs.Dead.{KnowsDeleteEnded}
 
 -- what a flag or a mark of a card says is under way is known to have ended
 abbrev pub IsEnded : View → State → ℕ → Type 0

@@ -6,12 +6,14 @@ use Rattle.ell_word.specs.Node.{IsInternal}
 use Rattle.ell_core.specs.declared.fact.Fact.{Fact}
 use Rattle.ell_core.specs.declared.fact.Fact.TheVariants as fact
 use Rattle.ell_layout.specs.declared.field.Field.TheVariants as field
-use Rattle.ell_cards.specs.declared.view.Told.{Told}
-use Rattle.ell_cards.specs.declared.view.Told.TheVariants.{Met, Info}
-use Rattle.ell_cards.specs.declared.view.Hindrance.{Hindrance}
-use Rattle.ell_cards.specs.declared.view.View.{View}
-use Rattle.ell_cards.specs.Models.{TablePlan, PassModel, InTable, IsTold, Knows}
-use Rattle.ell_cards.specs.Stepping.{SameShare}
+use Rattle.ell_runs.specs.declared.view.Told.{Told}
+use Rattle.ell_runs.specs.declared.view.Told.TheVariants.{Met, Info}
+use Rattle.ell_runs.specs.declared.view.Hindrance.{Hindrance}
+use Rattle.ell_runs.specs.declared.view.View.{View}
+use Rattle.ell_runs.specs.Plans.{TablePlan}
+use Rattle.ell_cards.specs.Models.{PassModel}
+use Rattle.ell_runs.specs.Views.{InTable, IsTold, Knows}
+use Rattle.ell_runs.specs.Views.{SameShare}
 use Rattle.ell_tree.specs.Counts.{Took, TookIn}
 use Rattle.ell_tree.specs.CardsTaken.{TakesNoCard}
 

@@ -45,8 +45,10 @@ pub use Rattle.ell_word.specs.Node
 pub use Rattle.ell_core.specs.state.Opening
 -- what a contract sees of a pass, and when a tree is refused
 pub use Rattle.ell_cards.specs.Models
-pub use Rattle.ell_cards.specs.Changes
-pub use Rattle.ell_cards.specs.declared.view.Hindrance
+pub use Rattle.ell_runs.specs.Plans
+pub use Rattle.ell_runs.specs.Views
+pub use Rattle.ell_runs.specs.Changes
+pub use Rattle.ell_runs.specs.declared.view.Hindrance
 pub use Rattle.ell_cards.specs.declared.fault.CardFault
 pub use Rattle.ell_cards.specs.declared.fault.SplitFault
 -- the words of a tree that has ended, and their pairs
@@ -62,20 +64,21 @@ pub mod Scans
 -- where a look goes on
 pub mod Cursors
 -- that what a look found was so in one state of every run that can have led there
-pub use Rattle.ell_cards.specs.Looking
+pub use Rattle.ell_runs.specs.Looking
+pub use Rattle.ell_cards.specs.InRuns
 -- what a pass was answered by a call
 pub mod Called
 -- what a pass was answered that has seen all of the history, as of one thread
 pub mod OneThread
 -- the history of a tree
-pub use Rattle.ell_cards.specs.Seeing
-pub use Rattle.ell_cards.specs.Sights
-pub use Rattle.ell_cards.specs.declared.view.Act
-pub use Rattle.ell_cards.specs.declared.view.Event
-pub use Rattle.ell_cards.specs.declared.view.Sight
-pub use Rattle.ell_cards.specs.Linearizing
-pub use Rattle.ell_cards.specs.Histories
-pub use Rattle.ell_cards.specs.declared.view.View
+pub use Rattle.ell_runs.specs.Seeing
+pub use Rattle.ell_runs.specs.Sights
+pub use Rattle.ell_runs.specs.declared.view.Act
+pub use Rattle.ell_runs.specs.declared.view.Event
+pub use Rattle.ell_runs.specs.declared.view.Sight
+pub use Rattle.ell_runs.specs.Linearizing
+pub use Rattle.ell_runs.specs.Histories
+pub use Rattle.ell_runs.specs.declared.view.View
 pub use Rattle.ell_cards.specs.Stepping
 -- which keys are shared, as a pass knows
 pub use Rattle.ell_core.specs.state.Machine

@@ -1,11 +1,11 @@
 -- What a pass has seen of the history of a tree by a look or a scan.
-use Rattle.std.specs.Prelude.{◌≡◌, ℕ, ◌+◌, ◌<◌, ◌≤◌, Option, Some, None, List}
+use Rattle.std.specs.Prelude.{ℕ, ◌+◌, ◌<◌, ◌≤◌, Option, Some, None, List}
 use Rattle.ell_ops.specs.Contents.{Contents, contents_of}
 use Rattle.ell_ops.specs.Meaning.{greatest_key}
-use Rattle.ell_cards.specs.declared.view.Event.{Event}
-use Rattle.ell_cards.specs.declared.view.Sight.{Sight}
-use Rattle.ell_cards.specs.Linearizing.{Item}
-use Rattle.ell_cards.specs.LookPlaces.{HasPlaceIn, IsOnlyThere, IsThere, SeesEachFound, SeesFound, SeesLookSo}
+use Rattle.ell_runs.specs.declared.view.Event.{Event}
+use Rattle.ell_runs.specs.declared.view.Sight.{Sight}
+use Rattle.ell_runs.specs.Linearizing.{Item}
+use Rattle.ell_runs.specs.LookPlaces.{HasPlaceIn, IsOnlyThere, IsThere, SeesEachFound, SeesFound, SeesLookSo}
 use Rattle.ell_tree.specs.Ledgers.{PassModel, TreeModel}
 use Rattle.ell_tree.specs.declared.cursor.About.{About}
 

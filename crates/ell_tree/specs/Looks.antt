@@ -1,11 +1,12 @@
 use Rattle.std.specs.Prelude.{◌≡◌, ℕ, ◌+◌, ◌*◌, ◌≤◌, Option, Some, None}
-use Rattle.ell_cards.specs.declared.view.Slots.{Slots}
-use Rattle.ell_cards.specs.declared.view.View.{View}
-use Rattle.ell_cards.specs.Changes.{after_rest}
-use Rattle.ell_cards.specs.Depths.{deepest}
-use Rattle.ell_cards.specs.Looking.{HasThere, IsFoundInRuns}
+use Rattle.ell_runs.specs.declared.view.Slots.{Slots}
+use Rattle.ell_runs.specs.declared.view.View.{View}
+use Rattle.ell_runs.specs.Changes.{after_rest}
+use Rattle.ell_runs.specs.Depths.{deepest}
+use Rattle.ell_runs.specs.Looking.{HasThere}
+use Rattle.ell_cards.specs.InRuns.{IsFoundInRuns}
 use Rattle.ell_cards.specs.Models.{EndsBy, PassModel}
-use Rattle.ell_cards.specs.Seeing.{HasSeenMore}
+use Rattle.ell_runs.specs.Seeing.{HasSeenMore}
 use Rattle.ell_tree.specs.Ledgers.{TreeModel}
 
 -- a pass has at most so many steps more, by both its counts, and was told more, and all else that it has and knows of

@@ -1,7 +1,7 @@
 use Rattle.std.specs.Prelude.{ℕ, zero, suc, ◌+◌, ◌-◌, ◌<◌, ◌≤◌, ◌⊎◌, if◌then◌else◌, List}
 use Rattle.ell_core.specs.declared.fact.Fact.{Fact}
-use Rattle.ell_cards.specs.declared.view.View.{View}
-use Rattle.ell_cards.specs.Models.{EndedBy, knows_end}
+use Rattle.ell_runs.specs.declared.view.View.{View}
+use Rattle.ell_runs.specs.Views.{EndedBy, knows_end}
 
 -- a pass saw a card given out, to itself or to another: it did not know so at the first view, and does at the second
 pub record GivesOut (last_card : ℕ) (v w : View) : Type 0 where

@@ -1,15 +1,15 @@
-use Rattle.std.specs.Prelude.{◌≡◌, ℕ, ◌+◌, ◌-◌, ◌%◌, ◌^◌, ◌≤◌, true, if◌then◌else◌, Option, Some, None, List, [], ◌++◌, max, false}
+use Rattle.std.specs.Prelude.{◌≡◌, ℕ, ◌+◌, ◌-◌, ◌%◌, ◌^◌, ◌≤◌, true, if◌then◌else◌, Some, None, List, max, false}
 use Rattle.ell_ops.specs.KeySet.{set_of}
 use Rattle.ell_ops.specs.Contents.{contents_of}
-use Rattle.ell_cards.specs.Models.{PassModel, given_share, one_more, whole_share}
-use Rattle.ell_cards.specs.Sights.{given_sight, joined_sight, no_sight}
-pub use Rattle.ell_cards.specs.Changes.{later_reading, ownable_if}
+use Rattle.ell_cards.specs.Models.{PassModel, one_more}
+use Rattle.ell_runs.specs.Views.{given_share, whole_share}
+use Rattle.ell_runs.specs.Sights.{given_sight, joined_sight, no_sight}
+pub use Rattle.ell_runs.specs.Changes.{later_reading, ownable_if}
 pub use Rattle.std.specs.Option.{option_or}
 use Rattle.ell_tree.specs.CardsTaken.{cards_taken}
 use Rattle.ell_tree.specs.Milestones.{milestones_known}
 use Rattle.ell_tree.specs.Ledgers.{TreeModel, ledger, present_in, answers, hindrances, IsIdle}
 pub use Rattle.ell_core.specs.state.Opening.{start_entry}
-use Rattle.ell_core.specs.declared.view.Entry.{Entry}
 use Rattle.ell_core.specs.statements.Premises.{entry_or}
 
 -- the first pass of a tree: it owns the keys of the tree's plan, of which the start keys are present with their values,

@@ -1,7 +1,7 @@
 use Rattle.std.specs.Prelude.{◌≡◌, ◌≢◌, ℕ, ◌+◌, ◌*◌, ◌<◌, ◌≤◌, Bool, false, Result, Ok, Err}
 use Rattle.ell_core.specs.state.Machine.{worker_of}
 use Rattle.ell_core.specs.soundness.Sound.{MayChange}
-use Rattle.ell_cards.specs.Contention.{AreHinderedByOthers}
+use Rattle.ell_runs.specs.Contention.{AreHinderedByOthers}
 use Rattle.ell_tree.specs.declared.operations.NotDone.{NotDone}
 use Rattle.ell_tree.specs.declared.operations.NotDone.TheVariants.{Busy}
 use Rattle.ell_tree.specs.CardsTaken.{TakesAtMost, TakesCards, TakesNoCard}

@@ -7,10 +7,10 @@ use Rattle.ell_core.specs.acts.Searching.{put_of}
 use Rattle.ell_layout.specs.declared.field.Field.TheVariants as field
 use Rattle.ell_layout.specs.Words.{IsLeaf}
 use Rattle.ell_cards.specs.declared.view.Retired.{Retired}
-use Rattle.ell_cards.specs.declared.view.Slots.{Slots}
-use Rattle.ell_cards.specs.declared.view.Told.TheVariants.{Info}
-use Rattle.ell_cards.specs.declared.view.View.{View}
-use Rattle.ell_cards.specs.Models.{IsTold, Knows, Does}
+use Rattle.ell_runs.specs.declared.view.Slots.{Slots}
+use Rattle.ell_runs.specs.declared.view.Told.TheVariants.{Info}
+use Rattle.ell_runs.specs.declared.view.View.{View}
+use Rattle.ell_runs.specs.Views.{IsTold, Knows, Does}
 use Rattle.ell_cards.specs.SlotWords.{has_slot_in}
 use Rattle.ell_tree.specs.declared.searching.Place.{Place}
 

@@ -4,15 +4,16 @@ use Rattle.std.specs.List.{All}
 use Rattle.std.specs.List.Sorted.{IsStrictlyIncreasing}
 use Rattle.ell_ops.specs.Contents.{Contents}
 use Rattle.ell_ops.specs.Meaning.{greatest_key}
-use Rattle.ell_cards.specs.declared.view.View.{View}
-use Rattle.ell_cards.specs.Looking.{HasFound, HasBetween, IsFoundInRuns}
+use Rattle.ell_runs.specs.declared.view.View.{View}
+use Rattle.ell_runs.specs.Looking.{HasFound, HasBetween}
+use Rattle.ell_cards.specs.InRuns.{IsFoundInRuns}
 use Rattle.ell_tree.specs.declared.cursor.About.{About}
 use Rattle.ell_tree.specs.declared.scanning.Pair.{Pair}
 use Rattle.ell_tree.specs.declared.scanning.Scanned.{Scanned}
 use Rattle.ell_tree.specs.Ledgers.{Owns, PassModel, TreeModel, present_in}
 use Rattle.ell_tree.specs.Looks.{IsFoundIn, OnlyLooks, stretch_steps}
-use Rattle.ell_cards.specs.Models.{TablePlan}
-use Rattle.ell_cards.specs.Depths.{deepest}
+use Rattle.ell_runs.specs.Plans.{TablePlan}
+use Rattle.ell_runs.specs.Depths.{deepest}
 
 -- a key lies in the stretch of keys about which a look has found something, all of which are real
 pub record IsAbout (key : ℕ) (about : About) : Type 0 where

@@ -13,10 +13,11 @@ use Rattle.ell_core.specs.state.Machine.{ledger_of}
 use Rattle.ell_core.specs.statements.Effects.{contents_in}
 use Rattle.ell_core.specs.acts.Searching.{at_root}
 use Rattle.ell_layout.specs.Words.{IsLeaf, has_block}
-use Rattle.ell_cards.specs.declared.view.Told.TheVariants.{Met, Key, Value}
-use Rattle.ell_cards.specs.declared.view.View.{View}
-use Rattle.ell_cards.specs.Models.{TablePlan, flat_from, IsTold, Does, InTable, EndWasUnknown}
-use Rattle.ell_cards.specs.Changes.{value_told}
+use Rattle.ell_runs.specs.declared.view.Told.TheVariants.{Met, Key, Value}
+use Rattle.ell_runs.specs.declared.view.View.{View}
+use Rattle.ell_runs.specs.Plans.{TablePlan, flat_from}
+use Rattle.ell_runs.specs.Views.{IsTold, Does, InTable, EndWasUnknown}
+use Rattle.ell_runs.specs.Changes.{value_told}
 use Rattle.ell_tree.specs.declared.searching.Passed.{Passed}
 use Rattle.ell_tree.specs.declared.searching.Place.{Place}
 use Rattle.ell_tree.specs.Keeping.{IsSeenAt}

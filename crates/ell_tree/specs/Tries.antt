@@ -13,15 +13,17 @@ use Rattle.ell_word.specs.declared.update.Update.{Update}
 use Rattle.ell_core.specs.declared.fact.Fact.{Fact}
 use Rattle.ell_core.specs.declared.fact.Fact.TheVariants as fact
 use Rattle.ell_layout.specs.declared.field.Field.{Field}
-use Rattle.ell_cards.specs.declared.view.Told.{Told}
-use Rattle.ell_cards.specs.declared.view.Told.TheVariants.{Expects}
-use Rattle.ell_cards.specs.declared.view.Hindrance.{Hindrance}
-use Rattle.ell_cards.specs.declared.view.Hindrance.TheVariants.{Found}
-use Rattle.ell_cards.specs.declared.view.View.{View}
-use Rattle.ell_cards.specs.Models.{flat_from, TablePlan, PassModel, Has, IsTold, Knows, Does, StandsAt, new_node}
-use Rattle.ell_cards.specs.Changes.{value_told, expected_tag, told_filling, filling_of, tagged, with_stores, tries_hindered}
-use Rattle.ell_cards.specs.Guards.{IsFilled, MayFill}
-use Rattle.ell_cards.specs.Seeing.{SeesEnd}
+use Rattle.ell_runs.specs.declared.view.Told.{Told}
+use Rattle.ell_runs.specs.declared.view.Told.TheVariants.{Expects}
+use Rattle.ell_runs.specs.declared.view.Hindrance.{Hindrance}
+use Rattle.ell_runs.specs.declared.view.Hindrance.TheVariants.{Found}
+use Rattle.ell_runs.specs.declared.view.View.{View}
+use Rattle.ell_runs.specs.Plans.{flat_from, TablePlan, new_node}
+use Rattle.ell_cards.specs.Models.{PassModel}
+use Rattle.ell_runs.specs.Views.{Has, IsTold, Knows, Does, StandsAt}
+use Rattle.ell_runs.specs.Changes.{value_told, expected_tag, told_filling, filling_of, tagged, with_stores, tries_hindered}
+use Rattle.ell_runs.specs.Guards.{IsFilled, MayFill}
+use Rattle.ell_runs.specs.Seeing.{SeesEnd}
 use Rattle.ell_cards.specs.Shown.{shown_words}
 use Rattle.ell_tree.specs.declared.searching.Place.{Place}
 use Rattle.ell_tree.specs.declared.trying.Claimed.{Claimed}
@@ -31,7 +33,8 @@ use Rattle.ell_tree.specs.declared.trying.Next.TheVariants as next
 use Rattle.ell_tree.specs.declared.trying.Tried.{Tried}
 use Rattle.ell_tree.specs.declared.trying.Tried.TheVariants as tried
 use Rattle.ell_tree.specs.Ledgers.{TreeModel, Owns, present_in, IsIdle}
-use Rattle.ell_cards.specs.Stepping.{LetsGo, SameShare}
+use Rattle.ell_cards.specs.Stepping.{LetsGo}
+use Rattle.ell_runs.specs.Views.{SameShare}
 use Rattle.ell_tree.specs.Counts.{Took}
 use Rattle.ell_tree.specs.CardsTaken.{TakesNoCard}
 use Rattle.ell_tree.specs.Ends.{AnswersAs, NoneIsLeft, TakesValue, reply_by}
@@ -39,7 +42,7 @@ use Rattle.ell_tree.specs.Hindrances.{AreOver, Meets, StillKnows, way_of}
 use Rattle.ell_tree.specs.Keeping.{IsSeenAt}
 use Rattle.ell_tree.specs.Milestones.{GivesOut, SeesMilestone}
 use Rattle.ell_tree.specs.Searches.{AtRoot, seen, seen_any, there_at}
-use Rattle.ell_cards.specs.declared.call.NewNode.{NewNode}
+use Rattle.ell_runs.specs.declared.call.NewNode.{NewNode}
 
 -- an operation that may change the map: an insert, a delete or a swap
 abbrev pub IsChange : Op → Type 0

@@ -6,7 +6,7 @@ ghost use Rattle.ell_tree.specs.Ends.{CountsTries};
 ghost use Rattle.ell_tree.specs.Ledgers.{Owns};
 ghost use Rattle.ell_tree.specs.Promises.{IsOthersDoing, MayDo, SpendsCards};
 ghost use Rattle.ell_tree.specs.declared.operations.NotDone.TheVariants.{Busy};
-ghost use Rattle.ell_cards.specs.Depths.{deepest};
+ghost use Rattle.ell_runs.specs.Depths.{deepest};
 
 use crate::operations::{NotDone, change, find};
 use ell_cards::{Memory, Pass, StepGate, TableSteps};

@@ -3,15 +3,16 @@
 ghost use Rattle.std.specs.Prelude.{◌≡◌, ◌<◌, ◌≤◌, ◌+◌, ◌%◌, slice_set};
 ghost use Rattle.ell_ops.specs.Meaning.{greatest_key};
 ghost use Rattle.ell_layout.specs.Words.{IsLeaf};
-ghost use Rattle.ell_cards.specs.declared.view.Told.TheVariants.{Met};
-ghost use Rattle.ell_cards.specs.Models.{IsTold, flat_from};
-ghost use Rattle.ell_cards.specs.LookPlaces.{FindsHavePlaces};
-ghost use Rattle.ell_cards.specs.Looking.{KeysAreFixed, ReadsItsOwn, MissesItsOwn};
+ghost use Rattle.ell_runs.specs.declared.view.Told.TheVariants.{Met};
+ghost use Rattle.ell_runs.specs.Views.{IsTold};
+ghost use Rattle.ell_runs.specs.Plans.{flat_from};
+ghost use Rattle.ell_runs.specs.LookPlaces.{FindsHavePlaces};
+ghost use Rattle.ell_runs.specs.Looking.{KeysAreFixed, ReadsItsOwn, MissesItsOwn};
 ghost use Rattle.ell_tree.specs.Counts.{CountsAll, HasUncounted};
 ghost use Rattle.ell_tree.specs.Ledgers.{IsIdlePassOf};
 ghost use Rattle.ell_tree.specs.Looks.{stretch_steps};
 ghost use Rattle.ell_tree.specs.Cursors.{AreKept, BeginsALook, FindsAbout, IsAmong, KeepsLooking, TellsOfLeaf};
-ghost use Rattle.ell_cards.specs.Depths.{deepest, IsShallow};
+ghost use Rattle.ell_runs.specs.Depths.{deepest, IsShallow};
 
 use ell_cards::{Glance, Memory, Pass, StepGate, TableSteps};
 use ell_ops::KEY_MAX;

@@ -3,8 +3,8 @@ ghost use Rattle.std.specs.Prelude.{◌≡◌, ◌≤◌, [], true, IfOk, IfErr,
 ghost use Rattle.std.specs.List.{All};
 ghost use Rattle.ell_ops.specs.Contents.{contents_of};
 ghost use Rattle.ell_cards.specs.Closed.{EndsHistory};
-ghost use Rattle.ell_cards.specs.Models.{whole_share};
-ghost use Rattle.ell_cards.specs.Seeing.{HasSeenAll, HasSeenMore};
+ghost use Rattle.ell_runs.specs.Views.{whole_share};
+ghost use Rattle.ell_runs.specs.Seeing.{HasSeenAll, HasSeenMore};
 ghost use Rattle.ell_tree.specs.CardsTaken.{TakesNoCard};
 ghost use Rattle.ell_tree.specs.Closing.{ClosesTo};
 ghost use Rattle.ell_tree.specs.Counts.{Took};

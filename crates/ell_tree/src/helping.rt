@@ -5,11 +5,11 @@
 ghost use Rattle.std.specs.Prelude.{◌≡◌};
 ghost use Rattle.ell_core.specs.declared.fact.Fact.TheVariants as fact;
 ghost use Rattle.ell_layout.specs.declared.field.Field.TheVariants as field;
-ghost use Rattle.ell_cards.specs.declared.view.Told.TheVariants as told;
-ghost use Rattle.ell_cards.specs.Models.{IsTold, Knows};
-ghost use Rattle.ell_cards.specs.Depths.{deepest, depth_of};
+ghost use Rattle.ell_runs.specs.declared.view.Told.TheVariants as told;
+ghost use Rattle.ell_runs.specs.Views.{IsTold, Knows};
+ghost use Rattle.ell_runs.specs.Depths.{deepest, depth_of};
 ghost use Rattle.ell_tree.specs.Helps.{DeleteEnds, HasSibling, HelpEnds, IsFlag, IsInsert, KnowsMark, IsParent, chain_steps, help_steps};
-ghost use Rattle.ell_cards.specs.Dead.{KnowsDeleteEnded};
+ghost use Rattle.ell_runs.specs.Dead.{KnowsDeleteEnded};
 ghost use Rattle.ell_tree.specs.Hindrances.{IsEnded, Meets};
 ghost use Rattle.ell_tree.specs.Keeping.{IsSeenAt, KeepsAll, KeepsAllButMet};
 

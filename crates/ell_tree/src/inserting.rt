@@ -10,8 +10,8 @@ ghost use Rattle.ell_tree.specs.Keeping.{Keeps, IsInnerMet};
 ghost use Rattle.ell_tree.specs.Searches.{AtRoot};
 ghost use Rattle.ell_tree.specs.Tries.{HasSlotOf, told_of_put, put_reply, Fills, Flags, HasCardToPut, TryEnds};
 ghost use Rattle.ell_core.specs.tree.Flat.{IsNodeKey};
-ghost use Rattle.ell_cards.specs.Models.{flat_from, new_node};
-ghost use Rattle.ell_cards.specs.Sayings.{put_says};
+ghost use Rattle.ell_runs.specs.Plans.{flat_from, new_node};
+ghost use Rattle.ell_runs.specs.Sayings.{put_says};
 ghost use Rattle.ell_cards.specs.Stepping.{IsWholeIn};
 
 use crate::helping::{finish_insert, help};

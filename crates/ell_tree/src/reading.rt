@@ -3,17 +3,17 @@
 ghost use Rattle.std.specs.Prelude.{◌≡◌, ◌<◌, ◌≤◌, ◌+◌, ℕ, true, None, nat_le};
 ghost use Rattle.ell_block.specs.Blocks.{InBlockOf};
 ghost use Rattle.ell_layout.specs.Words.{has_block};
-ghost use Rattle.ell_cards.specs.Guards.{GoOnBy};
-ghost use Rattle.ell_cards.specs.Models.{flat_from};
+ghost use Rattle.ell_runs.specs.Guards.{GoOnBy};
+ghost use Rattle.ell_runs.specs.Plans.{flat_from};
 ghost use Rattle.ell_ops.specs.Meaning.{greatest_key};
-ghost use Rattle.ell_cards.specs.LookPlaces.{FindsHavePlaces, SawLookBegin};
-ghost use Rattle.ell_cards.specs.Looking.{HasFound, HasFoundBetween, ReadsItsOwn, MissesItsOwn};
+ghost use Rattle.ell_runs.specs.LookPlaces.{FindsHavePlaces, SawLookBegin};
+ghost use Rattle.ell_runs.specs.Looking.{HasFound, HasFoundBetween, ReadsItsOwn, MissesItsOwn};
 ghost use Rattle.ell_tree.specs.CardsLeft.{ReadsCardsLeft};
 ghost use Rattle.ell_tree.specs.Counts.{CountsAll, HasUncounted};
 ghost use Rattle.ell_tree.specs.Ledgers.{IsIdlePassOf, Owns, present_in};
 ghost use Rattle.ell_tree.specs.Looks.{OnlyLooks, look_steps};
 ghost use Rattle.ell_tree.specs.Scans.{IsAbout, TellsItsOwn, value_there};
-ghost use Rattle.ell_cards.specs.Depths.{deepest};
+ghost use Rattle.ell_runs.specs.Depths.{deepest};
 
 use crate::cursor::{About, found_at};
 use ell_block::{block_ends, is_in_block};

@@ -6,7 +6,7 @@ ghost use Rattle.ell_tree.specs.Ends.{change_steps_in, CountsTries, change_steps
 ghost use Rattle.ell_tree.specs.Ledgers.{Owns};
 ghost use Rattle.ell_tree.specs.Promises.{IsOthersDoing, MayDo, SpendsCards};
 ghost use Rattle.ell_tree.specs.declared.operations.NotDone.TheVariants.{Busy};
-ghost use Rattle.ell_cards.specs.Depths.{deepest};
+ghost use Rattle.ell_runs.specs.Depths.{deepest};
 
 use crate::computing::Replaced;
 use crate::deleting::delete_at;

@@ -5,11 +5,11 @@ ghost use Rattle.ell_word.specs.Node.{greatest_number, IsInternal};
 ghost use Rattle.ell_core.specs.declared.fact.Fact.TheVariants.{DOver};
 ghost use Rattle.ell_layout.specs.declared.field.Field.TheVariants as field;
 ghost use Rattle.ell_layout.specs.Words.{IsLeaf};
-ghost use Rattle.ell_cards.specs.declared.view.Slots.{Slots};
-ghost use Rattle.ell_cards.specs.declared.view.Told.TheVariants.{Info};
-ghost use Rattle.ell_cards.specs.Dead.{HasTakenOut, KnowsDeleteEnded};
+ghost use Rattle.ell_runs.specs.declared.view.Slots.{Slots};
+ghost use Rattle.ell_runs.specs.declared.view.Told.TheVariants.{Info};
+ghost use Rattle.ell_runs.specs.Dead.{HasTakenOut, KnowsDeleteEnded};
 ghost use Rattle.ell_cards.specs.LettingGo.{CutIsRetired, OwnAreRetired, PutIsRetired};
-ghost use Rattle.ell_cards.specs.Models.{IsTold, Knows};
+ghost use Rattle.ell_runs.specs.Views.{IsTold, Knows};
 ghost use Rattle.ell_cards.specs.Noting.{HasNoted};
 ghost use Rattle.ell_tree.specs.Retiring.{BothAreNoted, HasPut, KeepsTakenOut};
 

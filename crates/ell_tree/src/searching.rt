@@ -1,9 +1,10 @@
 //! The search (paper of 2010, figure 8: Search).
 ghost use Rattle.std.specs.Prelude.{◌≡◌, ◌<◌, ◌+◌, ◌*◌, None, Some, true, false};
-ghost use Rattle.ell_cards.specs.Depths.{deepest, IsShallow, depth_of};
-ghost use Rattle.ell_cards.specs.Models.{Does, InTable, IsTold, StandsAt, flat_from};
-ghost use Rattle.ell_cards.specs.declared.view.Told.TheVariants.{Met};
-ghost use Rattle.ell_cards.specs.declared.view.Told.TheVariants as told;
+ghost use Rattle.ell_runs.specs.Depths.{deepest, IsShallow, depth_of};
+ghost use Rattle.ell_runs.specs.Views.{Does, InTable, IsTold, StandsAt};
+ghost use Rattle.ell_runs.specs.Plans.{flat_from};
+ghost use Rattle.ell_runs.specs.declared.view.Told.TheVariants.{Met};
+ghost use Rattle.ell_runs.specs.declared.view.Told.TheVariants as told;
 ghost use Rattle.ell_tree.specs.Counts.{CountsAll, HasUncounted};
 ghost use Rattle.ell_tree.specs.Keeping.{IsInnerMet, KeepsAllButSearch};
 ghost use Rattle.ell_tree.specs.Searches.{AtRoot, EndsAbove, EndsAt, EndWasUnknownAt, FitsBelow, KnowsPassed, MayPass, below, node_with};

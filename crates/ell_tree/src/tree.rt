@@ -8,8 +8,9 @@ ghost use Rattle.ell_ops.specs.KeySet.{set_of};
 ghost use Rattle.ell_ops.specs.Meaning.{greatest_key, found};
 ghost use Rattle.ell_word.specs.Node.{most_start};
 ghost use Rattle.ell_core.specs.state.Opening.{last_card};
-ghost use Rattle.ell_cards.specs.Models.{IsCardCount, MayPart, RefusesCards, SplitRefuses};
-ghost use Rattle.ell_cards.specs.Sights.{given_sight, joined_sight};
+ghost use Rattle.ell_cards.specs.Models.{IsCardCount, RefusesCards, SplitRefuses};
+ghost use Rattle.ell_runs.specs.Views.{MayPart};
+ghost use Rattle.ell_runs.specs.Sights.{given_sight, joined_sight};
 ghost use Rattle.ell_tree.specs.Called.{SeesAnswer, SeesDelete, SeesPut, SeesRemove, SeesTake, SeesUpdate};
 ghost use Rattle.ell_tree.specs.CardsLeft.{AreLeftAtMost, ReadsCardsLeft};
 ghost use Rattle.ell_tree.specs.CardsTaken.{TakesNoCard};
@@ -19,14 +20,14 @@ ghost use Rattle.ell_tree.specs.Ends.{Answers, CountsTries, Ends, TakesValue, fi
 ghost use Rattle.ell_tree.specs.Milestones.{milestones_known};
 ghost use Rattle.ell_tree.specs.declared.operations.NotDone.TheVariants.{Busy};
 ghost use Rattle.ell_tree.specs.Ledgers.{IsIdlePassOf, Owns, TreeModel, present_in};
-ghost use Rattle.ell_cards.specs.Looking.{IsKnownInRun};
+ghost use Rattle.ell_cards.specs.InRuns.{IsKnownInRun};
 ghost use Rattle.ell_tree.specs.LookPlaces.{SeesAround, SeesLast, SeesNext, SeesScan, SeesThere};
 ghost use Rattle.ell_tree.specs.Looks.{EndsLooks, IsFoundIn, OnlyLooksOnce};
 ghost use Rattle.ell_tree.specs.Scans.{AreFoundIn, AreInOrder, IsAbout, IsFoundAboutIn, IsLastIn, IsNextIn, OnlyScans, TellsItsOwn, end_of, value_there, written};
 ghost use Rattle.ell_ops.specs.Contents.{contents_of};
 ghost use Rattle.ell_tree.specs.PassParts.{IsFirst, IsLeftPart, IsRightPart, IsUnion};
 ghost use Rattle.ell_tree.specs.Promises.{HasEnough, HasEnoughForOwn, IsOthersDoing, IsOthersDoingForOwn, IsQuiet, IsWithin, MayDo, SpendsCards};
-ghost use Rattle.ell_cards.specs.Depths.{deepest};
+ghost use Rattle.ell_runs.specs.Depths.{deepest};
 
 use crate::computing::compute;
 use crate::cursor::About;

@@ -2,11 +2,13 @@
 ghost use Rattle.std.specs.Prelude.{◌≡◌, ◌≤◌, None};
 ghost use Rattle.ell_word.specs.declared.update.State.TheVariants.{Clean};
 ghost use Rattle.ell_word.specs.Node.{greatest_number};
-ghost use Rattle.ell_cards.specs.Models.{Does, Steps, flat_from, new_node};
-ghost use Rattle.ell_cards.specs.Guards.{MayClaim, Wants};
+ghost use Rattle.ell_runs.specs.Views.{Does};
+ghost use Rattle.ell_cards.specs.Models.{Steps};
+ghost use Rattle.ell_runs.specs.Plans.{flat_from, new_node};
+ghost use Rattle.ell_runs.specs.Guards.{MayClaim, Wants};
 ghost use Rattle.ell_cards.specs.Skipping.{IsFresh, after_claimed_row};
 ghost use Rattle.ell_cards.specs.Stepping.{MayInTable};
-ghost use Rattle.ell_cards.specs.declared.call.Call.TheVariants as call;
+ghost use Rattle.ell_runs.specs.declared.call.Call.TheVariants as call;
 ghost use Rattle.ell_tree.specs.CardsTaken.{NextTakes, AskTakes};
 ghost use Rattle.ell_tree.specs.Keeping.{KeepsIn};
 ghost use Rattle.ell_tree.specs.Searches.{IsAt};

@@ -4,9 +4,9 @@ use Rattle.ell_ops.specs.declared.op.Op.TheVariants.{Delete, Find, Insert, Swap}
 use Rattle.ell_ops.specs.declared.reply.Reply.{Reply}
 use Rattle.ell_ops.specs.Contents.{contents_of}
 use Rattle.ell_ops.specs.Meaning.{found, greatest_key, key_of}
-use Rattle.ell_cards.specs.Looking.{IsKnownInRun}
+use Rattle.ell_cards.specs.InRuns.{IsKnownInRun}
 use Rattle.ell_cards.specs.Models.{PassModel}
-use Rattle.ell_cards.specs.declared.view.View.{View}
+use Rattle.ell_runs.specs.declared.view.View.{View}
 use Rattle.ell_tree.specs.Called.{SeesAnswer, SeesDelete, SeesPut, SeesRemove, SeesTake, SeesUpdate}
 use Rattle.ell_tree.specs.CardsLeft.{AreLeftAtMost, ReadsCardsLeft}
 use Rattle.ell_tree.specs.CardsTaken.{TakesNoCard}

@@ -5,11 +5,12 @@ use Rattle.std.specs.List.Sorted.{IsStrictlyIncreasing}
 use Rattle.std.specs.Map.{keys_of}
 use Rattle.ell_ops.specs.Meaning.{greatest_key}
 use Rattle.ell_core.specs.state.Opening.{last_card}
-use Rattle.ell_cards.specs.Depths.{deepest}
+use Rattle.ell_runs.specs.Depths.{deepest}
 use Rattle.ell_tree.specs.Node.{greatest_number, most_start}
-use Rattle.ell_cards.specs.Models.{IsCardCount, MayPart}
-use Rattle.ell_cards.specs.Sights.{given_sight, no_sight}
-use Rattle.ell_cards.specs.Starts.{most_places}
+use Rattle.ell_cards.specs.Models.{IsCardCount}
+use Rattle.ell_runs.specs.Views.{MayPart}
+use Rattle.ell_runs.specs.Sights.{given_sight, no_sight}
+use Rattle.ell_runs.specs.Starts.{most_places}
 use Rattle.ell_tree.specs.Ledgers.{TreeModel}
 use Rattle.ell_tree.specs.PassParts.{IsFirst, IsLeftPart, IsRightPart}
 use Rattle.ell_tree.specs.declared.scanning.Pair.{Pair}

@@ -1,7 +1,7 @@
 //! A tree and a pass of it.
 ghost use Rattle.std.specs.Prelude.{◌≡◌, true, false, []};
 ghost use Rattle.std.specs.Arc.{arc_value};
-ghost use Rattle.ell_cards.specs.Changes.{ownable_if};
+ghost use Rattle.ell_runs.specs.Changes.{ownable_if};
 ghost use Rattle.ell_tree.specs.Ledgers.{IsIdle};
 
 use ell_tree::{Pass, Tree};

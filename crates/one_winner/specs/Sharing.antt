@@ -2,7 +2,8 @@ use Rattle.std.specs.Prelude.{◌≡◌, ◌≢◌, ◌+◌, ◌%◌, ◌^◌, t
 use Rattle.ell_tree.specs.Op.{Op}
 use Rattle.ell_tree.specs.Reply.{Reply}
 use Rattle.ell_tree.specs.Act.{Act}
-use Rattle.ell_tree.specs.Models.{PassModel, SplitRefuses, whole_share}
+use Rattle.ell_tree.specs.Models.{PassModel, SplitRefuses}
+use Rattle.ell_tree.specs.Views.{whole_share}
 use Rattle.ell_tree.specs.Ends.{NotDoneFor}
 use Rattle.ell_tree.specs.Ledgers.{IsIdlePassOf, TreeModel}
 use Rattle.one_winner.specs.declared.fault.RaceFault.{RaceFault}

@@ -2,7 +2,7 @@
 ghost use Rattle.std.specs.Prelude.{◌≡◌, ◌≢◌, ◌≤◌, ◌∷◌, [], if◌then◌else◌, IfErr, IfOk, Some};
 ghost use Rattle.ell_tree.specs.Op.TheVariants.{Find, Insert};
 ghost use Rattle.ell_tree.specs.Meaning.{found, greatest_key, yes_if};
-ghost use Rattle.ell_tree.specs.Models.{whole_share};
+ghost use Rattle.ell_tree.specs.Views.{whole_share};
 ghost use Rattle.ell_tree.specs.Ends.{Answers};
 ghost use Rattle.ell_tree.specs.Promises.{MayDo};
 ghost use Rattle.one_winner.specs.Sharing.{AreNew, Fails, answered};

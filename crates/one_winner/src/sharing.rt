@@ -2,7 +2,7 @@
 ghost use Rattle.std.specs.Prelude.{◌≡◌, ◌≢◌, [], IfErr, IfOk};
 ghost use Rattle.ell_tree.specs.Op.TheVariants.{Find, Insert};
 ghost use Rattle.ell_tree.specs.Meaning.{found, yes_if};
-ghost use Rattle.ell_tree.specs.Models.{whole_share};
+ghost use Rattle.ell_tree.specs.Views.{whole_share};
 ghost use Rattle.ell_tree.specs.Ends.{Answers};
 ghost use Rattle.ell_tree.specs.Ledgers.{IsIdlePassOf};
 ghost use Rattle.ell_tree.specs.PassParts.{IsUnion};

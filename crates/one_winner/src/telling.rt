@@ -3,7 +3,7 @@ ghost use Rattle.std.specs.Prelude.{◌≡◌, ◌≢◌, ◌≤◌, ◌∷◌, 
 ghost use Rattle.ell_tree.specs.Op.TheVariants.{Find, Insert};
 ghost use Rattle.ell_tree.specs.Reply.TheVariants.{Yes};
 ghost use Rattle.ell_tree.specs.Meaning.{found, greatest_key};
-ghost use Rattle.ell_tree.specs.Models.{whole_share};
+ghost use Rattle.ell_tree.specs.Views.{whole_share};
 ghost use Rattle.ell_tree.specs.Ends.{Answers};
 ghost use Rattle.ell_tree.specs.Promises.{MayDo};
 ghost use Rattle.one_winner.specs.Sharing.{AreNew, Fails, answered};

@@ -10,7 +10,8 @@ use Rattle.ell_tree.specs.Called.{SeesRead}
 use Rattle.ell_tree.specs.Computing.{AreTried, IsNotDone}
 use Rattle.ell_tree.specs.Contents.{contents_of}
 use Rattle.ell_tree.specs.Ledgers.{IsIdlePassOf, TreeModel}
-use Rattle.ell_tree.specs.Models.{PassModel, whole_share}
+use Rattle.ell_tree.specs.Models.{PassModel}
+use Rattle.ell_tree.specs.Views.{whole_share}
 use Rattle.ell_tree.specs.declared.operations.NotDone.TheVariants.{Busy}
 use Rattle.shared_counter.specs.declared.adding.TheConstants.{COUNTER, TRIES}
 use Rattle.shared_counter.specs.declared.fault.CountFault.{CountFault}

@@ -1,6 +1,6 @@
 //! Four threads add to one counter.
 ghost use Rattle.std.specs.Prelude.{◌≡◌, ◌+◌, ◌*◌, ◌%◌, ◌^◌, IfOk, IfErr, sum};
-ghost use Rattle.ell_tree.specs.Models.{whole_share};
+ghost use Rattle.ell_tree.specs.Views.{whole_share};
 ghost use Rattle.shared_counter.specs.Adding.{AreNew, Fails, HasAdded, IsCounter, LastFinds, joined_share, start_of};
 
 use crate::adding::{COUNTER, add_often};

@@ -1,16 +1,4 @@
--- an opening table has a machine
-pub mod Openings
--- lists of the words at the start
-pub mod StartLists
--- passes with nothing in hand
-pub mod Idle
--- the parts of a pass's keys
-pub mod Parts
--- a split is one of the machine
-pub mod Splits
--- the keys and the ledger of two passes in one
-pub mod Unions
--- a join is one of the machine
-pub mod Joins
 -- how a table ends
 pub mod Ends
+-- the code of a pass fits what it knows, as a table opens, and as passes part and come together
+pub mod Fits

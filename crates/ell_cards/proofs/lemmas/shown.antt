@@ -30,3 +30,9 @@ pub mod ShownActs
 pub mod ShownKinds
 -- the low bits of nodes
 pub mod ShownLow
+-- what a step call leaves of a pass, and what is shown of it
+pub mod Reaching
+-- what is shown of a pass says of each run that leads there
+pub mod InRuns
+-- how a table ends, by what is shown of its first pass
+pub mod Ending

@@ -31,3 +31,5 @@ pub mod Near
 pub mod Apart
 -- and from those to which child words lead
 pub mod Found
+-- cards that were laid aside
+pub mod Aside

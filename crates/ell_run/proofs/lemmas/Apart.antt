@@ -5,7 +5,7 @@ use Rattle.std.proofs.lemmas.List.{append-nil}
 use Rattle.ell_ops.specs.KeySet.{Lists, set_of}
 use Rattle.ell_ops.specs.Meaning.{key_of}
 use Rattle.ell_parts.specs.PartedOps.{PartedOps, IsLawful, keys_of_ops}
-use Rattle.ell_cards.specs.Models.{TablePlan}
+use Rattle.ell_runs.specs.Plans.{TablePlan}
 use Rattle.ell_tree.specs.Ledgers.{PassModel, TreeModel, Owns, IsIdle, ledger}
 use Rattle.ell_tree.specs.PassParts.{IsLeftPart, IsRightPart, IsUnion}
 use Rattle.ell_run.specs.Pieces.{all_workers}

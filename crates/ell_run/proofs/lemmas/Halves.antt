@@ -15,7 +15,7 @@ use Rattle.ell_ops.specs.KeySet.{Lists}
 use Rattle.ell_ops.specs.Meaning.{key_of, final}
 use Rattle.ell_core.specs.statements.Premises.{entry_or}
 use Rattle.ell_parts.specs.PartedOps.{PartedOps, IsLawful, part, keys_of_part}
-use Rattle.ell_cards.specs.Models.{TablePlan}
+use Rattle.ell_runs.specs.Plans.{TablePlan}
 use Rattle.ell_tree.specs.Ledgers.{PassModel, TreeModel, Owns, ledger, present_in, Entry}
 use Rattle.ell_tree.specs.PassParts.{IsUnion}
 use Rattle.ell_run.specs.Pieces.{all_not_done, ops_done}

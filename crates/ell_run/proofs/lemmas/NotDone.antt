@@ -3,7 +3,7 @@ use Rattle.std.specs.List.{insert}
 use Rattle.std.proofs.Math.Nat.{mul-add, mul-one, mul-zero, zero-add}
 use Rattle.std.proofs.lemmas.List.{length-append}
 use Rattle.ell_parts.specs.PartedOps.{PartedOps, part}
-use Rattle.ell_cards.specs.Models.{TablePlan}
+use Rattle.ell_runs.specs.Plans.{TablePlan}
 use Rattle.ell_tree.specs.PassParts.{later_reading}
 use Rattle.ell_tree.specs.declared.operations.NotDone.{NotDone}
 use Rattle.ell_tree.specs.declared.operations.NotDone.TheVariants.{Busy, Spent}

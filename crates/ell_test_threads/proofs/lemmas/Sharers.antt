@@ -4,7 +4,7 @@ use Rattle.ell_ops.specs.declared.op.Op.{Op}
 use Rattle.ell_ops.specs.declared.reply.Reply.{Reply}
 use Rattle.ell_ops.specs.KeySet.{set_of}
 use Rattle.ell_ops.specs.Meaning.{greatest_key}
-use Rattle.ell_cards.specs.declared.view.Slots.{Slots}
+use Rattle.ell_runs.specs.declared.view.Slots.{Slots}
 use Rattle.ell_core.specs.state.Machine.{shared_of}
 use Rattle.ell_core.specs.state.Machine.{WorkerView}
 use Rattle.ell_tree.proofs.lemmas.Removing.{that_or_other}

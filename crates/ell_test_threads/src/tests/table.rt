@@ -1,7 +1,7 @@
 //! Safe numbers of a table of cards.
 ghost use Rattle.std.specs.Prelude.{◌≡◌, ◌≤◌};
-ghost use Rattle.ell_cards.specs.Models.{IsFree};
-ghost use Rattle.ell_cards.specs.Starts.{most_places};
+ghost use Rattle.ell_runs.specs.Views.{IsFree};
+ghost use Rattle.ell_runs.specs.Starts.{most_places};
 
 use ell_cards::{CardTable, FixedMemory, NoGate, Pass, TreeKind};
 use std::alloc::Global;

@@ -1,16 +1,14 @@
 use Rattle.std.proofs.Common.{◌++◌, Option, Some, [], refl, sym, ap, subst}
 use Rattle.ell_ops.specs.declared.op.Op.{Op}
-use Rattle.ell_cards.specs.declared.view.Slots.{Slots}
-use Rattle.ell_cards.specs.declared.view.View.{View}
-use Rattle.ell_cards.specs.Models.{BeginsBy, EndsBy, PassModel, Steps, Does, latest}
-use Rattle.ell_cards.specs.Changes.{after_begin, after_again, after_leave, in_the_way, tries_hindered}
-use Rattle.ell_cards.specs.Seeing.{SeesBegin}
+use Rattle.ell_runs.specs.declared.view.Slots.{Slots}
+use Rattle.ell_runs.specs.declared.view.View.{View}
+use Rattle.ell_cards.specs.Models.{BeginsBy, EndsBy, PassModel, Steps}
+use Rattle.ell_runs.specs.Views.{Does, latest}
+use Rattle.ell_runs.specs.Changes.{after_begin, after_again, after_leave, in_the_way, tries_hindered}
+use Rattle.ell_runs.specs.Seeing.{SeesBegin}
 use Rattle.ell_tree.specs.Hindrances.{way_of}
-use Rattle.ell_tree.specs.Searches.{AtRoot}
 use Rattle.ell_tree.specs.Tries.{Begins, Lays}
-use Rattle.ell_tree.proofs.lemmas.Counts.{took_none, took_one}
-use Rattle.ell_tree.proofs.lemmas.Meeting.{root_way}
-use Rattle.ell_tree.proofs.lemmas.Hindrances.{root_hindered}
+use Rattle.ell_tree.proofs.lemmas.Counts.{took_one}
 
 -- an operation that was taken in hand stands at the root
 pub begins : (slots : Option Slots) (old new : PassModel) (op : Op) → BeginsBy slots old new (after_begin (Some op) old.view) → SeesBegin op old.sight new.sight

@@ -1,9 +1,9 @@
-use Rattle.std.proofs.Common.{◌≡◌, ℕ, Option, Some, None, IfSome}
+use Rattle.std.proofs.Common.{ℕ, Option, Some, None, IfSome}
 use Rattle.ell_ops.specs.declared.op.Op.{Op}
 use Rattle.ell_ops.specs.declared.op.Op.TheVariants.{Find, Insert, Delete, Swap}
 use Rattle.ell_ops.specs.declared.reply.Reply.{Reply}
-use Rattle.ell_cards.specs.declared.view.View.{View}
-use Rattle.ell_cards.specs.Guards.{TakesBy}
+use Rattle.ell_runs.specs.declared.view.View.{View}
+use Rattle.ell_runs.specs.Guards.{TakesBy}
 use Rattle.ell_tree.specs.Called.{ByItsTake}
 
 -- what is so of what an operation took, and what follows from it

@@ -5,23 +5,20 @@ use Rattle.ell_tree.specs.Tries.{IsChange}
 use Rattle.std.proofs.lemmas.Bool.{false≢true}
 use Rattle.ell_ops.specs.Meaning.{key_of, reply_of}
 use Rattle.ell_core.specs.declared.exchange.Exchange.{Exchange}
-use Rattle.ell_core.specs.declared.fact.Fact.{Fact}
 use Rattle.ell_core.specs.declared.view.Entry.{Entry}
 use Rattle.ell_core.specs.state.Machine.{ledger_of}
 use Rattle.ell_core.specs.statements.Effects.{contents_in, reply_of_change}
-use Rattle.ell_cards.specs.declared.view.View.{View}
-use Rattle.ell_cards.specs.Seeing.{SeesEnd}
+use Rattle.ell_runs.specs.declared.view.View.{View}
+use Rattle.ell_runs.specs.Seeing.{SeesEnd}
 use Rattle.ell_cards.specs.Models.{PassModel, Steps}
-use Rattle.ell_cards.specs.Changes.{with_fact, if_won, exchanged}
+use Rattle.ell_runs.specs.Changes.{if_won}
 use Rattle.ell_tree.specs.declared.operations.NotDone.{NotDone}
 use Rattle.ell_tree.specs.declared.trying.Tried.TheVariants.{Answered}
 use Rattle.ell_tree.specs.CardsTaken.{claims_in, cards_taken, TakesNoCard, TakesAtMost, TakesCards, TakesOneIf, TryTakes}
-use Rattle.ell_cards.specs.Contention.{is_claim}
+use Rattle.ell_runs.specs.Contention.{is_claim}
 use Rattle.ell_tree.specs.Ends.{AnswersAs, changes_by, reply_by}
 use Rattle.ell_tree.specs.Ledgers.{Owns, TreeModel, present_in}
 use Rattle.ell_tree.proofs.lemmas.Owning.{still_owned}
-use Rattle.ell_tree.specs.Keeping.{KeepsAll}
-use Rattle.ell_tree.proofs.lemmas.Keeping.{keeps_all_step, learning_keeps}
 
 -- one claim more, or none
 one_more : (b : Bool) (m n : ℕ) → (if b then m + n + 1 else m + n) ≡ (if b then m + 1 else m) + n

@@ -7,25 +7,27 @@ use Rattle.ell_core.specs.declared.fact.Fact.{Fact}
 use Rattle.ell_core.specs.declared.view.Search.{Search}
 use Rattle.ell_core.specs.state.Facts.{known_of}
 use Rattle.ell_core.proofs.lemmas.outcomes.Decide.{some_not_none}
-use Rattle.ell_cards.specs.declared.view.Hindrance.{Hindrance}
-use Rattle.ell_cards.specs.declared.view.Hindrance.TheVariants.{Claim}
-use Rattle.ell_cards.specs.declared.view.Slots.{Slots}
-use Rattle.ell_cards.specs.declared.view.View.{View}
-use Rattle.ell_cards.specs.Models.{TablePlan, PassModel, Steps, flat_from, new_node, latest, earlier, Does}
-use Rattle.ell_cards.specs.Changes.{expected_tag, filling_for, filling_of, tag_of_claim, value_told}
-use Rattle.ell_cards.specs.Guards.{MayClaim, MayFill, Wants}
+use Rattle.ell_runs.specs.declared.view.Hindrance.{Hindrance}
+use Rattle.ell_runs.specs.declared.view.Hindrance.TheVariants.{Claim}
+use Rattle.ell_runs.specs.declared.view.Slots.{Slots}
+use Rattle.ell_runs.specs.declared.view.View.{View}
+use Rattle.ell_runs.specs.Plans.{TablePlan, flat_from, new_node}
+use Rattle.ell_cards.specs.Models.{PassModel, Steps}
+use Rattle.ell_runs.specs.Views.{latest, earlier, Does}
+use Rattle.ell_runs.specs.Changes.{expected_tag, filling_for, filling_of, tag_of_claim, value_told}
+use Rattle.ell_runs.specs.Guards.{MayClaim, MayFill, Wants}
 use Rattle.ell_cards.specs.Periods.{most_claims}
 use Rattle.ell_cards.specs.Shown.{cut_planned}
 use Rattle.ell_cards.specs.Skipping.{after_claimed_row, after_row, IsAfterRow, IsFresh}
-use Rattle.ell_cards.specs.Stepping.{LetsGo, MayInTable}
-use Rattle.ell_cards.specs.declared.call.Call.TheVariants as call
-use Rattle.ell_cards.specs.declared.call.NewNode.{NewNode}
-use Rattle.ell_cards.proofs.lemmas.views.Afters.{after_next}
+use Rattle.ell_cards.specs.Stepping.{MayInTable}
+use Rattle.ell_runs.specs.declared.call.Call.TheVariants as call
+use Rattle.ell_runs.specs.declared.call.NewNode.{NewNode}
+use Rattle.ell_runs.proofs.lemmas.views.Afters.{after_next}
 use Rattle.ell_cards.proofs.lemmas.views.Rows.{rows_keep, wants_same}
 use Rattle.ell_cards.proofs.lemmas.views.Searches.{may_claim}
 use Rattle.ell_cards.proofs.lemmas.views.Steps.{view_after}
 use Rattle.ell_cards.proofs.lemmas.whole.Skipping.{from_some}
-use Rattle.ell_cards.proofs.lemmas.words.Updates.{clean_word}
+use Rattle.ell_runs.proofs.lemmas.words.Updates.{clean_word}
 use Rattle.ell_tree.specs.declared.searching.Place.{Place}
 use Rattle.ell_tree.specs.declared.trying.Claimed.{Claimed}
 use Rattle.ell_tree.specs.declared.trying.Claimed.TheVariants as claimed

@@ -11,11 +11,10 @@ use Rattle.ell_layout.specs.Words.{words_of, IsLeaf}
 use Rattle.ell_core.specs.tree.Tree.{IsTreeKey, ListsTreePairs}
 use Rattle.ell_core.specs.tree.Room.{HoldsKeys}
 use Rattle.ell_core.proofs.lemmas.tree.Pairs.{Contains-from_list_any}
-use Rattle.ell_cards.specs.declared.view.View.{View}
-use Rattle.ell_cards.specs.Models.{PassModel, IsFree, whole_share}
-use Rattle.ell_cards.specs.Changing.{HasMap}
-use Rattle.ell_cards.proofs.lemmas.runs.LinearizingStates.{one_map}
-use Rattle.ell_cards.specs.Changes.{ledger_keys}
+use Rattle.ell_cards.specs.Models.{PassModel}
+use Rattle.ell_runs.specs.Changing.{HasMap}
+use Rattle.ell_runs.proofs.lemmas.runs.LinearizingStates.{one_map}
+use Rattle.ell_runs.specs.Changes.{ledger_keys}
 use Rattle.std.specs.Map.{keys_of as pair_keys, values_of}
 use Rattle.ell_ops.specs.Contents.{contents_of}
 use Rattle.ell_ops.specs.KeySet.{set_of}
@@ -23,13 +22,13 @@ use Rattle.ell_ops.proofs.lemmas.Pairs.{contents_at}
 use Rattle.ell_core.specs.declared.view.Entry.TheVariants.{Present}
 use Rattle.ell_core.proofs.lemmas.tree.Pairs.{Contains-first, Contains-later}
 use Rattle.ell_cards.specs.Closed.{ClosedModel, EndsHistory, HistoryEnds, TableEnds}
-use Rattle.ell_cards.proofs.lemmas.words.Keys.{owned_among}
+use Rattle.ell_runs.proofs.lemmas.words.Keys.{owned_among}
 use Rattle.ell_tree.specs.Ledgers.{TreeModel, ledger, present_in}
 use Rattle.ell_tree.specs.Closing.{ClosesTo}
 use Rattle.ell_tree.proofs.lemmas.PassParts.{there_same}
 use Rattle.std.proofs.lemmas.Bool.{cases_eq, false≢true}
 use Rattle.ell_word.specs.Node.{card, IsNode}
-use Rattle.ell_cards.specs.Starts.{IsSharedIn}
+use Rattle.ell_runs.specs.Starts.{IsSharedIn}
 
 -- ascending keys that are all among others are no more than those
 no_longer : (keys others : List ℕ) → IsStrictlyIncreasing keys → ((k : ℕ) → Contains keys k → Contains others k) → length keys ≤ length others

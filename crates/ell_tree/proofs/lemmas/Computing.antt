@@ -1,5 +1,4 @@
-use Rattle.std.proofs.Common.{◌≡◌, ◌≢◌, ℕ, true, false, not, Ok, Option, Some, None, is_some, inl, inr, refl, sym, ap, subst, ◌∙◌, arith, List, [], ◌∷◌, ◌++◌, length}
-use Rattle.std.proofs.lemmas.List.{append_assoc}
+use Rattle.std.proofs.Common.{◌≡◌, ◌≢◌, ℕ, true, false, not, Ok, Option, Some, None, is_some, inl, inr, refl, sym, ap, subst, ◌∙◌, arith, List, length}
 use Rattle.std.proofs.lemmas.Bool.{ne_eqb, eq-eqb, eqb-true, false≢true}
 use Rattle.std.proofs.Common.{eqb}
 use Rattle.std.specs.Option.{option_eq}
@@ -13,10 +12,10 @@ use Rattle.ell_core.specs.state.Machine.{ledger_of, shared_of}
 use Rattle.ell_core.specs.statements.Effects.{contents_in, reply_of_change}
 use Rattle.ell_core.proofs.lemmas.outcomes.Decide.{cases_option, some_not_none}
 use Rattle.ell_core.proofs.lemmas.following.AnswerMeaning.{key_kept, swap_lacked, swap_other}
-use Rattle.ell_cards.specs.declared.view.Act.{Act}
+use Rattle.ell_runs.specs.declared.view.Act.{Act}
 use Rattle.ell_cards.specs.Models.{PassModel, ledger}
-use Rattle.ell_cards.specs.Seeing.{HasSeenMore, SeesCall}
-use Rattle.ell_cards.specs.Stepping.{SameShare}
+use Rattle.ell_runs.specs.Seeing.{HasSeenMore, SeesCall}
+use Rattle.ell_runs.specs.Views.{SameShare}
 use Rattle.ell_tree.specs.Ledgers.{TreeModel, present_in, Owns, IsIdle}
 use Rattle.ell_tree.specs.Ends.{Answers, LaidDown}
 use Rattle.ell_tree.specs.Called.{SeesLast, SeesPut, SeesRead, SeesUpdate, put_by}

@@ -1,9 +1,10 @@
 use Rattle.std.proofs.Math.Nat.{mul-le-mul_right}
 use Rattle.std.proofs.Common.{◌≡◌, Option, None, ℕ, ◌+◌, ◌*◌, ◌≤◌, ◌<◌, zero, suc, refl, sym, ap, ap₂, ◌∙◌, ◌-◌, arith}
-use Rattle.ell_cards.specs.declared.view.Slots.{Slots}
-use Rattle.ell_cards.specs.declared.view.View.{View}
-use Rattle.ell_cards.specs.LookPlaces.{SeesInLook}
-use Rattle.ell_cards.specs.Models.{TablePlan, PassModel, Counts, LooksBy, Sees, one_more, some_more}
+use Rattle.ell_runs.specs.declared.view.Slots.{Slots}
+use Rattle.ell_runs.specs.declared.view.View.{View}
+use Rattle.ell_cards.specs.Models.{SeesInLook}
+use Rattle.ell_runs.specs.Plans.{TablePlan}
+use Rattle.ell_cards.specs.Models.{PassModel, Counts, LooksBy, Sees, one_more, some_more}
 use Rattle.ell_tree.specs.Counts.{CountsAll, HasUncounted, Took, TookIn}
 
 -- no steps

@@ -9,18 +9,20 @@ use Rattle.ell_layout.specs.Words.{IsLeaf}
 use Rattle.ell_core.specs.statements.Readers.{from_of, upto_of}
 use Rattle.ell_core.proofs.lemmas.following.Stretches.{upto_real}
 use Rattle.ell_core.proofs.lemmas.runs.Stretches.{key_from, key_upto}
-use Rattle.ell_cards.specs.declared.glance.Glance.{Glance}
-use Rattle.ell_cards.specs.declared.glance.Stretch.{Stretch}
-use Rattle.ell_cards.specs.declared.view.Told.TheVariants.{Met, Key, Value}
-use Rattle.ell_cards.specs.declared.view.View.{View}
-use Rattle.ell_cards.proofs.lemmas.views.Afters.{after_look, after_look_down, after_key_of, after_value_of}
-use Rattle.ell_cards.specs.Guards.{MayLookDown, TellsOf}
-use Rattle.ell_cards.specs.Looking.{HasFound, HasFoundBetween, TellsBetween, ReadsItsOwn, MissesItsOwn}
-use Rattle.ell_cards.specs.declared.view.Slots.{Slots}
-use Rattle.ell_cards.specs.Models.{PassModel, Counts, Sees, Has, HasCome, HasComeWhole, latest, earlier, IsTold, InTable, LooksBy}
+use Rattle.ell_runs.specs.declared.glance.Glance.{Glance}
+use Rattle.ell_runs.specs.declared.glance.Stretch.{Stretch}
+use Rattle.ell_runs.specs.declared.view.Told.TheVariants.{Met, Key, Value}
+use Rattle.ell_runs.specs.declared.view.View.{View}
+use Rattle.ell_runs.proofs.lemmas.views.Afters.{after_look, after_look_down, after_key_of, after_value_of}
+use Rattle.ell_runs.specs.Guards.{MayLookDown, TellsOf}
+use Rattle.ell_runs.specs.Looking.{HasFound, HasFoundBetween, TellsBetween, ReadsItsOwn, MissesItsOwn}
+use Rattle.ell_runs.specs.declared.view.Slots.{Slots}
+use Rattle.ell_cards.specs.Models.{PassModel, Counts, Sees, LooksBy}
+use Rattle.ell_runs.specs.Views.{Has, HasCome, HasComeWhole, latest, earlier, IsTold, InTable}
 use Rattle.ell_cards.proofs.lemmas.views.Steps.{view_seen}
-use Rattle.ell_cards.specs.LookPlaces.{SawLookBegin, SeesInLook, SeesMoreInLook}
-use Rattle.ell_cards.specs.Seeing.{SeesLook}
+use Rattle.ell_runs.specs.LookPlaces.{SawLookBegin, SeesMoreInLook}
+use Rattle.ell_cards.specs.Models.{SeesInLook}
+use Rattle.ell_runs.specs.Seeing.{SeesLook}
 use Rattle.ell_tree.proofs.lemmas.LookPlaces.{in_look_none, in_look_trans, saw_begin}
 use Rattle.ell_tree.specs.Counts.{HasUncounted}
 use Rattle.ell_tree.proofs.lemmas.Counts.{look_uncounted}
@@ -31,9 +33,9 @@ use Rattle.ell_tree.specs.Ledgers.{present_in}
 use Rattle.ell_tree.specs.Looks.{stretch_steps}
 use Rattle.ell_tree.specs.Scans.{TellsItsOwn, value_there}
 use Rattle.ell_tree.proofs.lemmas.Looks.{come_part, whole_part, reads_mine, misses_mine, only_trans, only_none_yet, look_only, down_only, key_only, value_only, key_tells, value_tells, only_counted, view_looked}
-use Rattle.ell_cards.specs.Changes.{forgotten}
-use Rattle.ell_cards.specs.Depths.{depth_of, IsShallow}
-use Rattle.ell_cards.proofs.lemmas.views.Depths.{depth_more, met_more, went_deeper}
+use Rattle.ell_runs.specs.Changes.{forgotten}
+use Rattle.ell_runs.specs.Depths.{depth_of, IsShallow}
+use Rattle.ell_runs.proofs.lemmas.views.Depths.{depth_more, met_more, went_deeper}
 
 -- a look that goes on, and on
 pub on_trans : (a b c : PassModel) (m n k : ℕ) → KeepsLooking a b m → KeepsLooking b c n → m + n ≤ k → KeepsLooking a c k

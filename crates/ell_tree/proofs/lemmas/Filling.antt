@@ -10,17 +10,17 @@ use Rattle.ell_core.specs.declared.view.Search.{Search}
 use Rattle.ell_core.specs.declared.view.Seen.{Seen}
 use Rattle.ell_core.specs.declared.put.Put.{Put}
 use Rattle.ell_core.specs.acts.Searching.{put_of}
-use Rattle.ell_cards.proofs.lemmas.stepping.Claiming.{put_filling}
+use Rattle.ell_runs.proofs.lemmas.stepping.Claiming.{put_filling}
 use Rattle.ell_layout.specs.Words.{IsLeaf}
 use Rattle.ell_layout.specs.Cards as layout
 use Rattle.ell_layout.specs.Cards.{delete_filling}
-use Rattle.ell_cards.specs.declared.view.Told.TheVariants.{Met, Info}
-use Rattle.ell_cards.specs.declared.view.View.{View}
-use Rattle.ell_cards.specs.Models.{latest, earlier, Does, IsTold, Knows}
-use Rattle.ell_cards.specs.Changes.{expected_tag, tag_of_claim, value_told, filling_for, filling_of}
-use Rattle.ell_cards.specs.Guards.{Wants}
-use Rattle.ell_cards.proofs.lemmas.words.Updates.{clean_word}
-use Rattle.ell_cards.proofs.lemmas.views.Searches.{filling_at}
+use Rattle.ell_runs.specs.declared.view.Told.TheVariants.{Met, Info}
+use Rattle.ell_runs.specs.declared.view.View.{View}
+use Rattle.ell_runs.specs.Views.{latest, earlier, Does, IsTold, Knows}
+use Rattle.ell_runs.specs.Changes.{expected_tag, tag_of_claim, value_told, filling_for, filling_of}
+use Rattle.ell_runs.specs.Guards.{Wants}
+use Rattle.ell_runs.proofs.lemmas.words.Updates.{clean_word}
+use Rattle.ell_runs.proofs.lemmas.views.SeenNodes.{filling_at}
 use Rattle.ell_tree.specs.declared.searching.Passed.{Passed}
 use Rattle.ell_tree.specs.declared.searching.Place.{Place}
 use Rattle.ell_tree.specs.Keeping.{LosesNothing, IsInnerMet}
@@ -28,7 +28,7 @@ use Rattle.ell_tree.specs.Searches.{seen, seen_any, node_with, IsAt}
 use Rattle.ell_tree.specs.Helps.{IsInsert, IsParent}
 use Rattle.ell_tree.specs.Tries.{HasCard}
 use Rattle.ell_tree.proofs.lemmas.Keeping.{inner_kept}
-use Rattle.ell_cards.specs.declared.call.NewNode.{NewNode}
+use Rattle.ell_runs.specs.declared.call.NewNode.{NewNode}
 
 -- what fills a card, by a search that stands at a place
 filling_there : (c : ℕ) (node : NewNode) (op : Op) (v : View) (place : Place) → Does v op → IsAt v place

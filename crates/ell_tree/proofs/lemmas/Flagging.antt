@@ -7,19 +7,19 @@ use Rattle.ell_word.specs.Word.{packed}
 use Rattle.ell_core.specs.declared.fact.Fact.{Fact}
 use Rattle.ell_layout.specs.declared.field.Field.{Field}
 use Rattle.ell_layout.specs.Cards.{delete_filling}
-use Rattle.ell_cards.specs.declared.view.Told.TheVariants.{Met}
-use Rattle.ell_cards.specs.declared.view.Hindrance.TheVariants.{Found}
-use Rattle.ell_cards.specs.declared.view.View.{View}
+use Rattle.ell_runs.specs.declared.view.Told.TheVariants.{Met}
+use Rattle.ell_runs.specs.declared.view.Hindrance.TheVariants.{Found}
+use Rattle.ell_runs.specs.declared.view.View.{View}
 use Rattle.ell_cards.specs.Models.{PassModel, Steps}
-use Rattle.ell_cards.specs.Changes.{after_flag, if_won, exchanged, found_word, found_update, with_stores}
-use Rattle.ell_cards.specs.Guards.{MayFill, MayIFlag, MayDFlag}
-use Rattle.ell_cards.proofs.lemmas.views.Facts.{knows_new, knows_more, facts_by_more}
-use Rattle.ell_cards.proofs.lemmas.views.Entries.{places_more}
+use Rattle.ell_runs.specs.Changes.{after_flag, if_won, exchanged, found_word, found_update, with_stores}
+use Rattle.ell_runs.specs.Guards.{MayFill, MayIFlag, MayDFlag}
+use Rattle.ell_runs.proofs.lemmas.views.Facts.{knows_new, knows_more, facts_by_more}
+use Rattle.ell_runs.proofs.lemmas.views.Entries.{places_more}
 use Rattle.ell_cards.proofs.lemmas.views.Steps.{view_after}
 use Rattle.ell_tree.specs.declared.searching.Passed.{Passed}
 use Rattle.ell_tree.specs.declared.searching.Place.{Place}
 use Rattle.ell_tree.specs.CardsTaken.{claims_in, TakesNoCard}
-use Rattle.ell_cards.specs.Contention.{is_claim}
+use Rattle.ell_runs.specs.Contention.{is_claim}
 use Rattle.ell_tree.specs.Counts.{Took}
 use Rattle.ell_tree.specs.Keeping.{LosesNothing, Keeps, IsInnerMet}
 use Rattle.ell_tree.specs.Searches.{seen, seen_any}
@@ -27,7 +27,7 @@ use Rattle.ell_tree.specs.Tries.{HasCard, HasCardToPut, Fills, Flags, IsFlagged,
 use Rattle.ell_tree.proofs.lemmas.Counts.{took_one, took_trans}
 use Rattle.ell_tree.proofs.lemmas.Keeping.{place_told}
 use Rattle.ell_tree.proofs.lemmas.CardsTaken.{no_claims}
-use Rattle.ell_cards.specs.declared.call.NewNode.{NewNode}
+use Rattle.ell_runs.specs.declared.call.NewNode.{NewNode}
 
 -- a card that is filled is in hand, not flagged, as before
 may_fill_still : (a b : PassModel) (n c : ℕ) → Fills a b n → MayFill a.view c → MayFill b.view c

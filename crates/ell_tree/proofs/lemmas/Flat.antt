@@ -2,8 +2,8 @@ use Rattle.std.proofs.Common.{◌≡◌, ℕ, ◌≤◌, ◌+◌, [], true, leng
 use Rattle.ell_word.specs.Node.{most_start}
 use Rattle.ell_layout.specs.Branches.{greatest_depth}
 use Rattle.ell_layout.proofs.lemmas.Depths.{greatest_depth_is_small}
-use Rattle.ell_cards.specs.Depths.{deepest}
-use Rattle.ell_cards.specs.Models.{TablePlan}
+use Rattle.ell_runs.specs.Depths.{deepest}
+use Rattle.ell_runs.specs.Plans.{TablePlan}
 use Rattle.ell_tree.specs.Flat.{IsFlatBound}
 
 -- how deep a flat tree may be

@@ -3,14 +3,15 @@ use Rattle.std.proofs.lemmas.List.{append_cancel_right}
 use Rattle.ell_ops.specs.declared.op.Op.{Op}
 use Rattle.ell_word.specs.declared.update.State.{State}
 use Rattle.ell_word.specs.declared.update.State.TheVariants as state
-use Rattle.ell_cards.specs.declared.view.Hindrance.{Hindrance}
-use Rattle.ell_cards.specs.declared.view.Hindrance.TheVariants.{Claim, Found}
-use Rattle.ell_cards.specs.declared.view.View.{View}
-use Rattle.ell_cards.specs.Models.{PassModel, Does}
-use Rattle.ell_cards.specs.Changes.{is_over, in_the_way, update_over, was_hindered, tries_hindered}
-use Rattle.ell_cards.proofs.lemmas.runs.InHand.{met_in_try}
+use Rattle.ell_runs.specs.declared.view.Hindrance.{Hindrance}
+use Rattle.ell_runs.specs.declared.view.Hindrance.TheVariants.{Claim, Found}
+use Rattle.ell_runs.specs.declared.view.View.{View}
+use Rattle.ell_cards.specs.Models.{PassModel}
+use Rattle.ell_runs.specs.Views.{Does}
+use Rattle.ell_runs.specs.Changes.{is_over, in_the_way, update_over, was_hindered, tries_hindered}
+use Rattle.ell_runs.proofs.lemmas.runs.InHand.{met_in_try}
 use Rattle.std.specs.List.{list_all}
-use Rattle.ell_cards.proofs.lemmas.views.Facts.{ended_test}
+use Rattle.ell_runs.proofs.lemmas.views.Facts.{ended_test}
 use Rattle.ell_tree.specs.Hindrances.{IsEnded, AreOver, way_of}
 use Rattle.ell_tree.specs.Searches.{AtRoot}
 use Rattle.ell_tree.specs.Tries.{Halts}

@@ -8,18 +8,20 @@ use Rattle.ell_core.specs.declared.fact.Fact.TheVariants as fact
 use Rattle.ell_layout.specs.declared.field.Field.{Field}
 use Rattle.ell_layout.specs.declared.field.Field.TheVariants as field
 use Rattle.ell_core.specs.state.Facts.{known_of}
-use Rattle.ell_cards.specs.declared.view.Told.{Told}
-use Rattle.ell_cards.specs.declared.view.Told.TheVariants.{Met, Info}
-use Rattle.ell_cards.specs.declared.view.View.{View}
-use Rattle.ell_cards.specs.Models.{TablePlan, PassModel, Counts, Sees, Steps, some_more, Has, latest, earlier, IsTold, Knows}
-use Rattle.ell_cards.specs.Depths.{depth_of}
+use Rattle.ell_runs.specs.declared.view.Told.{Told}
+use Rattle.ell_runs.specs.declared.view.Told.TheVariants.{Met, Info}
+use Rattle.ell_runs.specs.declared.view.View.{View}
+use Rattle.ell_runs.specs.Plans.{TablePlan}
+use Rattle.ell_cards.specs.Models.{PassModel, Counts, Sees, Steps, some_more}
+use Rattle.ell_runs.specs.Views.{Has, latest, earlier, IsTold, Knows}
+use Rattle.ell_runs.specs.Depths.{depth_of}
 use Rattle.ell_word.specs.Link.{link_in}
-use Rattle.ell_cards.specs.Changes.{depth_there, facts_by, places_by, with_fact, exchanged, after_upd}
-use Rattle.ell_cards.proofs.lemmas.views.Afters.{after_down, after_key_of, after_value_of, after_info, after_frozen_child, after_next}
-use Rattle.ell_cards.proofs.lemmas.views.Facts.{knows_new, knows_more, facts_by_more}
-use Rattle.ell_cards.proofs.lemmas.views.Depths.{met_more}
-use Rattle.ell_cards.proofs.lemmas.views.Entries.{places_more, info_more}
-use Rattle.ell_cards.specs.Stepping.{SameShare}
+use Rattle.ell_runs.specs.Changes.{depth_there, facts_by, places_by, with_fact, exchanged, after_upd}
+use Rattle.ell_runs.proofs.lemmas.views.Afters.{after_down, after_key_of, after_value_of, after_info, after_frozen_child, after_next}
+use Rattle.ell_runs.proofs.lemmas.views.Facts.{knows_new, knows_more, facts_by_more}
+use Rattle.ell_runs.proofs.lemmas.views.Depths.{met_more}
+use Rattle.ell_runs.proofs.lemmas.views.Entries.{places_more, info_more}
+use Rattle.ell_runs.specs.Views.{SameShare}
 use Rattle.ell_tree.proofs.lemmas.Counts.{took_none, took_one, took_unseen, took_counted, took_within, took_trans, took_in, took_in_trans}
 use Rattle.ell_tree.specs.Counts.{HasUncounted}
 use Rattle.ell_tree.specs.CardsTaken.{claims_in}

@@ -1,9 +1,10 @@
 use Rattle.std.proofs.Common.{◌≡◌, ℕ, true, false, true≢false, Some, None, inl, inr, sym, ◌∙◌, subst}
 use Rattle.std.proofs.lemmas.Option.{same_Some}
 use Rattle.ell_core.proofs.lemmas.outcomes.Decide.{some_not_none}
-use Rattle.ell_cards.specs.declared.view.Slots.{Slots}
+use Rattle.ell_runs.specs.declared.view.Slots.{Slots}
 use Rattle.ell_cards.specs.LettingGo.{IsRetired}
-use Rattle.ell_cards.specs.Models.{TablePlan, PassModel}
+use Rattle.ell_runs.specs.Plans.{TablePlan}
+use Rattle.ell_cards.specs.Models.{PassModel}
 use Rattle.ell_cards.specs.Stepping.{LetsGo}
 use Rattle.ell_tree.specs.Tries.{HasSlotOf, HoldsAside}
 

@@ -3,8 +3,8 @@ use Rattle.ell_word.specs.declared.link.Link.{Link}
 use Rattle.ell_word.specs.Link.{IsLink, greatest_tag, linked, link_in, node_bound, tag_unit}
 use Rattle.ell_word.proofs.Numbers.{link_back, node_back}
 use Rattle.ell_cards.specs.Apart.{NamesLowBits}
-use Rattle.ell_cards.specs.Models.{StandsAt}
-use Rattle.ell_cards.specs.declared.view.View.{View}
+use Rattle.ell_runs.specs.Views.{StandsAt}
+use Rattle.ell_runs.specs.declared.view.View.{View}
 use Rattle.ell_tree.specs.declared.searching.Place.{Place}
 use Rattle.ell_tree.specs.Searches.{node_with, seen}
 

@@ -1,19 +1,17 @@
 -- What a pass sees of the history in a look.
-use Rattle.std.proofs.Common.{◌≡◌, ℕ, ◌<◌, ◌≤◌, ◌+◌, Option, Some, None, List, [], ◌∷◌, ◌++◌, length, refl, sym, ap, ◌∙◌, subst, arith, append-nil}
-use mathlib.Core.Option.{some}
+use Rattle.std.proofs.Common.{ℕ, ◌<◌, ◌+◌, Option, Some, None, List, [], ◌∷◌, length, refl, sym, ap, ◌∙◌, subst, arith, append-nil}
 use lib.ListN.{get_elem?}
 use Rattle.ell_ops.specs.Contents.{Contents, contents_of}
-use Rattle.ell_cards.specs.declared.view.Event.{Event}
-use Rattle.ell_cards.specs.declared.view.Event.TheVariants.{Looks}
-use Rattle.ell_cards.specs.declared.view.Sight.{Sight}
-use Rattle.ell_cards.specs.declared.view.View.{View}
-use Rattle.ell_cards.specs.Linearizing.{Item}
-use Rattle.ell_cards.specs.LookPlaces.{FindsHavePlaces, SawLookBegin, SeesEachFound, SeesLookSo, SeesMoreInLook}
-use Rattle.ell_cards.specs.Looking.{HasFound, HasFoundBetween}
-use Rattle.ell_cards.specs.Models.{Counts, PassModel, TablePlan, flat_from}
-use Rattle.ell_cards.specs.Seeing.{HasSeenMore, LookedAt, SeesLook}
-use Rattle.ell_cards.specs.Sights.{IsPart}
-use Rattle.ell_cards.proofs.lemmas.runs.LinearizingAnswers.{behind}
+use Rattle.ell_runs.specs.declared.view.Event.{Event}
+use Rattle.ell_runs.specs.declared.view.Event.TheVariants.{Looks}
+use Rattle.ell_runs.specs.declared.view.Sight.{Sight}
+use Rattle.ell_runs.specs.Linearizing.{Item}
+use Rattle.ell_runs.specs.LookPlaces.{FindsHavePlaces, SawLookBegin, SeesEachFound, SeesLookSo, SeesMoreInLook}
+use Rattle.ell_runs.specs.Looking.{HasFound, HasFoundBetween}
+use Rattle.ell_cards.specs.Models.{Counts, PassModel}
+use Rattle.ell_runs.specs.Plans.{TablePlan, flat_from}
+use Rattle.ell_runs.specs.Seeing.{HasSeenMore, SeesLook}
+use Rattle.ell_runs.proofs.lemmas.runs.LinearizingAnswers.{behind}
 use Rattle.ell_cards.proofs.lemmas.whole.Seeing.{at_more}
 use Rattle.ell_tree.proofs.lemmas.Sights.{part_short, part_trans}
 use Rattle.ell_tree.specs.LookPlaces.{SeesAround, SeesLast, SeesNext, SeesScan, SeesThere, StandsAmong}

@@ -5,16 +5,18 @@ use Rattle.ell_word.specs.Node.{IsInternal}
 use Rattle.std.proofs.lemmas.Bool.{false≢true}
 use Rattle.ell_block.specs.Blocks.{InBlockOf}
 use Rattle.ell_layout.specs.Words.{IsLeaf, has_block}
-use Rattle.ell_cards.specs.declared.view.Told.{Told}
-use Rattle.ell_cards.specs.declared.view.Told.TheVariants.{Met, Key, Value}
-use Rattle.ell_cards.specs.declared.glance.Glance.{Glance}
-use Rattle.ell_cards.specs.declared.glance.Stretch.{Stretch}
-use Rattle.ell_cards.specs.declared.view.View.{View}
-use Rattle.ell_cards.specs.declared.view.Slots.{Slots}
-use Rattle.ell_cards.specs.Models.{TablePlan, flat_from, PassModel, Counts, Sees, some_more, HasCome, HasComeWhole, latest, earlier, IsTold, InTable, LooksBy}
-use Rattle.ell_cards.proofs.lemmas.views.Afters.{after_look, after_look_down, after_key_of, after_value_of}
-use Rattle.ell_cards.specs.Guards.{GoOnBy, MayLookDown}
-use Rattle.ell_cards.specs.Looking.{HasFound, HasFoundBetween, ReadsItsOwn, MissesItsOwn, HasMissed}
+use Rattle.ell_runs.specs.declared.view.Told.{Told}
+use Rattle.ell_runs.specs.declared.view.Told.TheVariants.{Met, Key, Value}
+use Rattle.ell_runs.specs.declared.glance.Glance.{Glance}
+use Rattle.ell_runs.specs.declared.glance.Stretch.{Stretch}
+use Rattle.ell_runs.specs.declared.view.View.{View}
+use Rattle.ell_runs.specs.declared.view.Slots.{Slots}
+use Rattle.ell_runs.specs.Plans.{TablePlan, flat_from}
+use Rattle.ell_cards.specs.Models.{PassModel, Counts, Sees, some_more, LooksBy}
+use Rattle.ell_runs.specs.Views.{HasCome, HasComeWhole, latest, earlier, IsTold, InTable}
+use Rattle.ell_runs.proofs.lemmas.views.Afters.{after_look, after_look_down, after_key_of, after_value_of}
+use Rattle.ell_runs.specs.Guards.{GoOnBy, MayLookDown}
+use Rattle.ell_runs.specs.Looking.{HasFound, HasFoundBetween, ReadsItsOwn, MissesItsOwn, HasMissed}
 use Rattle.ell_core.specs.state.Machine.{WorkerView}
 use Rattle.ell_core.specs.state.Machine.{ledger_of}
 use Rattle.ell_core.specs.statements.Effects.{contents_in}
@@ -22,14 +24,15 @@ use Rattle.ell_tree.specs.Counts.{HasUncounted}
 use Rattle.ell_tree.proofs.lemmas.Counts.{took_counted}
 use Rattle.ell_tree.specs.Ledgers.{Owns, present_in}
 use Rattle.ell_cards.proofs.lemmas.views.Steps.{view_seen}
-use Rattle.ell_cards.specs.declared.view.Sight.{Sight}
-use Rattle.ell_cards.specs.LookPlaces.{SawLookBegin, SeesInLook}
-use Rattle.ell_cards.specs.Seeing.{HasSeenMore, SeesLook}
+use Rattle.ell_runs.specs.declared.view.Sight.{Sight}
+use Rattle.ell_runs.specs.LookPlaces.{SawLookBegin}
+use Rattle.ell_cards.specs.Models.{SeesInLook}
+use Rattle.ell_runs.specs.Seeing.{HasSeenMore, SeesLook}
 use Rattle.ell_tree.proofs.lemmas.LookPlaces.{look_more, saw_begin, saw_on, seen_more_trans, seen_no_more}
 use Rattle.ell_tree.specs.Looks.{OnlyLooks, look_steps}
-use Rattle.ell_cards.specs.Changes.{forgotten}
-use Rattle.ell_cards.specs.Depths.{deepest, depth_of, IsShallow}
-use Rattle.ell_cards.proofs.lemmas.views.Depths.{depth_more, went_deeper}
+use Rattle.ell_runs.specs.Changes.{forgotten}
+use Rattle.ell_runs.specs.Depths.{deepest, depth_of, IsShallow}
+use Rattle.ell_runs.proofs.lemmas.views.Depths.{depth_more, went_deeper}
 
 pub only_trans : (a b c : PassModel) (m n k : ℕ) → OnlyLooks a b m → OnlyLooks b c n → m + n ≤ k → OnlyLooks a c k
 only_trans a b c m n k h h' le = record {

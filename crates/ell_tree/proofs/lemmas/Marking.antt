@@ -3,14 +3,15 @@ use Rattle.ell_word.specs.declared.update.Update.{Update}
 use Rattle.ell_word.specs.Word.{unpacked}
 use Rattle.ell_core.specs.declared.exchange.Exchange.TheVariants as exchange
 use Rattle.ell_core.specs.declared.fact.Fact.TheVariants as fact
-use Rattle.ell_cards.specs.declared.view.Told.TheVariants.{Met}
-use Rattle.ell_cards.specs.declared.view.Hindrance.{Hindrance}
-use Rattle.ell_cards.specs.declared.view.Hindrance.TheVariants.{Found}
-use Rattle.ell_cards.specs.declared.view.View.{View}
-use Rattle.ell_cards.specs.Models.{PassModel, Steps, Knows}
-use Rattle.ell_cards.specs.Changes.{with_fact, if_won, exchanged, found_word, found_update, is_mark_of, is_this, unmarking, after_mark}
-use Rattle.ell_cards.proofs.lemmas.views.Facts.{knows_new, knows_more, facts_by_more}
-use Rattle.ell_cards.proofs.lemmas.views.Entries.{places_more}
+use Rattle.ell_runs.specs.declared.view.Told.TheVariants.{Met}
+use Rattle.ell_runs.specs.declared.view.Hindrance.{Hindrance}
+use Rattle.ell_runs.specs.declared.view.Hindrance.TheVariants.{Found}
+use Rattle.ell_runs.specs.declared.view.View.{View}
+use Rattle.ell_cards.specs.Models.{PassModel, Steps}
+use Rattle.ell_runs.specs.Views.{Knows}
+use Rattle.ell_runs.specs.Changes.{with_fact, if_won, exchanged, found_word, found_update, is_mark_of, is_this, unmarking, after_mark}
+use Rattle.ell_runs.proofs.lemmas.views.Facts.{knows_new, knows_more, facts_by_more}
+use Rattle.ell_runs.proofs.lemmas.views.Entries.{places_more}
 use Rattle.ell_cards.proofs.lemmas.views.Steps.{view_after}
 use Rattle.ell_tree.specs.Keeping.{LosesNothing, KeepsAllButMet, IsInnerMet}
 use Rattle.ell_tree.specs.Helps.{IsLost, found_instead, met_by_mark}

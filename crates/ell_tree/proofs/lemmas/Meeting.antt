@@ -9,17 +9,17 @@ use Rattle.ell_core.specs.declared.fact.Fact.TheVariants as fact
 use Rattle.ell_core.specs.declared.put.Put.{Put}
 use Rattle.ell_core.specs.declared.view.Search.{Search}
 use Rattle.ell_core.specs.acts.Searching.{at_root, put_of}
-use Rattle.ell_cards.specs.declared.view.Hindrance.{Hindrance}
-use Rattle.ell_cards.specs.declared.view.Hindrance.TheVariants.{Claim, Found}
-use Rattle.ell_cards.specs.declared.view.View.{View}
-use Rattle.ell_cards.specs.Models.{Knows}
-use Rattle.ell_cards.specs.Changes.{in_the_way, first_in_way, read_in_way, unless_clean, is_this}
-use Rattle.ell_cards.proofs.lemmas.words.Updates.{card_again}
+use Rattle.ell_runs.specs.declared.view.Hindrance.{Hindrance}
+use Rattle.ell_runs.specs.declared.view.Hindrance.TheVariants.{Claim, Found}
+use Rattle.ell_runs.specs.declared.view.View.{View}
+use Rattle.ell_runs.specs.Views.{Knows}
+use Rattle.ell_runs.specs.Changes.{in_the_way, first_in_way, read_in_way, unless_clean, is_this}
+use Rattle.ell_runs.proofs.lemmas.words.Updates.{card_again}
 use Rattle.ell_tree.specs.declared.searching.Passed.{Passed}
 use Rattle.ell_tree.specs.Hindrances.{IsEnded, AreOver, StillKnows, Meets, MeetsUpTo, way_of}
 use Rattle.ell_tree.specs.Helps.{IsBacked, met_by_mark}
 use Rattle.ell_tree.specs.Searches.{seen, seen_any, below}
-use Rattle.ell_cards.specs.Dead.{KnowsDeleteEnded}
+use Rattle.ell_runs.specs.Dead.{KnowsDeleteEnded}
 
 -- what is over stays so
 pub delete_ended_still : (v w : View) (c : ℕ) → StillKnows v w → KnowsDeleteEnded v c → KnowsDeleteEnded w c

@@ -6,9 +6,11 @@ use Rattle.ell_word.specs.declared.update.State.TheVariants as state
 use Rattle.ell_core.specs.declared.fact.Fact.{Fact}
 use Rattle.ell_core.specs.declared.fact.Fact.TheVariants as fact
 use Rattle.ell_core.specs.state.Facts.{known_of, same_fact}
-use Rattle.ell_cards.specs.declared.view.View.{View}
-use Rattle.ell_cards.specs.Models.{TablePlan, PassModel, EndedBy, EndWasUnknown, Knows, knows_end}
-use Rattle.ell_cards.proofs.lemmas.views.Facts.{ended_test, test_ended}
+use Rattle.ell_runs.specs.declared.view.View.{View}
+use Rattle.ell_runs.specs.Plans.{TablePlan}
+use Rattle.ell_cards.specs.Models.{PassModel}
+use Rattle.ell_runs.specs.Views.{EndedBy, EndWasUnknown, Knows, knows_end}
+use Rattle.ell_runs.proofs.lemmas.views.Facts.{ended_test, test_ended}
 use Rattle.ell_tree.specs.Counts.{IsAmortized, TookIn}
 use Rattle.ell_tree.specs.Ends.{try_steps_in}
 use Rattle.ell_tree.specs.Hindrances.{IsEnded}

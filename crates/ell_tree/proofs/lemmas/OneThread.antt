@@ -1,5 +1,5 @@
 -- What a pass was answered that has seen all of a tree's history is as of one thread.
-use Rattle.std.proofs.Common.{◌≡◌, ◌≢◌, ℕ, zero, suc, Option, Some, take, ◌⊎◌, inl, inr, List, [], ◌∷◌, refl, sym, ap, ap₂, ◌∙◌, subst, arith}
+use Rattle.std.proofs.Common.{◌≡◌, ◌≢◌, ℕ, zero, suc, Option, take, ◌⊎◌, inl, inr, List, [], ◌∷◌, refl, sym, ap, ap₂, ◌∙◌, subst, arith}
 use Rattle.std.specs.List.{All}
 use Rattle.std.specs.List.Sorted.{IsPermutation}
 use Rattle.std.proofs.lemmas.List.Elements.{All-cons, All-head, All-nil, All-tail}
@@ -10,11 +10,11 @@ use Rattle.ell_ops.specs.declared.op.Op.{Op}
 use Rattle.ell_ops.specs.declared.reply.Reply.{Reply}
 use Rattle.ell_ops.specs.Contents.{contents_of}
 use Rattle.ell_ops.specs.Meaning.{final, key_of, replies}
-use Rattle.ell_cards.specs.Histories.{IsCall}
-use Rattle.ell_cards.specs.declared.view.Act.{Act}
-use Rattle.ell_cards.specs.Linearizing.{Item, HasItem, StandsIn, ops_of, replies_of}
-use Rattle.ell_cards.specs.Models.{Has, latest, earlier}
-use Rattle.ell_cards.specs.Seeing.{AreApart}
+use Rattle.ell_runs.specs.Histories.{IsCall}
+use Rattle.ell_runs.specs.declared.view.Act.{Act}
+use Rattle.ell_runs.specs.Linearizing.{Item, StandsIn, ops_of, replies_of}
+use Rattle.ell_runs.specs.Views.{Has, latest, earlier}
+use Rattle.ell_runs.specs.Seeing.{AreApart}
 use Rattle.ell_tree.specs.OneThread.{StoriesAreOfOneThread, ops_by, said_by}
 
 -- what is so of the first and of each other one is so of each

@@ -1,4 +1,4 @@
-use Rattle.std.proofs.Common.{◌≡◌, ◌≢◌, ℕ, if◌then◌else◌, Option, Some, None, List, ◌∷◌, length, not, is_some, sym, ap, ◌∙◌, subst, eq-eqb, ◌+◌}
+use Rattle.std.proofs.Common.{◌≡◌, ◌≢◌, ℕ, if◌then◌else◌, Option, Some, None, List, length, not, is_some, sym, ap, ◌∙◌, subst, eq-eqb, ◌+◌}
 use Rattle.std.proofs.lemmas.Bool.{ne_eqb}
 use Rattle.ell_ops.specs.declared.op.Op.{Op}
 use Rattle.ell_ops.specs.declared.op.Op.TheVariants.{Find, Insert, Delete, Swap}
@@ -12,11 +12,12 @@ use Rattle.std.proofs.lemmas.Option.{same_Some}
 use Rattle.ell_core.specs.declared.put.Put.{Put}
 use Rattle.ell_core.specs.acts.Searching.{put_of, TakesPut}
 use Rattle.ell_core.proofs.lemmas.keeping.Puts.{added, replacing}
-use Rattle.ell_cards.specs.Models.{TablePlan, PassModel, ledger}
-use Rattle.ell_cards.specs.Seeing.{SeesBegin, SeesCall, SeesEnd}
-use Rattle.ell_cards.specs.Stepping.{SameShare}
-use Rattle.ell_cards.specs.declared.view.Act.{Act}
-use Rattle.ell_cards.specs.declared.view.Sight.{Sight}
+use Rattle.ell_runs.specs.Plans.{TablePlan}
+use Rattle.ell_cards.specs.Models.{PassModel, ledger}
+use Rattle.ell_runs.specs.Seeing.{SeesBegin, SeesCall, SeesEnd}
+use Rattle.ell_runs.specs.Views.{SameShare}
+use Rattle.ell_runs.specs.declared.view.Act.{Act}
+use Rattle.ell_runs.specs.declared.view.Sight.{Sight}
 use Rattle.ell_tree.specs.declared.searching.Place.{Place}
 use Rattle.ell_tree.specs.declared.trying.Tried.TheVariants.{Answered}
 use Rattle.ell_tree.specs.Called.{ByItsTake}

@@ -1,19 +1,20 @@
-use Rattle.std.proofs.Common.{◌≡◌, ◌≢◌, ◌↔◌, ℕ, max, if◌then◌else◌, Bool, true, false, Option, Some, None, Result, Ok, Err, IfOk, List, refl, sym, ◌∙◌, ap, subst, inl, inr, length, length-append, arith}
+use Rattle.std.proofs.Common.{◌≡◌, ◌≢◌, ◌↔◌, ℕ, max, if◌then◌else◌, Bool, true, false, Option, Some, None, Result, Ok, Err, IfOk, List, refl, sym, ◌∙◌, ap, subst, inl, inr, length-append, arith}
 use Rattle.std.specs.List.{All}
 use Rattle.std.specs.Map.{keys_of}
 use Rattle.ell_ops.specs.KeySet.{set_of}
 use Rattle.ell_core.specs.state.Machine.{ledger_of}
 use Rattle.ell_tree.proofs.lemmas.Milestones.{milestones_more, milestones_none, known_left, known_right}
-use Rattle.ell_cards.specs.Models.{TablePlan, PassModel, TableModel, Steps, StepsOut, no_survey, one_more}
-use Rattle.ell_cards.specs.Changes.{first_of, left_view, right_view, united_ledgers, joined_view}
-use Rattle.ell_cards.proofs.lemmas.lifetimes.Parts.{part_on, part_off}
+use Rattle.ell_runs.specs.Plans.{TablePlan}
+use Rattle.ell_cards.specs.Models.{PassModel, TableModel, Steps, StepsOut, no_survey, one_more}
+use Rattle.ell_runs.specs.Changes.{first_of, left_view, right_view, united_ledgers, joined_view}
+use Rattle.ell_runs.proofs.lemmas.lifetimes.Parts.{part_on, part_off}
 use Rattle.ell_core.specs.state.Machine.{entry_of}
 use Rattle.ell_cards.specs.Retiring.{none_retired}
-use Rattle.ell_cards.specs.Sights.{joined_sight, no_sight}
-use Rattle.ell_cards.specs.Starts.{OpensBy}
-use Rattle.ell_cards.proofs.lemmas.words.Keys.{ledger_at_start, present_at_start}
-use Rattle.ell_cards.proofs.lemmas.lifetimes.Parts.{parts_on, parts_off}
-use Rattle.ell_cards.proofs.lemmas.lifetimes.Unions.{ledger_united}
+use Rattle.ell_runs.specs.Sights.{joined_sight, no_sight}
+use Rattle.ell_cards.specs.Models.{OpensBy}
+use Rattle.ell_runs.proofs.lemmas.words.Keys.{ledger_at_start, present_at_start}
+use Rattle.ell_runs.proofs.lemmas.lifetimes.Parts.{parts_on, parts_off}
+use Rattle.ell_runs.proofs.lemmas.lifetimes.Unions.{ledger_united}
 use Rattle.ell_tree.proofs.lemmas.CardsTaken.{claims_append}
 use Rattle.ell_tree.specs.PassParts.{IsFirst, IsLeftPart, IsRightPart, IsUnion}
 use Rattle.ell_core.specs.declared.view.Entry.{Entry}

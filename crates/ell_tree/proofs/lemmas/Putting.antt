@@ -6,15 +6,15 @@ use Rattle.ell_ops.specs.declared.op.Op.{Op}
 use Rattle.ell_ops.specs.declared.op.Op.TheVariants.{Find, Insert, Delete, Swap}
 use Rattle.ell_ops.specs.declared.reply.Reply.TheVariants.{Found}
 use Rattle.ell_ops.specs.Meaning.{key_of, found}
-use Rattle.ell_core.specs.declared.fact.Fact.TheVariants.{IOver}
 use Rattle.ell_core.specs.declared.put.Put.{Put}
 use Rattle.ell_core.specs.acts.Searching.{put_of, TakesPut, leaf_answer}
 use Rattle.ell_core.specs.statements.Effects.{reply_of_change}
 use Rattle.ell_core.proofs.lemmas.keeping.Puts.{added, replacing}
-use Rattle.ell_cards.specs.declared.view.View.{View}
-use Rattle.ell_cards.specs.declared.view.Told.TheVariants.{Value}
-use Rattle.ell_cards.specs.Models.{TablePlan, flat_from, IsTold, Knows}
-use Rattle.ell_cards.specs.Guards.{CardIsOver, Wants}
+use Rattle.ell_runs.specs.declared.view.View.{View}
+use Rattle.ell_runs.specs.declared.view.Told.TheVariants.{Value}
+use Rattle.ell_runs.specs.Plans.{TablePlan, flat_from}
+use Rattle.ell_runs.specs.Views.{IsTold}
+use Rattle.ell_runs.specs.Guards.{Wants}
 use Rattle.ell_tree.specs.declared.searching.Place.{Place}
 use Rattle.ell_tree.specs.Ends.{changes_by, reply_by}
 use Rattle.ell_core.specs.tree.Flat.{IsNodeKey}

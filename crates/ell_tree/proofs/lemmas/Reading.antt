@@ -1,7 +1,7 @@
 use Rattle.std.proofs.Common.{ℕ, Bool, refl, ap, ◌∙◌}
 use Rattle.ell_layout.specs.declared.field.Field.{Field}
 use Rattle.ell_cards.specs.Models.{PassModel, Counts, Sees, Steps, some_more}
-use Rattle.ell_cards.proofs.lemmas.views.Afters.{after_key_of, after_info, after_frozen_child}
+use Rattle.ell_runs.proofs.lemmas.views.Afters.{after_key_of, after_info, after_frozen_child}
 use Rattle.ell_tree.specs.Keeping.{KeepsAll}
 use Rattle.ell_tree.proofs.lemmas.Keeping.{keeps_all_step, key_of_keeps, info_keeps, frozen_keeps}
 

@@ -3,20 +3,17 @@ use Rattle.std.proofs.lemmas.Bool.{false≢true}
 use Rattle.ell_ops.specs.declared.op.Op.{Op}
 use Rattle.ell_ops.specs.declared.op.Op.TheVariants.{Delete}
 use Rattle.ell_ops.specs.declared.reply.Reply.TheVariants.{Yes}
-use Rattle.ell_core.specs.acts.Searching.{MayStop}
-use Rattle.ell_core.specs.state.Machine.{worker_of}
-use Rattle.ell_core.proofs.lemmas.outcomes.Decide.{some_not_none}
-use Rattle.ell_cards.proofs.lemmas.runs.LayingDown.{laid_down_last_changes_nothing}
-use Rattle.ell_cards.specs.declared.view.View.{View}
-use Rattle.ell_cards.specs.declared.view.Act.{Act}
-use Rattle.ell_cards.specs.Models.{TablePlan, PassModel}
-use Rattle.ell_cards.specs.Seeing.{SeesBegin}
+use Rattle.ell_cards.proofs.lemmas.shown.InRuns.{laid_down_last_changes_nothing}
+use Rattle.ell_runs.specs.declared.view.Act.{Act}
+use Rattle.ell_runs.specs.Plans.{TablePlan}
+use Rattle.ell_cards.specs.Models.{PassModel}
+use Rattle.ell_runs.specs.Seeing.{SeesBegin}
 use Rattle.ell_tree.specs.declared.searching.Place.{Place}
 use Rattle.ell_tree.specs.Called.{SeesTake}
 use Rattle.ell_tree.specs.Computing.{IsUntouched, RemovesIf}
 use Rattle.ell_tree.specs.Ends.{Answers, LaidDown, TakesValue, is_value}
 use Rattle.ell_tree.specs.Ledgers.{Owns, TreeModel, present_in}
-use Rattle.ell_tree.specs.Searches.{EndsAt, HasSearched, there_at}
+use Rattle.ell_tree.specs.Searches.{EndsAt, there_at}
 use Rattle.ell_tree.specs.Tries.{Begins, Halts, Lays}
 use Rattle.ell_tree.proofs.lemmas.Computing.{concludes}
 use Rattle.ell_tree.proofs.lemmas.Keeping.{share_trans}

@@ -1,9 +1,9 @@
-use Rattle.std.proofs.Common.{◌≡◌, ◌≢◌, ◌⊎◌, false, ℕ, zero, suc, ◌+◌, ◌*◌, ◌%◌, ◌<◌, ◌≤◌, Some, inl, inr, refl, sym, ◌∙◌, subst, max, min, true, arith, Bool, if◌then◌else◌, ◌||◌, ◌==◌, ap}
+use Rattle.std.proofs.Common.{◌≡◌, ◌≢◌, ◌⊎◌, false, ℕ, zero, suc, ◌%◌, ◌<◌, ◌≤◌, Some, inl, inr, refl, sym, ◌∙◌, subst, max, min, true, arith, Bool, if◌then◌else◌, ◌||◌, ◌==◌, ap}
 use Rattle.ell_cards.specs.LettingGo.{PutIsRetired}
 use Rattle.ell_cards.specs.SlotWords.{has_slot_in}
 use Rattle.ell_cards.specs.Retiring.{with_retired}
 use Rattle.ell_cards.specs.declared.card_nodes.CardNodes.{CardNodes}
-use Rattle.ell_cards.specs.declared.view.Slots.{Slots}
+use Rattle.ell_runs.specs.declared.view.Slots.{Slots}
 use Rattle.std.proofs.lemmas.Bool.Decides.{nat_tests}
 use Rattle.std.proofs.lemmas.Bool.{false≢true}
 use Rattle.ell_ops.specs.declared.op.Op.{Op}
@@ -15,18 +15,19 @@ use Rattle.ell_core.proofs.lemmas.keeping.Puts.{put_key}
 use Rattle.ell_layout.specs.declared.field.Field.TheVariants as field
 use Rattle.ell_layout.specs.Words.{IsLeaf}
 use Rattle.ell_cards.specs.declared.view.Retired.{Retired}
-use Rattle.ell_cards.specs.declared.view.Told.TheVariants.{Info}
-use Rattle.ell_cards.specs.declared.view.View.{View}
+use Rattle.ell_runs.specs.declared.view.Told.TheVariants.{Info}
+use Rattle.ell_runs.specs.declared.view.View.{View}
 use Rattle.ell_cards.specs.CardNodes.{all_nodes, node_alone}
 use Rattle.ell_cards.specs.Noting.{AllOfCard, NeverCome, retires_in}
-use Rattle.ell_cards.specs.Dead.{HasTakenOut, KnowsDeleteEnded, KnowsNeverComes}
-use Rattle.ell_cards.specs.Models.{PassModel, IsTold, Knows, Does}
+use Rattle.ell_runs.specs.Dead.{KnowsDeleteEnded, KnowsNeverComes}
+use Rattle.ell_cards.specs.Models.{PassModel}
+use Rattle.ell_runs.specs.Views.{IsTold, Knows, Does}
 use Rattle.ell_cards.specs.Noting.{HasNoted}
 use Rattle.ell_cards.proofs.lemmas.views.DeadNodes.{so_alone}
 use Rattle.ell_tree.specs.declared.searching.Place.{Place}
 use Rattle.ell_tree.specs.Helps.{IsInsert}
 use Rattle.ell_tree.specs.Keeping.{Keeps, KeepsAll, KeepsAllButMet, LosesNothing}
-use Rattle.ell_cards.specs.Touching.{KnowsOneKey}
+use Rattle.ell_runs.specs.Touching.{KnowsOneKey}
 use Rattle.ell_tree.specs.Retiring.{HasPut}
 use Rattle.ell_tree.specs.Searches.{node_with}
 

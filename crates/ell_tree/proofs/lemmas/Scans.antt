@@ -8,21 +8,22 @@ use Rattle.std.proofs.lemmas.List.Elements.{All-push}
 use Rattle.std.proofs.lemmas.Map.Entries.{lookup_head, lookup_tail}
 use Rattle.ell_ops.specs.Contents.{Contents, contents_of}
 use Rattle.ell_ops.specs.Meaning.{greatest_key}
-use Rattle.ell_cards.specs.declared.view.Told.TheVariants.{Key, Value}
-use Rattle.ell_cards.specs.declared.view.View.{View}
-use Rattle.ell_cards.specs.Guards.{TellsOf}
-use Rattle.ell_cards.specs.Looking.{HasFound, KeysAreFixed, ReadsItsOwn}
-use Rattle.ell_cards.specs.Models.{TablePlan, PassModel}
-use Rattle.ell_cards.proofs.lemmas.runs.Beginnings.{looks_are_of_one_state}
+use Rattle.ell_runs.specs.declared.view.Told.TheVariants.{Key, Value}
+use Rattle.ell_runs.specs.declared.view.View.{View}
+use Rattle.ell_runs.specs.Guards.{TellsOf}
+use Rattle.ell_runs.specs.Looking.{HasFound, KeysAreFixed, ReadsItsOwn}
+use Rattle.ell_runs.specs.Plans.{TablePlan}
+use Rattle.ell_cards.specs.Models.{PassModel}
+use Rattle.ell_cards.proofs.lemmas.shown.InRuns.{looks_are_of_one_state}
 use Rattle.ell_tree.specs.declared.scanning.Pair.{Pair}
 use Rattle.ell_tree.specs.declared.cursor.About.{About}
-use Rattle.ell_tree.specs.Cursors.{BeginsALook, FindsAbout, IsWithin, IsLower, IsNodeKey, IsUpper, KeepsLooking}
+use Rattle.ell_tree.specs.Cursors.{FindsAbout, IsWithin, IsLower, IsNodeKey, IsUpper, KeepsLooking}
 use Rattle.ell_tree.specs.Ledgers.{TreeModel}
 use Rattle.ell_tree.specs.Looks.{stretch_steps}
 use Rattle.ell_tree.specs.Scans.{AreFoundIn, AreInOrder, HaveFound, HasFoundLast, HasFoundNext, IsLastIn, IsNextIn, value_there}
 use Rattle.ell_tree.proofs.lemmas.Cursors.{come_on}
 use Rattle.ell_tree.proofs.lemmas.Stretching.{Stretches, stretches_more}
-use Rattle.ell_cards.specs.Depths.{deepest}
+use Rattle.ell_runs.specs.Depths.{deepest}
 
 -- what a look has found of a key stays found while it goes on
 pub found_on : (old new : PassModel) (n key : ℕ) (there : Option ℕ) → KeepsLooking old new n → HasFound old.view key there → HasFound new.view key there

@@ -16,18 +16,20 @@ use Rattle.ell_core.proofs.lemmas.tree.Blocks.{block_past, flat_by}
 use Rattle.ell_layout.specs.Words.{IsLeaf, has_block}
 use Rattle.ell_core.specs.state.Machine.{ledger_of}
 use Rattle.ell_core.specs.statements.Effects.{contents_in}
-use Rattle.ell_cards.specs.declared.view.Told.TheVariants.{Met, Key}
-use Rattle.ell_cards.specs.declared.view.View.{View}
-use Rattle.ell_cards.specs.Models.{TablePlan, flat_from, PassModel, Sees, latest, Does, IsTold, StandsAt, InTable, EndedBy, EndWasUnknown}
-use Rattle.ell_cards.specs.Changes.{after_upd, told_value}
-use Rattle.ell_cards.proofs.lemmas.views.Afters.{after_key_of, after_value_of, after_down}
-use Rattle.ell_cards.specs.Guards.{MayAnswer, TellsOf}
-use Rattle.ell_cards.specs.Calls.{TellsKey, TellsLedgerValue}
-use Rattle.ell_cards.specs.Depths.{depth_of, IsShallow}
-use Rattle.ell_cards.proofs.lemmas.views.Depths.{depth_more, went_deeper}
-use Rattle.ell_cards.proofs.lemmas.views.Entries.{places_more}
+use Rattle.ell_runs.specs.declared.view.Told.TheVariants.{Met, Key}
+use Rattle.ell_runs.specs.declared.view.View.{View}
+use Rattle.ell_runs.specs.Plans.{TablePlan, flat_from}
+use Rattle.ell_cards.specs.Models.{PassModel, Sees}
+use Rattle.ell_runs.specs.Views.{latest, Does, IsTold, StandsAt, InTable, EndedBy, EndWasUnknown}
+use Rattle.ell_runs.specs.Changes.{after_upd, told_value}
+use Rattle.ell_runs.proofs.lemmas.views.Afters.{after_key_of, after_value_of, after_down}
+use Rattle.ell_runs.specs.Guards.{MayAnswer, TellsOf}
+use Rattle.ell_runs.specs.Calls.{TellsKey, TellsLedgerValue}
+use Rattle.ell_runs.specs.Depths.{depth_of, IsShallow}
+use Rattle.ell_runs.proofs.lemmas.views.Depths.{depth_more, went_deeper}
+use Rattle.ell_runs.proofs.lemmas.views.Entries.{places_more}
 use Rattle.ell_cards.proofs.lemmas.views.Steps.{view_seen}
-use Rattle.ell_cards.proofs.lemmas.views.Searches.{told_here}
+use Rattle.ell_runs.proofs.lemmas.views.SeenNodes.{told_here}
 use Rattle.ell_tree.specs.declared.searching.Passed.{Passed}
 use Rattle.ell_tree.specs.declared.searching.Place.{Place}
 use Rattle.ell_tree.specs.Keeping.{LosesNothing, KeepsAllButSearch, IsInnerMet, IsSeenAt}

@@ -5,14 +5,14 @@ use Rattle.std.proofs.lemmas.Bool.Decides.{nat_tests}
 use Rattle.ell_ops.specs.declared.op.Op.{Op}
 use Rattle.ell_ops.specs.declared.reply.Reply.{Reply}
 use Rattle.ell_core.specs.statements.Effects.{reply_of_change}
-use Rattle.ell_cards.specs.declared.view.Act.{Act}
-use Rattle.ell_cards.specs.declared.view.Event.{Event}
-use Rattle.ell_cards.specs.declared.view.Event.TheVariants.{Begins, Ends}
-use Rattle.ell_cards.specs.declared.view.Sight.{Sight}
-use Rattle.ell_cards.specs.Histories.{IsCall}
-use Rattle.ell_cards.specs.Models.{Has, latest, earlier}
-use Rattle.ell_cards.specs.Seeing.{HasSeenMore, SeesBegin, SeesCall, SeesEnd}
-use Rattle.ell_cards.specs.Sights.{IsPart, longer}
+use Rattle.ell_runs.specs.declared.view.Act.{Act}
+use Rattle.ell_runs.specs.declared.view.Event.{Event}
+use Rattle.ell_runs.specs.declared.view.Event.TheVariants.{Begins, Ends}
+use Rattle.ell_runs.specs.declared.view.Sight.{Sight}
+use Rattle.ell_runs.specs.Histories.{IsCall}
+use Rattle.ell_runs.specs.Views.{Has, latest, earlier}
+use Rattle.ell_runs.specs.Seeing.{HasSeenMore, SeesBegin, SeesCall, SeesEnd}
+use Rattle.ell_runs.specs.Sights.{IsPart, longer}
 use Rattle.ell_cards.proofs.lemmas.whole.Seeing.{at_inside, call_more}
 use Rattle.ell_tree.specs.Called.{SeesLast, SeesNoChange}
 

@@ -4,12 +4,13 @@ use Rattle.ell_layout.specs.declared.field.Field.TheVariants as field
 use Rattle.ell_word.specs.declared.link.Link.{Link}
 use Rattle.ell_word.specs.Link.{IsLink, linked, tag_unit}
 use Rattle.ell_layout.specs.Cards.{clean, stored, put_filling, left_of_card, right_of_card, delete_filling}
-use Rattle.ell_cards.specs.declared.view.View.{View}
-use Rattle.ell_cards.specs.Models.{PassModel, Steps, Has, latest, earlier, stored_at}
-use Rattle.ell_cards.specs.Sayings.{put_says, delete_says}
+use Rattle.ell_runs.specs.declared.view.View.{View}
+use Rattle.ell_cards.specs.Models.{PassModel, Steps}
+use Rattle.ell_runs.specs.Views.{Has, latest, earlier, stored_at}
+use Rattle.ell_runs.specs.Sayings.{put_says, delete_says}
 use Rattle.ell_cards.specs.Shown.{shown_words}
 use Rattle.ell_cards.specs.Stepping.{IsWholeIn}
-use Rattle.ell_cards.specs.Changes.{after_fill, tagged, with_stores}
+use Rattle.ell_runs.specs.Changes.{after_fill, tagged, with_stores}
 use Rattle.ell_cards.proofs.lemmas.views.Steps.{view_after}
 use Rattle.ell_tree.specs.Counts.{Took}
 use Rattle.ell_tree.specs.Tries.{Fills}

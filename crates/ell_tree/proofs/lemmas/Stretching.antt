@@ -1,19 +1,21 @@
 use Rattle.std.proofs.Common.{◌≡◌, ◌==◌, ℕ, zero, suc, ◌+◌, ◌*◌, ◌/◌, ◌-◌, ◌<◌, ◌≤◌, ◌&&◌, ◌||◌, ◌⊎◌, inl, inr, if◌then◌else◌, Bool, true, false, List, [], ◌∷◌, refl, sym, ap, ◌∙◌, subst, arith, eq-eqb, eqb-true}
 use Rattle.std.proofs.Math.Nat.{mul-le-mul_right}
 use Rattle.std.proofs.lemmas.Bool.{false≢true, or_left, or_right, or_cases}
-use Rattle.ell_cards.specs.declared.view.Told.{Told}
-use Rattle.ell_cards.specs.declared.view.Told.TheVariants.{Met, Depth, Key, Value, Info, Expects, Frozen}
-use Rattle.ell_cards.specs.Contention.{how_many}
-use Rattle.ell_cards.specs.Looking.{KeysAreFixed}
-use Rattle.ell_cards.specs.Models.{TablePlan, Has, latest, earlier, PassModel}
-use Rattle.ell_cards.proofs.lemmas.runs.HowMany.{many_most, many_where}
-use Rattle.ell_cards.specs.LookPlaces.{SawLookBegin}
+use Rattle.ell_runs.specs.declared.view.Told.{Told}
+use Rattle.ell_runs.specs.declared.view.Told.TheVariants.{Met, Depth, Key, Value, Info, Expects, Frozen}
+use Rattle.ell_runs.specs.Contention.{how_many}
+use Rattle.ell_runs.specs.Looking.{KeysAreFixed}
+use Rattle.ell_runs.specs.Plans.{TablePlan}
+use Rattle.ell_runs.specs.Views.{Has, latest, earlier}
+use Rattle.ell_cards.specs.Models.{PassModel}
+use Rattle.ell_runs.proofs.lemmas.runs.HowMany.{many_most, many_where}
+use Rattle.ell_runs.specs.LookPlaces.{SawLookBegin}
 use Rattle.ell_tree.proofs.lemmas.LookPlaces.{saw_on}
-use Rattle.ell_tree.specs.Cursors.{BeginsALook, IsNodeKey, KeepsLooking}
+use Rattle.ell_tree.specs.Cursors.{IsNodeKey, KeepsLooking}
 use Rattle.ell_tree.specs.Looks.{OnlyLooks, stretch_steps}
 use Rattle.ell_tree.specs.Scans.{scan_steps}
 use Rattle.ell_tree.proofs.lemmas.Looks.{only_none_yet, only_trans}
-use Rattle.ell_cards.specs.Depths.{deepest}
+use Rattle.ell_runs.specs.Depths.{deepest}
 
 -- where both of two tests pass, each does
 both : (a b : Bool) → (a && b) ≡ true → (a ≡ true) × (b ≡ true)

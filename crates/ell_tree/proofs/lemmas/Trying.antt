@@ -2,8 +2,10 @@ use Rattle.std.proofs.Common.{ℕ, is_some, ◌++◌, Bool, true, false, List, [
 use Rattle.std.proofs.lemmas.List.{append_cancel_right}
 use Rattle.ell_ops.specs.declared.op.Op.{Op}
 use Rattle.ell_core.specs.declared.fact.Fact.{Fact}
-use Rattle.ell_cards.specs.declared.view.Hindrance.{Hindrance}
-use Rattle.ell_cards.specs.Models.{TablePlan, PassModel, EndedBy}
+use Rattle.ell_runs.specs.declared.view.Hindrance.{Hindrance}
+use Rattle.ell_runs.specs.Plans.{TablePlan}
+use Rattle.ell_cards.specs.Models.{PassModel}
+use Rattle.ell_runs.specs.Views.{EndedBy}
 use Rattle.ell_tree.specs.declared.searching.Place.{Place}
 use Rattle.ell_tree.specs.declared.trying.Tried.{Tried}
 use Rattle.ell_tree.specs.declared.trying.Tried.TheVariants.{Answered, Hindered, Spent}

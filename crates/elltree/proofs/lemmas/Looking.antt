@@ -1,7 +1,7 @@
 -- What a handle has seen of the history by a look that it has ended.
 use Rattle.std.proofs.Common.{Option, Some, None, sym, ap, subst}
-use Rattle.ell_cards.specs.declared.view.Sight.{Sight}
-use Rattle.ell_cards.specs.declared.view.Slots.{Slots}
+use Rattle.ell_runs.specs.declared.view.Sight.{Sight}
+use Rattle.ell_runs.specs.declared.view.Slots.{Slots}
 use Rattle.ell_cards.specs.Models.{PassModel}
 use Rattle.ell_tree.specs.Looks.{EndsLooks}
 

@@ -1,9 +1,10 @@
 use Rattle.std.proofs.Common.{◌≢◌, ℤ, Option, Some, None, subst}
-use Rattle.ell_cards.specs.Models.{MayPart, SplitRefuses}
+use Rattle.ell_runs.specs.Views.{MayPart}
+use Rattle.ell_cards.specs.Models.{SplitRefuses}
 use Rattle.ell_cards.specs.declared.fault.SplitFault.{SplitFault}
 use Rattle.ell_cards.specs.declared.fault.SplitFault.TheVariants as split_fault
-use Rattle.ell_cards.specs.declared.view.Slots.{Slots}
-use Rattle.ell_cards.specs.declared.view.View.{View}
+use Rattle.ell_runs.specs.declared.view.Slots.{Slots}
+use Rattle.ell_runs.specs.declared.view.View.{View}
 use Rattle.elltree.specs.Handles.{AnotherRefuses, tree_of}
 use Rattle.elltree.specs.Refusals.{of_split}
 use Rattle.elltree.specs.declared.handle.Handle.{Handle}

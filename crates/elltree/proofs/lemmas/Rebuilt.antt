@@ -1,7 +1,7 @@
 use Rattle.std.proofs.Common.{◌≡◌, true, false, [], ap, sym, subst, ◌∙◌}
 use Rattle.std.specs.Arc.{arc_value}
 use Rattle.std.proofs.Props.{props}
-use Rattle.ell_cards.specs.Changes.{ownable_if}
+use Rattle.ell_runs.specs.Changes.{ownable_if}
 use Rattle.ell_tree.specs.Ledgers.{IsIdle, PassModel}
 use Rattle.elltree.specs.declared.handle.Handle.{Handle}
 

@@ -11,7 +11,7 @@ use Rattle.ell_tree.specs.Reply.TheVariants.{No, Yes, Found}
 use Rattle.ell_tree.specs.Contents.{nothing}
 use Rattle.ell_tree.specs.Meaning.{yes_if, found}
 use Rattle.ell_tree.specs.Act.{Act}
-use Rattle.ell_tree.specs.Models.{Has, earlier, given_share, latest, whole_share}
+use Rattle.ell_tree.specs.Views.{Has, earlier, given_share, latest, whole_share}
 use Rattle.ell_tree.specs.OneThread.{IsOfOneThread}
 use Rattle.ell_tree.specs.Seeing.{AreApart}
 use Rattle.ell_tree.proofs.lemmas.OneThread.{at_has, has_at, has_permuted, of_each}

@@ -15,7 +15,8 @@ use Rattle.ell_tree.specs.Machine.{shared_of}
 use Rattle.ell_tree.specs.Effects.{reply_of_change}
 use Rattle.ell_tree.specs.Act.{Act}
 use Rattle.ell_tree.specs.Sight.{Sight}
-use Rattle.ell_tree.specs.Models.{Has, PassModel, earlier, latest}
+use Rattle.ell_tree.specs.Views.{Has, earlier, latest}
+use Rattle.ell_tree.specs.Models.{PassModel}
 use Rattle.ell_tree.specs.Computing.{IsSum, UpdatesValue}
 use Rattle.ell_tree.specs.Ledgers.{TreeModel}
 use Rattle.ell_tree.specs.PassParts.{IsUnion}

@@ -5,7 +5,8 @@ use Rattle.ell_tree.specs.Act.{Act}
 use Rattle.ell_tree.specs.Changes.{ownable_if}
 use Rattle.ell_tree.specs.Contents.{contents_of}
 use Rattle.ell_tree.specs.Ledgers.{IsIdlePassOf, TreeModel}
-use Rattle.ell_tree.specs.Models.{PassModel, given_share, whole_share}
+use Rattle.ell_tree.specs.Models.{PassModel}
+use Rattle.ell_tree.specs.Views.{given_share, whole_share}
 use Rattle.ell_tree.specs.PassParts.{IsFirst, IsLeftPart, IsRightPart}
 use Rattle.ell_tree.specs.Sight.{Sight}
 use Rattle.shared_counter.specs.declared.adding.TheConstants.{COUNTER}

@@ -16,7 +16,8 @@ use Rattle.ell_tree.specs.Meaning.{reply_of, after, replies, yes_if, found}
 use Rattle.ell_tree.specs.Act.{Act}
 use Rattle.ell_tree.specs.Ends.{Answers}
 use Rattle.ell_tree.specs.Ledgers.{TreeModel}
-use Rattle.ell_tree.specs.Models.{Has, IsFree, PassModel, latest, whole_share}
+use Rattle.ell_tree.specs.Views.{Has, IsFree, latest, whole_share}
+use Rattle.ell_tree.specs.Models.{PassModel}
 use Rattle.ell_tree.specs.OneThread.{IsOfOneThread, StoriesAreOfOneThread, ops_by, said_by}
 use Rattle.ell_tree.specs.Seeing.{HasSeenAll, HasSeenMore}
 use Rattle.ell_tree.proofs.lemmas.OneThread.{at_has, has_permuted, of_each}

@@ -2,15 +2,16 @@
 use Rattle.std.proofs.Common.{◌≡◌, ℕ, ◌<◌, nat_lt, if◌then◌else◌, true, Some, None, ap, ◌∙◌, subst, arith, get_or}
 use Rattle.std.proofs.lemmas.Bool.Decides.{nat_tests}
 use Rattle.ell_cards.specs.declared.view.Known.{Known}
-use Rattle.ell_cards.specs.declared.view.Slots.{Slots}
+use Rattle.ell_runs.specs.declared.view.Slots.{Slots}
 use Rattle.ell_cards.specs.Ages.{HasPeriods}
-use Rattle.ell_cards.specs.Models.{TablePlan}
-use Rattle.ell_cards.specs.States.{TableState}
+use Rattle.ell_runs.specs.Plans.{TablePlan}
+use Rattle.ell_runs.specs.States.{TableState}
 use Rattle.ell_cards.specs.PeriodLaws.{IsInPeriod, BeganSafely}
 use Rattle.ell_cards.specs.Periods.{WholeState, PeriodsAreSound, announced_by, place_says, place_word, period_of, word_at_place}
 use Rattle.ell_cards.specs.Whole.{PeriodsAre}
 use Rattle.ell_cards.proofs.lemmas.whole.Steps.{announced_again}
 use Rattle.ell_cards.proofs.lemmas.whole.Untouched.{free_slots_are_untouched}
+use Rattle.ell_cards.proofs.lemmas.ties.Touched.{calls_touch_no_card_aside}
 use Rattle.ell_cards.proofs.lemmas.whole.Noting.{retired_nodes_are_noted}
 use Rattle.ell_cards.proofs.lemmas.whole.InUse.{slots_in_use_are_few}
 use Rattle.ell_cards.proofs.laws.safe_numbers_are_safe.Goals as goal
@@ -42,6 +43,7 @@ pub returns : goal.returns
 returns c = record {
   began = λ plan s t placed h seat k is. began_safely plan s h.tree t (subst (λ o. PeriodsAre plan o h.tree t) placed h.periods).0 seat k is;
   free = free_slots_are_untouched;
+  aside = calls_touch_no_card_aside;
   retired = retired_nodes_are_noted;
   leaks = λ plan s t placed h.
       let has = subst (λ o. PeriodsAre plan o h.tree t) placed h.periods in

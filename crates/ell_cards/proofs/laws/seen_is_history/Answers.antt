@@ -1,5 +1,5 @@
 use Rattle.ell_cards.proofs.lemmas.whole.Seeing.{seen_all, seen_in_line, seen_linear}
-use Rattle.ell_cards.specs.Histories.{history_of}
+use Rattle.ell_runs.specs.Histories.{history_of}
 use Rattle.ell_cards.proofs.laws.seen_is_history.Goals as goal
 
 pub returns : goal.returns

@@ -12,19 +12,19 @@ use Rattle.ell_core.specs.soundness.Sound.{WorkerOwns}
 use Rattle.ell_core.specs.statements.StepLaws.{OwnsAll}
 use Rattle.ell_core.proofs.lemmas.following.Sound.{reached_born}
 use Rattle.ell_core.proofs.lemmas.following.Reliance.{owner_finds_clean}
-use Rattle.ell_cards.specs.declared.view.View.{View}
-use Rattle.ell_cards.specs.Models.{IsFree}
-use Rattle.ell_cards.specs.States.{TableState, seat_worker, seated}
-use Rattle.ell_cards.specs.Models.{TablePlan}
-use Rattle.ell_cards.specs.Machines.{HasMachine}
-use Rattle.ell_cards.specs.Starts.{IsReached}
-use Rattle.ell_cards.proofs.lemmas.runs.Sharing.{IsAlone, only_sharer, tree_key_is}
+use Rattle.ell_runs.specs.declared.view.View.{View}
+use Rattle.ell_runs.specs.Views.{IsFree}
+use Rattle.ell_runs.specs.States.{TableState, seat_worker, seated}
+use Rattle.ell_runs.specs.Plans.{TablePlan}
+use Rattle.ell_runs.specs.Machines.{HasMachine}
+use Rattle.ell_runs.specs.Starts.{IsReached}
+use Rattle.ell_runs.proofs.lemmas.runs.Sharing.{IsAlone, only_sharer, tree_key_is}
 use Rattle.ell_cards.specs.Closed.{ShowsMap}
-use Rattle.ell_cards.proofs.lemmas.seats.Seats.{mine_is, mine_sound}
-use Rattle.ell_cards.specs.TurnEffects.{own_words}
-use Rattle.ell_cards.proofs.lemmas.own_words.OwnTree.{update_same, reached_same}
-use Rattle.ell_cards.proofs.lemmas.own_words.OwnWords.{same_next, same_card, own_words_are_sound}
-use Rattle.ell_cards.proofs.lemmas.own_words.OwnLedgers.{ledgers_tell_the_tree}
+use Rattle.ell_runs.proofs.lemmas.seats.Seats.{mine_is, mine_sound}
+use Rattle.ell_runs.specs.TurnEffects.{own_words}
+use Rattle.ell_runs.proofs.lemmas.own_words.OwnTree.{update_same, reached_same}
+use Rattle.ell_runs.proofs.lemmas.own_words.OwnWords.{same_next, same_card, own_words_are_sound}
+use Rattle.ell_runs.proofs.lemmas.own_words.OwnLedgers.{ledgers_tell_the_tree}
 
 module _ (plan : TablePlan) (s : TableState) (h : IsReached plan s) (r : HasMachine plan s) (id : ℕ) (v : View)
     (here : get_elem? s.views id ≡ some v) (alone : IsAlone s id) (free : IsFree v) (all : All (λ k. ledger_of v.worker.ledger k ≢ None) plan.keys) where

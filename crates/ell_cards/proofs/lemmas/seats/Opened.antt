@@ -7,27 +7,32 @@ use Rattle.ell_cards.specs.declared.share.Share.{Share}
 use Rattle.ell_cards.specs.declared.view.Known.{Known}
 use Rattle.ell_cards.specs.declared.view.Period.{Period}
 use Rattle.ell_cards.specs.declared.view.Retired.{Retired}
-use Rattle.ell_cards.specs.declared.view.Slots.{Slots}
-use Rattle.ell_cards.specs.declared.view.View.{View}
-use Rattle.ell_cards.specs.Models.{TablePlan, TableModel, PassModel, IsTold, last_slot, last_slot_of}
+use Rattle.ell_runs.specs.declared.view.Slots.{Slots}
+use Rattle.ell_runs.specs.declared.view.View.{View}
+use Rattle.ell_runs.specs.Plans.{TablePlan}
+use Rattle.ell_cards.specs.Models.{TableModel, PassModel, last_slot, last_slot_of}
+use Rattle.ell_runs.specs.Views.{IsTold}
 use Rattle.ell_cards.specs.SlotWords.{slot_of}
 use Rattle.ell_cards.specs.Tied.{MayInMemory}
 use Rattle.ell_word.specs.Link.{greatest_tag}
 use Rattle.ell_layout.proofs.lemmas.Listed.{address_in_table}
-use Rattle.ell_cards.specs.Changes.{ledger_keys}
-use Rattle.ell_cards.specs.Naming.{IsNamed, IsPlaced}
+use Rattle.ell_runs.specs.Changes.{ledger_keys}
+use Rattle.ell_runs.specs.Naming.{IsNamed}
+use Rattle.ell_cards.specs.InSlots.{IsPlaced}
 use Rattle.ell_cards.specs.Inside.{HasShare, HasSlotThere, PassFits, PlaceFits}
-use Rattle.ell_cards.specs.declared.call.Call.{Call}
-use Rattle.ell_cards.specs.declared.call.Call.TheVariants as call
-use Rattle.ell_cards.specs.declared.view.Told.TheVariants.{Expects}
-use Rattle.ell_cards.specs.Calls.{place_of, May}
+use Rattle.ell_runs.specs.declared.call.Call.{Call}
+use Rattle.ell_runs.specs.declared.call.Call.TheVariants as call
+use Rattle.ell_runs.specs.declared.view.Told.TheVariants.{Expects}
+use Rattle.ell_cards.specs.Addresses.{place_of}
+use Rattle.ell_runs.specs.Calls.{May}
 use Rattle.ell_cards.specs.Periods.{size_by, whole_size}
-use Rattle.ell_cards.specs.Seeing.{Marks, IsCalm}
-use Rattle.ell_cards.specs.Starts.{SlotsFit}
+use Rattle.ell_runs.specs.Seeing.{Marks, IsCalm}
+use Rattle.ell_runs.specs.Starts.{SlotsFit}
 use Rattle.ell_cards.specs.Shown.{IsWord, shown, StoresWord}
-use Rattle.ell_cards.specs.Stepping.{MayInTable, IsInside, IsQuiet, MayHave, MayTell, KeepsPass, SameShare}
+use Rattle.ell_cards.specs.Stepping.{MayInTable, IsInside, IsQuiet, MayHave, MayTell, KeepsPass}
+use Rattle.ell_runs.specs.Views.{SameShare}
 use Rattle.ell_cards.specs.Whole.{IsWhole}
-use Rattle.ell_cards.proofs.lemmas.seats.Named.{named_more}
+use Rattle.ell_runs.proofs.lemmas.seats.Named.{named_more}
 use Rattle.ell_cards.proofs.lemmas.seats.Placed.{placed_more, place_fits}
 use Rattle.ell_cards.proofs.lemmas.shown.ShownTold.{was_expected}
 use Rattle.ell_cards.proofs.lemmas.whole.Places.{no_places}

@@ -7,18 +7,21 @@ use Rattle.ell_layout.specs.declared.field.Field.TheVariants as field
 use Rattle.ell_layout.specs.Words.{key_field, value_field, child_field}
 use Rattle.ell_layout.specs.Layout.{table_size}
 use Rattle.ell_layout.proofs.lemmas.Listed.{address_in_table}
-use Rattle.ell_cards.specs.declared.call.Call.{Call}
-use Rattle.ell_cards.specs.declared.call.Call.TheVariants as call
-use Rattle.ell_cards.specs.declared.view.Told.{Told}
-use Rattle.ell_cards.specs.declared.view.Told.TheVariants.{Met, Info}
-use Rattle.ell_cards.specs.declared.view.View.{View}
-use Rattle.ell_cards.specs.Calls.{May, slot_address, place_of}
-use Rattle.ell_cards.specs.Changes.{forgotten}
-use Rattle.ell_cards.specs.Models.{TablePlan, Has, KnowsCard}
-use Rattle.ell_cards.specs.Naming.{EntryIsNamed, EntryIsPlaced, IsNamed, IsPlaced}
+use Rattle.ell_runs.specs.declared.call.Call.{Call}
+use Rattle.ell_runs.specs.declared.call.Call.TheVariants as call
+use Rattle.ell_runs.specs.declared.view.Told.{Told}
+use Rattle.ell_runs.specs.declared.view.Told.TheVariants.{Met, Info}
+use Rattle.ell_runs.specs.declared.view.View.{View}
+use Rattle.ell_runs.specs.Calls.{May}
+use Rattle.ell_cards.specs.Addresses.{slot_address, place_of}
+use Rattle.ell_runs.specs.Changes.{forgotten}
+use Rattle.ell_runs.specs.Plans.{TablePlan}
+use Rattle.ell_runs.specs.Views.{Has, KnowsCard}
+use Rattle.ell_runs.specs.Naming.{EntryIsNamed, IsNamed}
+use Rattle.ell_cards.specs.InSlots.{EntryIsPlaced, IsPlaced}
 use Rattle.ell_cards.specs.SlotWords.{slot_of}
-use Rattle.ell_cards.proofs.lemmas.lifetimes.Idle.{root_alone}
-use Rattle.ell_cards.proofs.lemmas.seats.Taken.{known_by, known_fits}
+use Rattle.ell_runs.proofs.lemmas.lifetimes.Idle.{root_alone}
+use Rattle.ell_runs.proofs.lemmas.seats.Staying.{known_by, known_fits}
 
 -- a card that is no later than the last slot has a slot up to that
 low_slot : (last c : ℕ) → c ≤ last → slot_of c ≤ last

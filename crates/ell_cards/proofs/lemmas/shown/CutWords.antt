@@ -2,7 +2,7 @@
 use Rattle.std.proofs.Common.{◌≡◌, ℕ, ◌%◌, ◌<◌, ◌≤◌, ◌==◌, Bool, true, false, refl, sym, ap, ◌∙◌, arith, eqb-true, eq-eqb, true≢false}
 use Rattle.ell_word.specs.declared.link.Link.{Link}
 use Rattle.ell_word.specs.Node.{card}
-use Rattle.ell_word.specs.Link.{linked, link_in, node_bound, tag_unit}
+use Rattle.ell_word.specs.Link.{linked, link_in, tag_unit}
 use Rattle.ell_cards.specs.Apart.{cut_node}
 use Rattle.ell_cards.specs.SlotWords.{slot_of}
 use Rattle.ell_cards.specs.Shown.{IsNear, IsWord, cut_word, cut_tag, shown_link}

@@ -9,9 +9,9 @@ use Rattle.ell_layout.specs.Layout.{address}
 use Rattle.ell_layout.specs.Words.{key_field, value_field, child_field}
 use Rattle.ell_core.specs.declared.event.Act.TheVariants as act
 use Rattle.ell_core.specs.acts.Exchanges.{won_or_lost}
-use Rattle.ell_cards.specs.declared.call.Call.TheVariants as call
+use Rattle.ell_runs.specs.declared.call.Call.TheVariants as call
 use Rattle.ell_cards.specs.Apart.{cut_node}
-use Rattle.ell_cards.specs.Calls.{next_link}
+use Rattle.ell_runs.specs.Calls.{next_link}
 use Rattle.ell_cards.specs.Shown.{cut_word, cut_field, cut_tag, shown_word, shown_link, CallsActAlike}
 use Rattle.ell_cards.proofs.lemmas.shown.CutWords.{node_again, node_slot, node_place, node_is_word, cut_again, cut_linked}
 

@@ -7,13 +7,14 @@ use Rattle.ell_layout.specs.declared.field.Field.TheVariants as field
 use Rattle.ell_core.specs.declared.view.Seen.{Seen}
 use Rattle.ell_core.specs.declared.fact.Fact.{Fact}
 use Rattle.ell_core.specs.declared.fact.Fact.TheVariants as fact
-use Rattle.ell_cards.specs.declared.call.Call.{Call}
-use Rattle.ell_cards.specs.declared.call.Call.TheVariants as call
-use Rattle.ell_cards.specs.declared.view.Told.TheVariants.{Met, Info, Frozen}
-use Rattle.ell_cards.specs.declared.view.View.{View}
+use Rattle.ell_runs.specs.declared.call.Call.{Call}
+use Rattle.ell_runs.specs.declared.call.Call.TheVariants as call
+use Rattle.ell_runs.specs.declared.view.Told.TheVariants.{Met, Info, Frozen}
+use Rattle.ell_runs.specs.declared.view.View.{View}
 use Rattle.ell_cards.specs.Apart.{cut_node, IsApart}
-use Rattle.ell_cards.specs.Models.{TablePlan, IsTold, Knows}
-use Rattle.ell_cards.specs.Guards.{MayFill, MayIFlag, MayDFlag, MayIChild, KnowsPlace, IsSibling, MayDChild}
+use Rattle.ell_runs.specs.Plans.{TablePlan}
+use Rattle.ell_runs.specs.Views.{IsTold, Knows}
+use Rattle.ell_runs.specs.Guards.{MayFill, MayIFlag, MayDFlag, MayIChild, KnowsPlace, IsSibling, MayDChild}
 use Rattle.ell_cards.specs.Shown.{shown, StoresAreWhole, StoresWord, IsLifted, GuardsAreLifted}
 use Rattle.ell_cards.proofs.lemmas.shown.ShownTold.{was_met, was_info, was_expected, was_frozen}
 use Rattle.ell_cards.proofs.lemmas.shown.ShownGuards.{was_seen, was_stood, outer_whole, inner_whole, met_key, answer_whole, where_whole, look_down_whole, claim_whole, was_stored, filled_whole}

@@ -1,23 +1,17 @@
 -- What is shown of what a pass knows after calls that claim, store and exchange.
-use Rattle.std.proofs.Common.{◌≡◌, ℕ, ◌==◌, if◌then◌else◌, map, Bool, true, false, Option, Some, None, List, [], ◌∷◌, refl, sym, ap, ◌∙◌}
+use Rattle.std.proofs.Common.{◌≡◌, ℕ, ◌==◌, if◌then◌else◌, Bool, true, false, Option, Some, None, ◌∷◌, refl, sym, ap, ◌∙◌}
 use Rattle.std.specs.Option.{option_map}
 use Rattle.ell_word.specs.declared.update.Update.{Update}
 use Rattle.ell_word.specs.Word.{unpacked}
-use Rattle.ell_layout.specs.declared.field.Field.{Field}
-use Rattle.ell_layout.specs.declared.field.Field.TheVariants as field
-use Rattle.ell_core.specs.declared.view.Search.{Search}
-use Rattle.ell_core.specs.declared.view.Seen.{Seen}
 use Rattle.ell_core.specs.declared.exchange.Exchange.{Exchange}
 use Rattle.ell_core.specs.declared.fact.Fact.{Fact}
 use Rattle.ell_core.specs.declared.fact.Fact.TheVariants as fact
-use Rattle.ell_cards.specs.declared.glance.Glance.{Glance}
-use Rattle.ell_cards.specs.declared.view.Told.{Told}
-use Rattle.ell_cards.specs.declared.view.Told.TheVariants.{Met, Depth, Key, Value, Info, Expects, Frozen}
-use Rattle.ell_cards.specs.declared.view.View.{View}
+use Rattle.ell_runs.specs.declared.view.Told.TheVariants.{Expects}
+use Rattle.ell_runs.specs.declared.view.View.{View}
 use Rattle.ell_cards.specs.Apart.{cut_node}
-use Rattle.ell_cards.specs.Changes.{if_won, exchanged, with_fact, after_claim, after_flag, after_mark, is_mark_of, unmarking}
-use Rattle.ell_cards.specs.Shown.{IsWord, cut_word, shown_info, shown_seen, shown_search, shown_glance, shown_told, shown_word, shown_words, shown, ClaimsAreShown}
-use Rattle.ell_cards.proofs.lemmas.shown.CutWords.{node_again, tag_again, cut_again, cut_same}
+use Rattle.ell_runs.specs.Changes.{if_won, exchanged, with_fact, after_claim, after_flag, after_mark, is_mark_of, unmarking}
+use Rattle.ell_cards.specs.Shown.{IsWord, cut_word, shown, ClaimsAreShown}
+use Rattle.ell_cards.proofs.lemmas.shown.CutWords.{cut_again, cut_same}
 use Rattle.ell_cards.proofs.lemmas.shown.ShownWords.{planned_shown_alike, tag_shown, told_of_claim}
 use Rattle.ell_cards.proofs.lemmas.shown.ShownSearches.{places_shown}
 

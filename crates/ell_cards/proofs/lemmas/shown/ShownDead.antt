@@ -1,17 +1,16 @@
 -- Nodes that never come, or that the card in hand has taken out, by what is shown of what a pass knows.
-use Rattle.std.proofs.Common.{◌≡◌, ℕ, ◌+◌, ◌*◌, ◌%◌, inl, inr, sym, ◌∙◌, subst, Some, arith}
-use Rattle.ell_word.specs.Node.{IsInternal}
-use Rattle.ell_layout.specs.Words.{IsLeaf}
+use Rattle.std.proofs.Common.{◌≡◌, ℕ, ◌+◌, ◌*◌, ◌%◌, inl, inr, subst, Some, arith}
 use Rattle.ell_layout.specs.declared.field.Field.TheVariants as field
 use Rattle.ell_cards.specs.declared.card_nodes.CardNodes.{CardNodes}
-use Rattle.ell_cards.specs.declared.view.Told.TheVariants.{Info, Met}
-use Rattle.ell_cards.specs.declared.view.View.{View}
-use Rattle.ell_cards.specs.Apart.{cut_node, NamesMet}
+use Rattle.ell_runs.specs.declared.view.Told.TheVariants.{Info, Met}
+use Rattle.ell_runs.specs.declared.view.View.{View}
+use Rattle.ell_cards.specs.Apart.{cut_node}
+use Rattle.ell_runs.specs.Met.{NamesMet}
 use Rattle.ell_cards.specs.Noting.{KnowsDeadNodes, NeverCome}
-use Rattle.ell_cards.specs.Dead.{HasTakenOut, KnowsReplaced, KnowsUnused, KnowsNeverComes}
-use Rattle.ell_cards.specs.Models.{IsTold}
+use Rattle.ell_runs.specs.Dead.{HasTakenOut, KnowsReplaced, KnowsUnused, KnowsNeverComes}
+use Rattle.ell_runs.specs.Views.{IsTold}
 use Rattle.ell_cards.specs.Shown.{shown}
-use Rattle.ell_cards.specs.Touching.{KnowsOneKey, KnowsTakenOut}
+use Rattle.ell_runs.specs.Touching.{KnowsOneKey, KnowsTakenOut}
 use Rattle.ell_cards.proofs.lemmas.shown.ShownTold.{was_info}
 
 -- a node's low bits say at which place of its card it stands

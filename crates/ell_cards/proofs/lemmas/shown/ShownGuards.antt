@@ -12,18 +12,19 @@ use Rattle.ell_layout.specs.Cards.{stored}
 use Rattle.ell_layout.specs.Words.{IsLeaf, has_block}
 use Rattle.ell_core.specs.declared.view.Seen.{Seen}
 use Rattle.ell_core.specs.acts.Searching.{IsClean}
-use Rattle.ell_cards.specs.declared.glance.Glance.{Glance}
-use Rattle.ell_cards.specs.declared.glance.Stretch.{Stretch}
-use Rattle.ell_cards.specs.declared.view.Told.TheVariants.{Met, Key, Value}
-use Rattle.ell_cards.specs.declared.view.View.{View}
+use Rattle.ell_runs.specs.declared.glance.Glance.{Glance}
+use Rattle.ell_runs.specs.declared.glance.Stretch.{Stretch}
+use Rattle.ell_runs.specs.declared.view.Told.TheVariants.{Met, Key, Value}
+use Rattle.ell_runs.specs.declared.view.View.{View}
 use Rattle.ell_cards.specs.Apart.{cut_node, IsApart}
-use Rattle.ell_cards.specs.Models.{TablePlan, Has, latest, earlier, IsTold, HasCome, HasComeWhole, flat_from}
-use Rattle.ell_cards.specs.Guards.{TellsOf, CardIsOver, MayAnswer, TakesBy, KnowsWhere, MayLookDown, Wants, MayClaim, IsFilled}
+use Rattle.ell_runs.specs.Plans.{TablePlan, flat_from}
+use Rattle.ell_runs.specs.Views.{Has, latest, earlier, IsTold, HasCome, HasComeWhole}
+use Rattle.ell_runs.specs.Guards.{TellsOf, CardIsOver, MayAnswer, TakesBy, KnowsWhere, MayLookDown, Wants, MayClaim, IsFilled}
 use Rattle.ell_cards.specs.Shown.{shown_seen, shown_glance, shown_word, shown, StoresAreWhole, IsWholeFor}
 use Rattle.ell_cards.proofs.lemmas.shown.CutWords.{node_place}
 use Rattle.ell_cards.proofs.lemmas.shown.ShownTold.{was_key, was_value, was_info}
 use Rattle.ell_cards.proofs.lemmas.shown.ShownWords.{stored_at_shown, planned_shown}
-use Rattle.ell_cards.specs.declared.call.NewNode.{NewNode}
+use Rattle.ell_runs.specs.declared.call.NewNode.{NewNode}
 
 -- a node that a search has seen is shown of one that it has seen whole
 pub record WasSeen (o : Option Seen) (seen : Seen) : Type 0 where

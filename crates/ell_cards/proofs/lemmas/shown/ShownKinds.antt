@@ -4,8 +4,8 @@ use Rattle.ell_word.specs.Word.{packed}
 use Rattle.ell_layout.specs.Cards.{iflag, dflag}
 use Rattle.ell_layout.specs.declared.field.Field.{Field}
 use Rattle.ell_layout.specs.declared.field.Field.TheVariants as field
-use Rattle.ell_cards.specs.declared.call.Call.{Call}
-use Rattle.ell_cards.specs.declared.call.Call.TheVariants as call
+use Rattle.ell_runs.specs.declared.call.Call.{Call}
+use Rattle.ell_runs.specs.declared.call.Call.TheVariants as call
 use Rattle.ell_cards.specs.Shown.{IsWord, FieldIsWhole, CanBeShown, HasNoLink, CallsCanBeShown}
 use Rattle.ell_cards.proofs.lemmas.shown.CutWords.{compares_alike, links_alike}
 

@@ -3,13 +3,13 @@ use Rattle.std.proofs.Common.{◌≡◌, ℕ, Option, true, sym, ◌∙◌, subs
 use Rattle.ell_word.specs.Node.{card}
 use Rattle.ell_layout.specs.declared.field.Field.TheVariants as field
 use Rattle.ell_cards.specs.declared.view.Retired.{Retired}
-use Rattle.ell_cards.specs.declared.view.Slots.{Slots}
-use Rattle.ell_cards.specs.declared.view.Told.TheVariants.{Info}
-use Rattle.ell_cards.specs.declared.view.View.{View}
+use Rattle.ell_runs.specs.declared.view.Slots.{Slots}
+use Rattle.ell_runs.specs.declared.view.Told.TheVariants.{Info}
+use Rattle.ell_runs.specs.declared.view.View.{View}
 use Rattle.ell_cards.specs.Apart.{cut_node}
 use Rattle.ell_cards.specs.LettingGo.{PutIsRetired, CutIsRetired, IsRetired, MayLetGo}
 use Rattle.ell_cards.specs.LettingGo.IsRetired.{put, cut, backed}
-use Rattle.ell_cards.specs.Models.{IsTold}
+use Rattle.ell_runs.specs.Views.{IsTold}
 use Rattle.ell_cards.specs.Shown.{shown}
 use Rattle.ell_cards.specs.SlotWords.{has_slot_in}
 use Rattle.ell_cards.proofs.lemmas.shown.ShownDead.{place_whole}

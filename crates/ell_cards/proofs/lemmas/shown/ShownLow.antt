@@ -6,7 +6,7 @@ use Rattle.ell_core.specs.declared.view.Seen.{Seen}
 use Rattle.ell_word.specs.Link.{tag_unit}
 use Rattle.ell_layout.specs.declared.field.Field.{Field}
 use Rattle.ell_layout.specs.declared.field.Field.TheVariants as field
-use Rattle.ell_cards.specs.declared.view.View.{View}
+use Rattle.ell_runs.specs.declared.view.View.{View}
 use Rattle.ell_cards.specs.Apart.{cut_node, InfoIsLow, NamesLowBits}
 use Rattle.ell_cards.specs.Shown.{shown, shown_info, shown_seen}
 use Rattle.ell_cards.proofs.lemmas.shown.ShownTold.{was_met, was_info, was_frozen}

@@ -12,21 +12,22 @@ use Rattle.ell_layout.specs.declared.field.Field.{Field}
 use Rattle.ell_layout.specs.declared.field.Field.TheVariants as field
 use Rattle.ell_core.specs.declared.view.Seen.{Seen}
 use Rattle.ell_core.specs.acts.Searching.{gone_down}
-use Rattle.ell_cards.specs.declared.call.Call.TheVariants as call
-use Rattle.ell_cards.specs.declared.glance.Glance.{Glance}
-use Rattle.ell_cards.specs.declared.glance.Stretch.{Stretch}
-use Rattle.ell_cards.specs.declared.view.Told.{Told}
-use Rattle.ell_cards.specs.declared.view.Told.TheVariants.{Met, Depth, Key, Value, Info, Expects, Frozen}
-use Rattle.ell_cards.specs.declared.view.View.{View}
+use Rattle.ell_runs.specs.declared.call.Call.TheVariants as call
+use Rattle.ell_runs.specs.declared.glance.Glance.{Glance}
+use Rattle.ell_runs.specs.declared.glance.Stretch.{Stretch}
+use Rattle.ell_runs.specs.declared.view.Told.{Told}
+use Rattle.ell_runs.specs.declared.view.Told.TheVariants.{Met, Depth, Key, Info, Expects, Frozen}
+use Rattle.ell_runs.specs.declared.view.View.{View}
 use Rattle.ell_cards.specs.Apart.{cut_node, IsApart}
-use Rattle.ell_cards.specs.Depths.{depth_told, met_at}
-use Rattle.ell_cards.specs.Models.{TablePlan, IsTold, StandsAt}
-use Rattle.ell_cards.specs.Changes.{counted, forgotten, way_now, in_the_way, read_in_way, first_in_way, was_hindered, tries_hindered, given_up, at_rest, answered_ledger, answered_so, after_begin, after_again, after_leave, after_answer, after_upd, places_by, told_info, depth_there, knows_delete, is_this}
-use Rattle.ell_cards.specs.Calls.{after}
+use Rattle.ell_runs.specs.Depths.{depth_told, met_at}
+use Rattle.ell_runs.specs.Plans.{TablePlan}
+use Rattle.ell_runs.specs.Views.{IsTold, StandsAt}
+use Rattle.ell_runs.specs.Changes.{counted, forgotten, way_now, in_the_way, read_in_way, first_in_way, was_hindered, given_up, at_rest, after_begin, after_again, after_leave, after_answer, after_upd, places_by, told_info, depth_there, knows_delete, is_this}
+use Rattle.ell_runs.specs.Calls.{after}
 use Rattle.ell_cards.specs.Shown.{IsWord, cut_word, cut_field, shown_seen, shown_glance, shown_told, shown, FieldIsWhole}
 use Rattle.ell_cards.proofs.lemmas.shown.CutWords.{same_cut, cut_node_in, cut_tag_in, cut_same}
 use Rattle.ell_cards.proofs.lemmas.shown.ShownTold.{depth_shown, under_shown}
-use Rattle.ell_cards.proofs.lemmas.views.Depths.{grandparent_is}
+use Rattle.ell_runs.proofs.lemmas.views.Depths.{grandparent_is}
 
 -- what a search has read in the way is shown as it is
 read_shown : (o : Option Seen) → read_in_way (option_map shown_seen o) ≡ read_in_way o

@@ -4,8 +4,8 @@ use Rattle.ell_word.specs.Word.{packed}
 use Rattle.ell_layout.specs.declared.field.Field.TheVariants as field
 use Rattle.ell_core.specs.declared.exchange.Exchange.TheVariants as exchange
 use Rattle.ell_core.specs.declared.fact.Fact.TheVariants as fact
-use Rattle.ell_cards.specs.declared.call.Call.TheVariants as call
-use Rattle.ell_cards.specs.declared.view.Told.TheVariants.{Info}
+use Rattle.ell_runs.specs.declared.call.Call.TheVariants as call
+use Rattle.ell_runs.specs.declared.view.Told.TheVariants.{Info}
 use Rattle.ell_cards.specs.Shown.{StepsAreShown}
 use Rattle.ell_cards.proofs.lemmas.shown.ShownSearches.{again_shown, leave_shown, answer_shown, upd_shown, down_shown, next_shown, key_of_shown, value_of_shown, info_shown, frozen_child_shown, look_shown, look_down_shown}
 use Rattle.ell_cards.proofs.lemmas.shown.ShownChanges.{taught_shown, flag_shown, mark_shown}

@@ -16,15 +16,16 @@ use Rattle.ell_core.proofs.lemmas.tree.Blocks.{flat_by, block_past}
 use Rattle.ell_core.specs.declared.fact.Fact.{Fact}
 use Rattle.ell_core.specs.declared.fact.Fact.TheVariants as fact
 use Rattle.ell_core.specs.declared.view.Seen.{Seen}
-use Rattle.ell_cards.specs.declared.call.Call.TheVariants as call
-use Rattle.ell_cards.specs.declared.call.NewNode.{NewNode}
-use Rattle.ell_cards.specs.declared.view.View.{View}
-use Rattle.ell_cards.specs.declared.view.Told.TheVariants.{Met}
+use Rattle.ell_runs.specs.declared.call.Call.TheVariants as call
+use Rattle.ell_runs.specs.declared.call.NewNode.{NewNode}
+use Rattle.ell_runs.specs.declared.view.View.{View}
+use Rattle.ell_runs.specs.declared.view.Told.TheVariants.{Met}
 use Rattle.ell_cards.specs.Apart.{cut_node, IsApart}
-use Rattle.ell_cards.specs.Models.{TablePlan, flat_from, IsTold, stored_at}
-use Rattle.ell_cards.specs.Changes.{filling_for, tagged, expected_tag, value_told, with_fact, after_claim, after_flag, after_mark, is_mark_of, unmarking}
-use Rattle.ell_cards.specs.Calls.{after}
-use Rattle.ell_cards.specs.Guards.{Wants, MayClaim}
+use Rattle.ell_runs.specs.Plans.{TablePlan, flat_from}
+use Rattle.ell_runs.specs.Views.{IsTold, stored_at}
+use Rattle.ell_runs.specs.Changes.{filling_for, tagged, expected_tag, value_told, with_fact, after_claim, after_flag, after_mark, is_mark_of, unmarking}
+use Rattle.ell_runs.specs.Calls.{after}
+use Rattle.ell_runs.specs.Guards.{Wants, MayClaim}
 use Rattle.ell_cards.specs.Shown.{cut_word, cut_tag, shown_word, StoresAreWhole, IsWholeFor, StoresStayWhole}
 use Rattle.ell_cards.proofs.lemmas.shown.CutWords.{cut_linked}
 

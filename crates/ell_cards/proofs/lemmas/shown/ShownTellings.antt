@@ -9,18 +9,19 @@ use Rattle.ell_layout.specs.declared.field.Field.TheVariants as field
 use Rattle.ell_core.specs.declared.view.Seen.{Seen}
 use Rattle.ell_core.specs.state.Machine.{ledger_of, worker_of}
 use Rattle.ell_core.specs.statements.Effects.{AnswersAsMap}
-use Rattle.ell_cards.specs.declared.call.Call.TheVariants as call
-use Rattle.ell_cards.specs.declared.view.Told.TheVariants.{Met}
-use Rattle.ell_cards.specs.declared.view.View.{View}
+use Rattle.ell_runs.specs.declared.call.Call.TheVariants as call
+use Rattle.ell_runs.specs.declared.view.Told.TheVariants.{Met}
+use Rattle.ell_runs.specs.declared.view.View.{View}
 use Rattle.ell_cards.specs.Apart.{cut_node, IsApart}
-use Rattle.ell_cards.specs.Changes.{forgotten}
-use Rattle.ell_cards.specs.Depths.{depth_told}
-use Rattle.ell_cards.specs.Models.{TablePlan, flat_from, InTable, IsTold, StandsAt, EndWasUnknown}
-use Rattle.ell_cards.specs.Calls.{after, TellsKey, TellsNode, TellsLedgerValue}
+use Rattle.ell_runs.specs.Changes.{forgotten}
+use Rattle.ell_runs.specs.Depths.{depth_told}
+use Rattle.ell_runs.specs.Plans.{TablePlan, flat_from}
+use Rattle.ell_runs.specs.Views.{InTable, IsTold, StandsAt, EndWasUnknown}
+use Rattle.ell_runs.specs.Calls.{after, TellsKey, TellsNode, TellsLedgerValue}
 use Rattle.ell_cards.specs.Shown.{cut_word, cut_field, shown_seen, shown, TellingsAreShown}
 use Rattle.ell_cards.proofs.lemmas.shown.CutWords.{node_within, cut_node_in, cut_same, cut_within}
 use Rattle.ell_cards.proofs.lemmas.shown.ShownGuards.{was_stood, outer_whole, inner_whole, inner_cut}
-use Rattle.ell_cards.proofs.lemmas.views.Depths.{met_there}
+use Rattle.ell_runs.proofs.lemmas.views.Depths.{met_there}
 
 some_shown : (o : Option Seen) → o ≢ None → option_map shown_seen o ≢ None
 some_shown None is e = absurd (is refl)

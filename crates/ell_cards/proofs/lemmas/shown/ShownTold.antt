@@ -1,18 +1,14 @@
 -- What is shown of what a pass was told: the same, but for nodes and tags.
-use Rattle.std.proofs.Common.{◌≡◌, ℕ, ◌+◌, ◌%◌, ◌==◌, if◌then◌else◌, max, map, Bool, true, false, eqb-true, Option, Some, None, List, [], ◌∷◌, refl, sym, ap, ◌∙◌, subst}
-use Rattle.std.specs.Option.{option_map, option_or, option_and_then}
-use Rattle.ell_ops.specs.declared.op.Op.{Op}
-use Rattle.ell_ops.specs.declared.op.Op.TheVariants.{Delete}
-use Rattle.ell_ops.specs.declared.reply.Reply.{Reply}
-use Rattle.ell_ops.specs.declared.reply.Reply.TheVariants.{Yes}
+use Rattle.std.proofs.Common.{◌≡◌, ℕ, ◌+◌, ◌%◌, ◌==◌, if◌then◌else◌, max, map, Bool, true, false, Option, Some, None, List, [], ◌∷◌, refl, sym, ap, ◌∙◌, subst}
+use Rattle.std.specs.Option.{option_map}
 use Rattle.ell_layout.specs.declared.field.Field.{Field}
 use Rattle.ell_layout.specs.declared.field.Field.TheVariants as field
-use Rattle.ell_cards.specs.declared.view.Told.{Told}
-use Rattle.ell_cards.specs.declared.view.Told.TheVariants.{Met, Depth, Key, Value, Info, Expects, Frozen}
+use Rattle.ell_runs.specs.declared.view.Told.{Told}
+use Rattle.ell_runs.specs.declared.view.Told.TheVariants.{Met, Depth, Key, Value, Info, Expects, Frozen}
 use Rattle.ell_cards.specs.Apart.{cut_node}
-use Rattle.ell_cards.specs.Models.{Has, latest, earlier}
-use Rattle.ell_cards.specs.Depths.{depth_told, depth_below, depth_under, tells_grandparent_of}
-use Rattle.ell_cards.specs.Changes.{told_value, value_told}
+use Rattle.ell_runs.specs.Views.{Has, latest, earlier}
+use Rattle.ell_runs.specs.Depths.{depth_told, depth_below, depth_under, tells_grandparent_of}
+use Rattle.ell_runs.specs.Changes.{told_value, value_told}
 use Rattle.ell_cards.specs.Shown.{cut_tag, shown_info, shown_told}
 use Rattle.ell_cards.proofs.lemmas.shown.CutWords.{node_place, same_cut}
 

@@ -7,25 +7,27 @@ use Rattle.ell_layout.specs.declared.field.Field.TheVariants as field
 use Rattle.ell_layout.specs.Cards.{stored}
 use Rattle.ell_layout.specs.Words.{has_block}
 use Rattle.ell_core.specs.declared.view.Seen.{Seen}
-use Rattle.ell_cards.specs.declared.glance.Glance.{Glance}
-use Rattle.ell_cards.specs.declared.view.Told.{Told}
-use Rattle.ell_cards.specs.declared.view.Told.TheVariants.{Met, Depth, Key, Value, Info, Expects, Frozen}
-use Rattle.ell_cards.specs.declared.view.View.{View}
+use Rattle.ell_runs.specs.declared.glance.Glance.{Glance}
+use Rattle.ell_runs.specs.declared.view.Told.{Told}
+use Rattle.ell_runs.specs.declared.view.Told.TheVariants.{Met, Depth, Key, Value, Info, Expects, Frozen}
+use Rattle.ell_runs.specs.declared.view.View.{View}
 use Rattle.ell_cards.specs.Apart.{cut_node, IsApart}
-use Rattle.ell_cards.specs.Models.{TablePlan, flat_from, IsTold, stored_at}
-use Rattle.ell_cards.specs.Depths.{deepest, IsShallow}
-use Rattle.ell_cards.specs.Naming.{InfoIsNamed, EntryIsNamed, EntryIsPlaced, SeenIsNamed, IsNamed, IsPlaced}
+use Rattle.ell_runs.specs.Plans.{TablePlan, flat_from}
+use Rattle.ell_runs.specs.Views.{IsTold, stored_at}
+use Rattle.ell_runs.specs.Depths.{deepest, IsShallow}
+use Rattle.ell_runs.specs.Naming.{InfoIsNamed, EntryIsNamed, SeenIsNamed, IsNamed}
+use Rattle.ell_cards.specs.InSlots.{EntryIsPlaced, IsPlaced}
 use Rattle.ell_cards.specs.SlotWords.{slot_of}
-use Rattle.ell_cards.specs.Looking.{HasFound, HasFoundBetween, HasMissed, LacksBetween, TellsBetween, KeysAreFixed, ReadsItsOwn, MissesItsOwn}
-use Rattle.ell_cards.specs.Periods.{IsOfRoot, IsAtRest}
+use Rattle.ell_runs.specs.Looking.{HasFound, HasFoundBetween, HasMissed, LacksBetween, TellsBetween, KeysAreFixed, ReadsItsOwn, MissesItsOwn}
+use Rattle.ell_runs.specs.Touching.{IsOfRoot, IsAtRest}
 use Rattle.ell_cards.specs.Shown.{shown_seen, shown_glance, shown_info, shown_told, shown, StoresAreWhole, HandoversAreShown}
 use Rattle.ell_cards.specs.ShownTakings.{TakingsAreShown}
 use Rattle.ell_cards.proofs.lemmas.shown.CutWords.{tag_within, node_within, node_slot}
-use Rattle.ell_cards.proofs.lemmas.shown.ShownTold.{shown_has, was_told, was_depth, was_key, was_value, was_info}
+use Rattle.ell_cards.proofs.lemmas.shown.ShownTold.{shown_has, was_told, was_depth, was_key}
 use Rattle.ell_cards.proofs.lemmas.shown.ShownGuards.{was_seen, was_stood, outer_whole, inner_whole, met_key, met_value, tells_whole, come_whole, come_all_whole}
 use Rattle.ell_cards.proofs.lemmas.shown.ShownSteps.{steps_are_shown}
 use Rattle.ell_cards.proofs.lemmas.shown.ShownTellings.{tellings_are_shown}
-use Rattle.ell_cards.proofs.lemmas.views.Depths.{depth_at_least, depth_at_most}
+use Rattle.ell_runs.proofs.lemmas.views.Depths.{depth_at_least, depth_at_most}
 
 -- a card whose number is no more than one is so of a node that is cut
 card_within : (last x : ℕ) → card x ≤ last → card (cut_node x) ≤ last

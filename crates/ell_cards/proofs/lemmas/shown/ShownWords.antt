@@ -12,16 +12,17 @@ use Rattle.ell_layout.specs.Cards.{clean, stored, tagged_for, left_of_card, righ
 use Rattle.ell_layout.proofs.lemmas.Listed.{same_place-field}
 use Rattle.ell_core.specs.declared.view.Seen.{Seen}
 use Rattle.ell_core.specs.statements.Told.{is_fixed}
-use Rattle.ell_cards.specs.declared.view.Told.{Told}
-use Rattle.ell_cards.specs.declared.view.Told.TheVariants.{Value, Info}
-use Rattle.ell_cards.specs.declared.view.View.{View}
+use Rattle.ell_runs.specs.declared.view.Told.{Told}
+use Rattle.ell_runs.specs.declared.view.Told.TheVariants.{Value, Info}
+use Rattle.ell_runs.specs.declared.view.View.{View}
 use Rattle.ell_cards.specs.Apart.{cut_node, IsApart}
-use Rattle.ell_cards.specs.Models.{TablePlan, stored_at}
-use Rattle.ell_cards.specs.Changes.{filling_for, filling_of, tagged, tag_of_claim, expected_tag, told_filling, value_told}
+use Rattle.ell_runs.specs.Plans.{TablePlan}
+use Rattle.ell_runs.specs.Views.{stored_at}
+use Rattle.ell_runs.specs.Changes.{filling_for, filling_of, tagged, tag_of_claim, expected_tag, told_filling, value_told}
 use Rattle.ell_cards.specs.Shown.{cut_tag, shown_info, shown_seen, shown_told, shown_word, shown_words, shown}
 use Rattle.ell_cards.proofs.lemmas.shown.CutWords.{cut_linked, node_again, node_place, tag_again}
 use Rattle.ell_cards.proofs.lemmas.shown.ShownTold.{value_shown}
-use Rattle.ell_cards.specs.declared.call.NewNode.{NewNode}
+use Rattle.ell_runs.specs.declared.call.NewNode.{NewNode}
 
 -- no word is shown as no word
 nothing_shown : (f : Field) → 0 ≡ shown_word f 0

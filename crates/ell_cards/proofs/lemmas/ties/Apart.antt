@@ -6,25 +6,24 @@ use mathlib.Core.Option.{some}
 use lib.ListN.{get_elem?}
 use Rattle.ell_word.specs.Node.{card, greatest_card, turn_size}
 use Rattle.ell_layout.specs.Words.{has_block}
-use Rattle.ell_core.specs.history.Stages.{Born}
-use Rattle.ell_cards.specs.declared.call.Call.TheVariants as call
+use Rattle.ell_runs.specs.declared.call.Call.TheVariants as call
 use Rattle.ell_cards.specs.declared.view.Known.{Known}
-use Rattle.ell_cards.specs.declared.view.Slots.{Slots}
-use Rattle.ell_cards.specs.declared.view.Told.TheVariants.{Met}
-use Rattle.ell_cards.specs.declared.view.View.{View}
+use Rattle.ell_runs.specs.declared.view.Slots.{Slots}
+use Rattle.ell_runs.specs.declared.view.Told.TheVariants.{Met}
+use Rattle.ell_runs.specs.declared.view.View.{View}
 use Rattle.ell_cards.specs.Apart.{cut_node, IsApart}
-use Rattle.ell_cards.specs.Machines.{HasMachine}
-use Rattle.ell_cards.specs.Models.{TablePlan, IsTold, flat_from}
+use Rattle.ell_runs.specs.Machines.{HasMachine}
+use Rattle.ell_runs.specs.Plans.{TablePlan, flat_from}
+use Rattle.ell_runs.specs.Views.{IsTold}
 use Rattle.ell_cards.specs.Periods.{WholeState}
 use Rattle.ell_cards.specs.SlotWords.{has_slot_in, slot_of, turn_of, turns_told_apart}
-use Rattle.ell_cards.specs.Starts.{IsReached, MayStart, SlotsFit}
-use Rattle.ell_cards.specs.States.{TableState}
+use Rattle.ell_runs.specs.Starts.{IsReached, MayStart, SlotsFit}
+use Rattle.ell_runs.specs.States.{TableState}
 use Rattle.ell_cards.specs.Tied.{HasWon, IsTied, LiesThere}
-use Rattle.ell_cards.proofs.lemmas.runs.Named.{passes_name_met}
-use Rattle.ell_cards.proofs.lemmas.runs.Reaching.{reached_kept}
-use Rattle.ell_cards.proofs.lemmas.seats.Named.{kept_named}
+use Rattle.ell_runs.proofs.lemmas.runs.Named.{passes_name_met}
+use Rattle.ell_runs.proofs.lemmas.runs.Reaching.{reached_kept}
+use Rattle.ell_runs.proofs.lemmas.seats.Named.{kept_named}
 use Rattle.ell_cards.proofs.lemmas.ties.Touched.{IsReady, touched_lies, touched_won}
-use Rattle.ell_cards.proofs.lemmas.ties.Winning.{born_won}
 use Rattle.ell_cards.proofs.lemmas.words.Slotted.{turn_apart}
 
 -- of two nodes that are cut to the same the cards have one slot, and the nodes one place there

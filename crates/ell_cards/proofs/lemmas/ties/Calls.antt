@@ -15,29 +15,31 @@ use Rattle.ell_core.specs.declared.fact.Fact.{Fact}
 use Rattle.ell_core.specs.declared.fact.Fact.TheVariants as fact
 use Rattle.ell_core.specs.history.Stages.{Stages}
 use Rattle.ell_core.proofs.lemmas.outcomes.Decide.{some_not_none}
-use Rattle.ell_cards.specs.declared.call.Call.{Call}
-use Rattle.ell_cards.specs.declared.call.Call.TheVariants as call
-use Rattle.ell_cards.specs.declared.call.NewNode.{NewNode}
+use Rattle.ell_runs.specs.declared.call.Call.{Call}
+use Rattle.ell_runs.specs.declared.call.Call.TheVariants as call
+use Rattle.ell_runs.specs.declared.call.NewNode.{NewNode}
 use Rattle.ell_cards.specs.declared.view.Known.{Known}
-use Rattle.ell_cards.specs.declared.view.Slots.{Slots}
-use Rattle.ell_cards.specs.declared.view.View.{View}
-use Rattle.ell_cards.specs.Calls.{word_of, atomic_of, left_by, after, May, slot_address, place_of}
-use Rattle.ell_cards.specs.Changes.{after_claim, after_flag, after_mark, is_mark_of, with_fact, unmarking}
-use Rattle.ell_cards.specs.Models.{TablePlan, Has, latest, earlier}
+use Rattle.ell_runs.specs.declared.view.Slots.{Slots}
+use Rattle.ell_runs.specs.declared.view.View.{View}
+use Rattle.ell_runs.specs.Calls.{word_of, atomic_of, left_by, after, May}
+use Rattle.ell_cards.specs.Addresses.{slot_address, place_of}
+use Rattle.ell_runs.specs.Changes.{after_claim, after_flag, after_mark, is_mark_of, with_fact, unmarking}
+use Rattle.ell_runs.specs.Plans.{TablePlan}
+use Rattle.ell_runs.specs.Views.{Has, latest, earlier}
 use Rattle.ell_cards.specs.Periods.{WholeState}
-use Rattle.ell_cards.specs.Sayings.{says}
+use Rattle.ell_runs.specs.Sayings.{says}
 use Rattle.ell_cards.specs.Shown.{cut_field, cut_by}
 use Rattle.ell_cards.specs.SlotWords.{slot_of}
-use Rattle.ell_cards.specs.States.{TableState}
-use Rattle.ell_cards.specs.Holding.{HoldsWaiting}
+use Rattle.ell_runs.specs.States.{TableState}
+use Rattle.ell_runs.specs.Holding.{HoldsWaiting}
 use Rattle.ell_cards.specs.Tied.{LiesThere, HasWon, HasStored, HasStoredAll, IsKept, IsTied, MayInMemory, FlagsCard}
 use Rattle.ell_cards.specs.Ties.{card_touched, TouchesTied}
 use Rattle.ell_cards.specs.Tied.IsKept.{won, stored}
-use Rattle.ell_cards.specs.Touching.{touched_by}
-use Rattle.ell_cards.specs.Turns.{found_by, view_after, state_after}
-use Rattle.ell_cards.proofs.lemmas.runs.Met.{some_same}
+use Rattle.ell_runs.specs.Touching.{touched_by}
+use Rattle.ell_runs.specs.Turns.{found_by, view_after, state_after}
+use Rattle.ell_runs.proofs.lemmas.runs.Met.{some_same}
 use Rattle.ell_cards.proofs.lemmas.shown.CutWords.{cut_same}
-use Rattle.ell_cards.proofs.lemmas.whole.Rests.{has_none}
+use Rattle.ell_runs.proofs.lemmas.runs.Rests.{has_none}
 use Rattle.ell_cards.proofs.lemmas.ties.Touched.{spots, no_claim, no_flat}
 use Rattle.ell_cards.proofs.lemmas.ties.Winning.{flag_says}
 

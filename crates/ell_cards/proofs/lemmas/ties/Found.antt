@@ -1,5 +1,5 @@
 -- The node to which a child word leads lies in its slot, if the word is of a node that a ready pass has met.
-use Rattle.std.proofs.Common.{◌≡◌, ◌≢◌, ℕ, ◌%◌, ◌<◌, inl, inr, Bool, true, false, Some, None, ◌∷◌, refl, sym, ap, ◌∙◌, subst, arith}
+use Rattle.std.proofs.Common.{◌≡◌, ℕ, ◌%◌, inl, inr, Bool, true, false, Some, None, ◌∷◌, refl, sym, ap, ◌∙◌, subst, arith}
 use mathlib.Core.Option.{some}
 use lib.ListN.{get_elem?}
 use Rattle.ell_word.specs.declared.link.Link.{Link}
@@ -9,26 +9,27 @@ use Rattle.ell_core.specs.history.Invariant.{Invariant}
 use Rattle.ell_core.specs.history.Stages.{Stages, Born}
 use Rattle.ell_core.specs.state.Machine.{Machine}
 use Rattle.ell_cards.specs.declared.view.Known.{Known}
-use Rattle.ell_cards.specs.declared.view.Slots.{Slots}
-use Rattle.ell_cards.specs.declared.view.Told.TheVariants.{Met}
-use Rattle.ell_cards.specs.declared.view.View.{View}
+use Rattle.ell_runs.specs.declared.view.Slots.{Slots}
+use Rattle.ell_runs.specs.declared.view.Told.TheVariants.{Met}
+use Rattle.ell_runs.specs.declared.view.View.{View}
 use Rattle.ell_cards.specs.Ages.{IsOut, is_dead, is_aside, is_beyond, AreDead, ForgotWhen}
 use Rattle.ell_cards.specs.Apart.{cut_node, IsToldApart}
-use Rattle.ell_cards.specs.Laws.{machine_of_table}
-use Rattle.ell_cards.specs.Machines.{HasMachine}
-use Rattle.ell_cards.specs.Models.{TablePlan, IsTold, flat_from}
+use Rattle.ell_runs.specs.Laws.{machine_of_table}
+use Rattle.ell_runs.specs.Machines.{HasMachine}
+use Rattle.ell_runs.specs.Plans.{TablePlan, flat_from}
+use Rattle.ell_runs.specs.Views.{IsTold}
 use Rattle.ell_cards.specs.Periods.{WholeState}
-use Rattle.ell_cards.specs.Starts.{IsReached}
-use Rattle.ell_cards.specs.States.{TableState}
+use Rattle.ell_runs.specs.Starts.{IsReached}
+use Rattle.ell_runs.specs.States.{TableState}
 use Rattle.ell_cards.specs.Tied.{HasWon, IsTied, LiesThere}
 use Rattle.ell_cards.specs.Ties.{child_now}
-use Rattle.ell_cards.specs.Turns.{Makes}
+use Rattle.ell_runs.specs.Turns.{Makes}
 use Rattle.ell_grace.proofs.lemmas.dead.Runs.{uses_begin}
-use Rattle.ell_cards.proofs.lemmas.runs.Alive.{used, was, not_dead}
-use Rattle.ell_cards.proofs.lemmas.runs.Aside.{aside_not_won, aside_in_run}
-use Rattle.ell_cards.proofs.lemmas.runs.Reaching.{reached_kept}
-use Rattle.ell_cards.proofs.lemmas.runs.Touching.{Still, still_from, root_since}
-use Rattle.ell_cards.proofs.lemmas.stepping.Looks.{child_born, child_read}
+use Rattle.ell_runs.proofs.lemmas.runs.Alive.{used, was, not_dead}
+use Rattle.ell_cards.proofs.lemmas.ties.Aside.{aside_not_won, aside_in_run}
+use Rattle.ell_runs.proofs.lemmas.runs.Reaching.{reached_kept}
+use Rattle.ell_runs.proofs.lemmas.runs.Touching.{Still, still_from, root_since}
+use Rattle.ell_runs.proofs.lemmas.stepping.Looks.{child_born, child_read}
 use Rattle.ell_cards.proofs.lemmas.ties.Apart.{few_uncut, lying_apart, lying_block, met_lies, met_uncut, plain_few}
 use Rattle.ell_cards.proofs.lemmas.ties.Touched.{IsReady, claimed_within}
 use Rattle.ell_cards.proofs.lemmas.ties.Winning.{born_won}

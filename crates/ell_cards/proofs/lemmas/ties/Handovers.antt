@@ -6,14 +6,15 @@ use lib.ListN.{get_elem?}
 use Rattle.atomic_table.proofs.Lists.{at_set}
 use Rattle.ell_cards.specs.declared.view.Known.{Known}
 use Rattle.ell_core.proofs.lemmas.outcomes.Decide.{some_not_none}
-use Rattle.ell_cards.specs.declared.view.Slots.{Slots}
-use Rattle.ell_cards.specs.Changes.{left_view, right_view, joined_view, spent_view}
-use Rattle.ell_cards.specs.Models.{TablePlan, IsFree, MayPart}
+use Rattle.ell_runs.specs.declared.view.Slots.{Slots}
+use Rattle.ell_runs.specs.Changes.{left_view, right_view, joined_view, spent_view}
+use Rattle.ell_runs.specs.Plans.{TablePlan}
+use Rattle.ell_runs.specs.Views.{IsFree, MayPart}
 use Rattle.ell_cards.specs.Periods.{WholeState}
-use Rattle.ell_cards.specs.States.{TableState}
+use Rattle.ell_runs.specs.States.{TableState}
 use Rattle.ell_cards.specs.Tied.{IsTied}
 use Rattle.ell_cards.specs.Ties.{IsTiedByAges, left_known, right_known, SplitsKeepTies, JoinsKeepTies}
-use Rattle.ell_cards.specs.Turns.{Turn, TableTurns, Splits, Joins, state_split, state_joined}
+use Rattle.ell_runs.specs.Turns.{Turn, TableTurns, Splits, Joins, state_split, state_joined}
 use Rattle.ell_cards.specs.Whole.{joined_known, spent_known}
 use Rattle.ell_cards.proofs.lemmas.whole.Ages.{AgesOn}
 use Rattle.ell_cards.proofs.lemmas.whole.Handovers.{at_end, ages_after_split, ages_after_join}

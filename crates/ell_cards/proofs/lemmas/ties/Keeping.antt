@@ -3,26 +3,28 @@ use Rattle.std.proofs.Common.{◌⊎◌, ℕ, Bool, List, set, inl, inr, refl, �
 use Rattle.ell_word.specs.Node.{turn_size}
 use mathlib.Core.Option.{Option as Maybe, some}
 use Rattle.ell_cards.specs.declared.view.Known.{Known}
-use Rattle.ell_cards.specs.declared.view.Slots.{Slots}
+use Rattle.ell_runs.specs.declared.view.Slots.{Slots}
 use Rattle.ell_cards.specs.Ages.{AgesAreSound}
-use Rattle.ell_cards.specs.Calls.{atomic_of, left_by, place_of, May}
-use Rattle.ell_cards.specs.Models.{TablePlan}
+use Rattle.ell_runs.specs.Calls.{atomic_of, left_by, May}
+use Rattle.ell_cards.specs.Addresses.{place_of}
+use Rattle.ell_runs.specs.Plans.{TablePlan}
 use Rattle.ell_cards.specs.PeriodLaws.{IsInPeriod}
-use Rattle.ell_cards.specs.Periods.{WholeState, IsAtRest}
+use Rattle.ell_cards.specs.Periods.{WholeState}
+use Rattle.ell_runs.specs.Touching.{IsAtRest}
 use Rattle.ell_cards.specs.Shown.{cut_by}
-use Rattle.ell_cards.specs.States.{TableState}
+use Rattle.ell_runs.specs.States.{TableState}
 use Rattle.ell_cards.specs.Tied.{IsTied, MayInMemory}
 use Rattle.ell_cards.specs.Ties.{TouchesTied, memory_after, CallsKeepTies, IsTiedByAges}
-use Rattle.ell_cards.specs.Turns.{Makes, TableTurns, found_by, state_after}
-use Rattle.ell_cards.proofs.lemmas.runs.TurnsOfRuns.{steps_stay_inside}
+use Rattle.ell_runs.specs.Turns.{Makes, TableTurns, found_by, state_after}
+use Rattle.ell_runs.proofs.lemmas.runs.TurnsOfRuns.{steps_stay_inside}
 use Rattle.ell_cards.proofs.lemmas.whole.Ages.{AgesOn, ages_after_call}
 use Rattle.ell_cards.proofs.lemmas.whole.Trees.{slots_stay}
 use Rattle.ell_cards.proofs.lemmas.ties.Winning.{won_by_call, says_before, flag_kind}
 use Rattle.ell_cards.proofs.lemmas.ties.Touched.{IsReady, claim_is_word, touched_tied}
 use Rattle.ell_cards.proofs.lemmas.ties.Calls.{tie_after_call}
-use Rattle.ell_cards.specs.Starts.{IsReached}
+use Rattle.ell_runs.specs.Starts.{IsReached}
 use Rattle.ell_layout.specs.Layout.{table_size}
-use Rattle.ell_cards.specs.declared.call.Call.{Call}
+use Rattle.ell_runs.specs.declared.call.Call.{Call}
 use lib.ListN.{get_elem?}
 
 -- a pass that is in a period, or at rest, is ready

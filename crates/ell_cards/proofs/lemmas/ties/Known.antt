@@ -13,19 +13,20 @@ use Rattle.ell_core.specs.declared.exchange.Exchange.TheVariants as exchange
 use Rattle.ell_core.specs.declared.fact.Fact.{Fact}
 use Rattle.ell_core.specs.declared.fact.Fact.TheVariants as fact
 use Rattle.ell_core.specs.state.Facts.{known_of, same_fact}
-use Rattle.ell_cards.specs.declared.call.Call.{Call}
-use Rattle.ell_cards.specs.declared.call.Call.TheVariants as call
-use Rattle.ell_cards.specs.declared.call.NewNode.{NewNode}
-use Rattle.ell_cards.specs.declared.view.View.{View}
-use Rattle.ell_cards.specs.Calls.{after}
-use Rattle.ell_cards.specs.Changes.{after_claim, after_flag, after_mark, is_mark_of, with_fact, unmarking, if_won, left_view, right_view, joined_view, spent_view}
-use Rattle.ell_cards.specs.Models.{TablePlan, Knows}
-use Rattle.ell_cards.specs.States.{TableState}
-use Rattle.ell_cards.specs.TurnEffects.{turn_wins, run_wins}
-use Rattle.ell_cards.specs.Turns.{Turn, Makes, Splits, Joins, TableTurns, TableRun, found_by}
-use Rattle.ell_cards.proofs.lemmas.runs.Won.{number, one, count, times, won_by, other_kind, turn_counts, count_append}
-use Rattle.ell_cards.proofs.lemmas.seats.Seats.{set_there}
-use Rattle.ell_cards.proofs.lemmas.views.Facts.{knows_new, knows_more, facts_by_more}
+use Rattle.ell_runs.specs.declared.call.Call.{Call}
+use Rattle.ell_runs.specs.declared.call.Call.TheVariants as call
+use Rattle.ell_runs.specs.declared.call.NewNode.{NewNode}
+use Rattle.ell_runs.specs.declared.view.View.{View}
+use Rattle.ell_runs.specs.Calls.{after}
+use Rattle.ell_runs.specs.Changes.{after_claim, after_flag, after_mark, is_mark_of, with_fact, unmarking, if_won, left_view, right_view, joined_view, spent_view}
+use Rattle.ell_runs.specs.Plans.{TablePlan}
+use Rattle.ell_runs.specs.Views.{Knows}
+use Rattle.ell_runs.specs.States.{TableState}
+use Rattle.ell_runs.specs.TurnEffects.{turn_wins, run_wins}
+use Rattle.ell_runs.specs.Turns.{Turn, Makes, Splits, Joins, TableTurns, TableRun, found_by}
+use Rattle.ell_runs.proofs.lemmas.runs.Won.{number, one, count, times, won_by, other_kind, turn_counts, count_append}
+use Rattle.ell_runs.proofs.lemmas.seats.Seats.{set_there}
+use Rattle.ell_runs.proofs.lemmas.views.Facts.{knows_new, knows_more, facts_by_more}
 
 -- what a claim, a flag and a mark, won or lost, leave of what was known
 claim_knows : (b : Bool) (c : ℕ) (q : NewNode) (v : View) (f : Fact) → Knows v f → Knows (after_claim b c q v) f
@@ -79,7 +80,7 @@ pub record IsKnown (s : TableState) (f : Fact) : Type 0 where
 
 -- so it does where another view is in a seat that knows no less
 known_on : (s : TableState) (words : List ℕ) (id : ℕ) (v w : View) → get_elem? s.views id ≡ some v → (f : Fact) → (Knows v f → Knows w f)
-    → IsKnown s f → IsKnown (record { words = words; homes = s.homes; views = set s.views id w }) f
+    → IsKnown s f → IsKnown (record { words = words; views = set s.views id w }) f
 known_on s words id v w here f more h = elim (cases_eq h.seat id) [
   | inl e ↦ record {
     seat = id;
@@ -116,8 +117,8 @@ module _ (plan : TablePlan) (f : Fact) where
       both : View
       both = joined_view v w
 
-      joined : IsKnown (record { words = s.words; homes = s.homes; views = set s.views id both }) f
-          → IsKnown (record { words = s.words; homes = s.homes; views = set (set s.views id both) other spent_view }) f
+      joined : IsKnown (record { words = s.words; views = set s.views id both }) f
+          → IsKnown (record { words = s.words; views = set (set s.views id both) other spent_view }) f
       joined on = elim (cases_eq on.seat other) [
         | inl e ↦ record {
           seat = id;

@@ -7,15 +7,15 @@ use Rattle.ell_layout.specs.declared.field.Field.TheVariants as field
 use Rattle.ell_core.specs.declared.fact.Fact.TheVariants as fact
 use Rattle.ell_core.specs.history.Stages.{Stage, Born, delete_over, is_backed}
 use Rattle.ell_core.proofs.lemmas.stages.Order.{insert_over-changed, changed-insert, over-delete}
-use Rattle.ell_cards.specs.declared.view.View.{View}
-use Rattle.ell_cards.specs.Dead.{KnowsDead}
-use Rattle.ell_cards.specs.Machines.{HasMachine}
-use Rattle.ell_cards.specs.Models.{TablePlan}
-use Rattle.ell_cards.specs.States.{TableState}
+use Rattle.ell_runs.specs.declared.view.View.{View}
+use Rattle.ell_runs.specs.Dead.{KnowsDead}
+use Rattle.ell_runs.specs.Machines.{HasMachine}
+use Rattle.ell_runs.specs.Plans.{TablePlan}
+use Rattle.ell_runs.specs.States.{TableState}
 use Rattle.ell_cards.specs.Tied.{HasWon}
-use Rattle.ell_cards.specs.Touching.{KnowsTakenOut}
-use Rattle.ell_cards.proofs.lemmas.seats.Seats.{mine_sound}
-use Rattle.ell_cards.proofs.lemmas.stepping.Exchanges.{told_is}
+use Rattle.ell_runs.specs.Touching.{KnowsTakenOut}
+use Rattle.ell_runs.proofs.lemmas.seats.Seats.{mine_sound}
+use Rattle.ell_runs.proofs.lemmas.stepping.Exchanges.{told_is}
 use Rattle.ell_cards.proofs.lemmas.ties.Winning.{IsWonStage, born_won, changed_is_won}
 
 over_won : (s : Stage) → delete_over s ≡ true → IsWonStage s

@@ -19,35 +19,36 @@ use Rattle.ell_core.proofs.lemmas.stages.LaterKeys.{born_below}
 use Rattle.ell_grace.specs.Dead.{IsDead}
 use Rattle.ell_grace.specs.Tags.{HasTags, HasChanged}
 use Rattle.ell_grace.proofs.lemmas.dead.Out.{dead_ended}
-use Rattle.ell_cards.specs.declared.call.Call.{Call}
-use Rattle.ell_cards.specs.declared.call.Call.TheVariants as call
+use Rattle.ell_runs.specs.declared.call.Call.{Call}
+use Rattle.ell_runs.specs.declared.call.Call.TheVariants as call
 use Rattle.ell_cards.specs.declared.view.Known.{Known}
-use Rattle.ell_cards.specs.declared.view.Slots.{Slots}
-use Rattle.ell_cards.specs.declared.view.Told.TheVariants.{Info}
+use Rattle.ell_runs.specs.declared.view.Slots.{Slots}
+use Rattle.ell_runs.specs.declared.view.Told.TheVariants.{Info}
 use Rattle.ell_cards.specs.Ages.{is_dead, is_aside, is_beyond, ForgotWhen}
-use Rattle.ell_cards.specs.Aside.{IsAside}
-use Rattle.ell_cards.specs.Calls.{May, child_address}
-use Rattle.ell_cards.specs.Guards.{MayIChild, MayDChild}
-use Rattle.ell_cards.specs.Laws.{machine_of_table}
-use Rattle.ell_cards.specs.Machines.{HasMachine}
-use Rattle.ell_cards.specs.Models.{TablePlan}
+use Rattle.ell_runs.specs.Aside.{IsAside}
+use Rattle.ell_runs.specs.Calls.{May, child_address}
+use Rattle.ell_runs.specs.Guards.{MayIChild, MayDChild}
+use Rattle.ell_runs.specs.Laws.{machine_of_table}
+use Rattle.ell_runs.specs.Machines.{HasMachine}
+use Rattle.ell_runs.specs.Plans.{TablePlan}
 use Rattle.ell_cards.specs.PeriodLaws.{IsInPeriod}
-use Rattle.ell_cards.specs.Periods.{WholeState, IsAtRest}
+use Rattle.ell_cards.specs.Periods.{WholeState}
+use Rattle.ell_runs.specs.Touching.{IsAtRest}
 use Rattle.ell_cards.specs.Shown.{IsNear}
-use Rattle.ell_cards.specs.States.{TableState}
+use Rattle.ell_runs.specs.States.{TableState}
 use Rattle.ell_cards.specs.Tied.{LiesThere, HasWon}
 use Rattle.ell_cards.specs.Ties.{IsTiedByAges, ExpectsNear, ExchangesAreNear}
-use Rattle.ell_cards.specs.TurnEffects.{run_wins}
-use Rattle.ell_cards.specs.Turns.{Makes, found_by}
-use Rattle.ell_cards.proofs.lemmas.runs.Aside.{aside_in_run}
-use Rattle.ell_cards.proofs.lemmas.runs.GoingOn.{run_goes}
-use Rattle.ell_cards.proofs.lemmas.runs.TagsOfRuns.{tables_have_tags, exchanges_are_near}
-use Rattle.ell_cards.proofs.lemmas.runs.TagsOfRuns.{IsNear as IsNearSince}
-use Rattle.ell_cards.proofs.lemmas.runs.TagsOfRuns.{ExchangesAreNear as AreNearSince}
-use Rattle.ell_cards.proofs.lemmas.runs.Won.{count, count_append}
-use Rattle.ell_cards.proofs.lemmas.seats.Seats.{mine_sound}
-use Rattle.ell_cards.proofs.lemmas.stepping.Exchanges.{told_is}
-use Rattle.ell_cards.proofs.lemmas.stepping.Known.{insert_flagged, known_delete}
+use Rattle.ell_runs.specs.TurnEffects.{run_wins}
+use Rattle.ell_runs.specs.Turns.{Makes, found_by}
+use Rattle.ell_cards.proofs.lemmas.ties.Aside.{aside_in_run}
+use Rattle.ell_runs.proofs.lemmas.runs.GoingOn.{run_goes}
+use Rattle.ell_runs.proofs.lemmas.runs.TagsOfRuns.{tables_have_tags, exchanges_are_near}
+use Rattle.ell_runs.proofs.lemmas.runs.TagsOfRuns.{IsNear as IsNearSince}
+use Rattle.ell_runs.proofs.lemmas.runs.TagsOfRuns.{ExchangesAreNear as AreNearSince}
+use Rattle.ell_runs.proofs.lemmas.runs.Won.{count, count_append}
+use Rattle.ell_runs.proofs.lemmas.seats.Seats.{mine_sound}
+use Rattle.ell_runs.proofs.lemmas.stepping.Exchanges.{told_is}
+use Rattle.ell_runs.proofs.lemmas.stepping.Known.{insert_flagged, known_delete}
 use Rattle.ell_cards.proofs.lemmas.ties.Few.{few_in_slots}
 use Rattle.ell_cards.proofs.lemmas.ties.Known.{changes_are_known, cuts_are_known}
 use Rattle.ell_cards.proofs.lemmas.ties.Winning.{changed_is_won, cut_is_won}

@@ -13,27 +13,28 @@ use Rattle.ell_layout.specs.Words.{Words, words_of}
 use Rattle.ell_layout.proofs.lemmas.Listed.{listed_next, address_in_table, said_in_list}
 use Rattle.ell_core.proofs.lemmas.outcomes.Decide.{some_not_none}
 use Rattle.ell_cards.specs.declared.view.Known.{Known}
-use Rattle.ell_cards.specs.declared.view.Slots.{Slots}
+use Rattle.ell_runs.specs.declared.view.Slots.{Slots}
 use Rattle.ell_cards.specs.Ages.{AgesAreSound, HasPeriods}
-use Rattle.ell_cards.specs.Changes.{first_of}
-use Rattle.ell_cards.specs.Machines.{HasMachine}
-use Rattle.ell_cards.specs.Models.{TablePlan}
-use Rattle.ell_cards.specs.Periods.{WholeState, IsAtRest, AreOpeningWords, period_by, slot_word}
+use Rattle.ell_runs.specs.Changes.{first_of}
+use Rattle.ell_runs.specs.Machines.{HasMachine}
+use Rattle.ell_runs.specs.Plans.{TablePlan}
+use Rattle.ell_cards.specs.Periods.{WholeState, AreOpeningWords, period_by, slot_word}
+use Rattle.ell_runs.specs.Touching.{IsAtRest}
 use Rattle.ell_cards.specs.Apart.{cut_node}
 use Rattle.ell_cards.specs.Shown.{IsWord, cut_field, cut_word}
-use Rattle.ell_cards.specs.Sights.{no_sight}
+use Rattle.ell_runs.specs.Sights.{no_sight}
 use Rattle.ell_cards.specs.SlotWords.{slot_of, card_by, free_word, has_slot_in, is_noted, taken_word}
-use Rattle.ell_cards.specs.Starts.{MayStart, SlotsFit, IsReached}
-use Rattle.ell_cards.specs.RunLaws.{StartIsKept}
+use Rattle.ell_runs.specs.Starts.{MayStart, SlotsFit, IsReached}
+use Rattle.ell_runs.specs.RunLaws.{StartIsKept}
 use Rattle.ell_cards.specs.Leaks.{Kills, NothingLeaks}
-use Rattle.ell_cards.specs.States.{TableState}
+use Rattle.ell_runs.specs.States.{TableState}
 use Rattle.ell_cards.specs.Tied.{LiesThere, HasWon, IsKept, won, stored, IsTied}
 use Rattle.ell_cards.specs.Ties.{IsTiedByAges, OpeningsAreTied}
-use Rattle.ell_cards.proofs.lemmas.lifetimes.Openings.{start_next}
-use Rattle.ell_cards.proofs.lemmas.runs.Reaching.{reached_first, starts_first}
+use Rattle.ell_runs.proofs.lemmas.lifetimes.Openings.{start_next}
+use Rattle.ell_runs.proofs.lemmas.runs.Reaching.{reached_first, starts_first}
 use Rattle.ell_cards.proofs.lemmas.shown.CutWords.{cut_same}
-use Rattle.ell_cards.proofs.lemmas.runs.Starting.{starts_are_kept}
-use Rattle.ell_cards.proofs.lemmas.runs.Touching.{none_out}
+use Rattle.ell_runs.proofs.lemmas.runs.Starting.{starts_are_kept}
+use Rattle.ell_runs.proofs.lemmas.runs.Touching.{none_out}
 use Rattle.ell_cards.proofs.lemmas.ties.Winning.{ended_long, start_won}
 use Rattle.ell_cards.proofs.lemmas.words.NotedBits.{none_noted}
 use Rattle.ell_cards.proofs.lemmas.whole.Opens.{zeros_many, with_zeros, words_same, lies_opened, out_opened, lies_as_given, lies_at_home, lies_or_free, first_ages, first_periods}
@@ -139,7 +140,7 @@ module _ (plan : TablePlan) (s : Slots) (cards all : List ℕ) (may : MayStart p
   long = table_size plan.last_card - length cards
 
   abbrev pub tree_opened : TableState
-  tree_opened = opening (cards ++ replicate long 0) [] (first_of plan)
+  tree_opened = record { words = (cards ++ replicate long 0); views = first_of plan ∷ [] }
 
   abbrev pub opened : WholeState
   opened = opening all [] (record { tree = first_of plan; period = period_by (Some s); sight = no_sight })

@@ -11,11 +11,11 @@ use Rattle.ell_layout.proofs.lemmas.Listed.{address_in_table}
 use Rattle.ell_core.specs.history.Stages.{Stages}
 use Rattle.ell_cards.specs.declared.view.Known.{Known}
 use Rattle.ell_cards.specs.declared.view.Period.{Period}
-use Rattle.ell_cards.specs.declared.view.Sight.{Sight}
-use Rattle.ell_cards.specs.declared.view.Slots.{Slots}
+use Rattle.ell_runs.specs.declared.view.Sight.{Sight}
+use Rattle.ell_runs.specs.declared.view.Slots.{Slots}
 use Rattle.ell_cards.specs.Periods.{WholeState}
-use Rattle.ell_cards.specs.States.{TableState}
-use Rattle.ell_cards.specs.Holding.{HoldsWaiting}
+use Rattle.ell_runs.specs.States.{TableState}
+use Rattle.ell_runs.specs.Holding.{HoldsWaiting}
 use Rattle.ell_cards.specs.Tied.{LiesThere, HasWon, HasStored, IsKept, IsTied}
 use Rattle.ell_cards.specs.Ties.{PeriodsKeepTies}
 use Rattle.ell_cards.specs.Tied.IsKept.{won, stored}

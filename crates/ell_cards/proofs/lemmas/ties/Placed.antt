@@ -6,16 +6,16 @@ use Rattle.ell_word.specs.Node.{card}
 use Rattle.ell_core.specs.history.Stages.{Born}
 use Rattle.ell_core.specs.state.Machine.{Worker}
 use Rattle.ell_layout.specs.declared.field.Field.TheVariants as field
-use Rattle.ell_cards.specs.declared.view.Told.{Told}
-use Rattle.ell_cards.specs.declared.view.Told.TheVariants.{Met, Info}
-use Rattle.ell_cards.specs.declared.view.View.{View}
-use Rattle.ell_cards.specs.Machines.{EntryHolds, HasMachine}
-use Rattle.ell_cards.specs.Models.{TablePlan}
-use Rattle.ell_cards.specs.Naming.{EntryIsPlaced, IsPlaced}
+use Rattle.ell_runs.specs.declared.view.Told.{Told}
+use Rattle.ell_runs.specs.declared.view.Told.TheVariants.{Met, Info}
+use Rattle.ell_runs.specs.declared.view.View.{View}
+use Rattle.ell_runs.specs.Machines.{EntryHolds, HasMachine}
+use Rattle.ell_runs.specs.Plans.{TablePlan}
+use Rattle.ell_cards.specs.InSlots.{EntryIsPlaced, IsPlaced}
 use Rattle.ell_cards.specs.SlotWords.{slot_of}
-use Rattle.ell_cards.specs.States.{TableState}
+use Rattle.ell_runs.specs.States.{TableState}
 use Rattle.ell_cards.specs.Tied.{HasWon}
-use Rattle.ell_cards.proofs.lemmas.seats.Seats.{mine_is, relies, stands_born}
+use Rattle.ell_runs.proofs.lemmas.seats.Seats.{mine_is, relies, stands_born}
 use Rattle.ell_cards.proofs.lemmas.ties.Touched.{known}
 use Rattle.ell_cards.proofs.lemmas.ties.Winning.{born_won}
 

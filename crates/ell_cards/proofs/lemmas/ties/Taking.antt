@@ -15,15 +15,15 @@ use Rattle.ell_layout.proofs.lemmas.Listed.{address_in_table}
 use Rattle.ell_core.specs.history.Stages.{Stages}
 use Rattle.ell_cards.specs.declared.view.Known.{Known}
 use Rattle.ell_cards.specs.declared.view.Period.{Period}
-use Rattle.ell_cards.specs.declared.view.Slots.{Slots}
+use Rattle.ell_runs.specs.declared.view.Slots.{Slots}
 use Rattle.ell_cards.specs.Periods.{WholeState, slot_word}
 use Rattle.ell_cards.specs.Shown.{cut_field}
 use Rattle.ell_cards.specs.SlotWords.{has_slot_in, slot_of, turn_of, taken_word}
-use Rattle.ell_cards.specs.States.{TableState}
-use Rattle.ell_cards.specs.Holding.{HoldsWaiting}
+use Rattle.ell_runs.specs.States.{TableState}
+use Rattle.ell_runs.specs.Holding.{HoldsWaiting}
 use Rattle.ell_cards.specs.Tied.{LiesThere, HasWon, HasStored, IsKept, IsTied}
 use Rattle.ell_cards.specs.Tied.IsKept.{won, stored}
-use Rattle.ell_cards.proofs.lemmas.runs.Met.{some_same}
+use Rattle.ell_runs.proofs.lemmas.runs.Met.{some_same}
 use Rattle.ell_cards.proofs.lemmas.whole.Seats.{before_clock, clock_before_slots}
 use Rattle.ell_cards.proofs.lemmas.ties.Periods.{kept_of_period}
 

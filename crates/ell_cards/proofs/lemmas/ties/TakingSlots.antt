@@ -13,27 +13,27 @@ use Rattle.ell_core.specs.statements.Since.{has_ended}
 use Rattle.ell_core.specs.statements.Waiting.{IsUnflagged}
 use Rattle.ell_grace.specs.Dead.{IsDead}
 use Rattle.ell_grace.specs.Gone.{HasOuts}
-use Rattle.ell_cards.specs.Laws.{machine_of_table}
+use Rattle.ell_runs.specs.Laws.{machine_of_table}
 use Rattle.ell_grace.proofs.lemmas.dead.Out.{dead_ended}
 use Rattle.ell_layout.specs.Words.{put}
 use Rattle.ell_layout.proofs.lemmas.Writes.{put_other, put_same}
 use Rattle.ell_cards.specs.declared.view.Known.{Known}
 use Rattle.ell_cards.specs.declared.view.Period.{Period}
-use Rattle.ell_cards.specs.declared.view.Slots.{Slots}
-use Rattle.ell_cards.specs.declared.view.View.{View}
+use Rattle.ell_runs.specs.declared.view.Slots.{Slots}
+use Rattle.ell_runs.specs.declared.view.View.{View}
 use Rattle.ell_cards.specs.Ages.{IsOut, is_dead, is_aside, is_beyond, AreDead, AgesAreSound, IsNotedThere, RetiredStaysNoted}
 use Rattle.ell_cards.specs.CardNodes.{has_node, no_nodes}
 use Rattle.ell_cards.specs.Leaks.{Kills, NothingLeaks}
-use Rattle.ell_cards.specs.Machines.{HasMachine}
-use Rattle.ell_cards.specs.Models.{TablePlan}
+use Rattle.ell_runs.specs.Machines.{HasMachine}
+use Rattle.ell_runs.specs.Plans.{TablePlan}
 use Rattle.ell_cards.specs.Periods.{WholeState, slot_word, slots_size, after_taking}
 use Rattle.ell_cards.specs.SlotWords.{has_slot_in, slot_of, turn_of, is_noted, taken_word}
-use Rattle.ell_cards.specs.States.{TableState, seat_worker}
-use Rattle.ell_cards.specs.Holding.{HoldsWaiting}
+use Rattle.ell_runs.specs.States.{TableState, seat_worker}
+use Rattle.ell_runs.specs.Holding.{HoldsWaiting}
 use Rattle.ell_cards.specs.Tied.{IsTied}
 use Rattle.ell_cards.specs.Whole.{trees_of}
 use Rattle.ell_cards.specs.Ties.{IsTiedByAges, TakesKeepTies, memory_taken}
-use Rattle.ell_cards.proofs.lemmas.seats.Seats.{machine, mine_is, mine_sound}
+use Rattle.ell_runs.proofs.lemmas.seats.Seats.{machine, mine_is, mine_sound}
 use Rattle.ell_cards.proofs.lemmas.whole.Ages.{ages_of_period}
 use Rattle.ell_cards.proofs.lemmas.whole.Trees.{tree_at}
 use Rattle.ell_cards.proofs.lemmas.whole.Untouched.{root_lives}

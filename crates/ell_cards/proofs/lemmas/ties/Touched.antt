@@ -16,37 +16,40 @@ use Rattle.ell_core.proofs.lemmas.stages.Waiting.{waits-claimed}
 use Rattle.ell_core.specs.history.Stages.{Stages, Born, is_start, is_claimed, is_delete}
 use Rattle.ell_core.specs.state.Machine.{Worker, worker_of}
 use Rattle.ell_grace.specs.Dead.{IsDead, HasUses}
-use Rattle.ell_cards.specs.declared.call.Call.{Call}
-use Rattle.ell_cards.specs.declared.call.Call.TheVariants as call
+use Rattle.ell_runs.specs.declared.call.Call.{Call}
+use Rattle.ell_runs.specs.declared.call.Call.TheVariants as call
 use Rattle.ell_cards.specs.declared.view.Known.{Known}
-use Rattle.ell_cards.specs.declared.view.Slots.{Slots}
-use Rattle.ell_cards.specs.declared.view.Told.TheVariants.{Met}
-use Rattle.ell_cards.specs.declared.view.View.{View}
+use Rattle.ell_runs.specs.declared.view.Slots.{Slots}
+use Rattle.ell_runs.specs.declared.view.Told.TheVariants.{Met}
+use Rattle.ell_runs.specs.declared.view.View.{View}
 use Rattle.ell_cards.specs.Ages.{IsOut, is_dead, is_aside, is_beyond, ForgotWhen}
-use Rattle.ell_cards.specs.Aside.{IsAside, CallsTouchNoCardAside}
-use Rattle.ell_cards.specs.Calls.{word_of, May, slot_address, place_of}
-use Rattle.ell_cards.specs.Guards.{KnowsSaying}
-use Rattle.ell_cards.specs.Laws.{machine_of_table}
-use Rattle.ell_cards.specs.Machines.{HasMachine}
-use Rattle.ell_cards.specs.Models.{TablePlan, IsTold, KnowsCard}
-use Rattle.ell_cards.specs.Periods.{WholeState, IsAtRest}
-use Rattle.ell_cards.specs.Sayings.{says, put_says}
+use Rattle.ell_runs.specs.Aside.{IsAside, CallsTouchNoCardAside}
+use Rattle.ell_runs.specs.Calls.{word_of, May}
+use Rattle.ell_cards.specs.Addresses.{slot_address, place_of}
+use Rattle.ell_runs.specs.Guards.{KnowsSaying}
+use Rattle.ell_runs.specs.Laws.{machine_of_table}
+use Rattle.ell_runs.specs.Machines.{HasMachine}
+use Rattle.ell_runs.specs.Plans.{TablePlan}
+use Rattle.ell_runs.specs.Views.{IsTold, KnowsCard}
+use Rattle.ell_cards.specs.Periods.{WholeState}
+use Rattle.ell_runs.specs.Touching.{IsAtRest}
+use Rattle.ell_runs.specs.Sayings.{says, put_says}
 use Rattle.ell_cards.specs.Shown.{cut_word, cut_field, cut_by}
 use Rattle.ell_cards.specs.SlotWords.{slot_of}
-use Rattle.ell_cards.specs.Starts.{IsReached}
-use Rattle.ell_cards.specs.States.{TableState}
+use Rattle.ell_runs.specs.Starts.{IsReached}
+use Rattle.ell_runs.specs.States.{TableState}
 use Rattle.ell_cards.specs.Tied.{LiesThere, HasWon, IsTied, MayInMemory}
 use Rattle.ell_cards.specs.Ties.{card_touched, FindsTied, TouchesTied}
 use Rattle.ell_cards.specs.Tied.IsKept.{won}
-use Rattle.ell_cards.specs.Touching.{forgets, Touched, AtNode, OfCard, AtRoot, touched_by, IsTheRoots}
-use Rattle.ell_cards.specs.Turns.{Turn, Makes, CallIsMade, TableRun, found_by}
-use Rattle.ell_cards.proofs.lemmas.seats.Seats.{mine_is, mine_sound, relies, stands_born}
+use Rattle.ell_runs.specs.Touching.{forgets, Touched, AtNode, OfCard, AtRoot, touched_by, IsTheRoots}
+use Rattle.ell_runs.specs.Turns.{Turn, Makes, CallIsMade, TableRun, found_by}
+use Rattle.ell_runs.proofs.lemmas.seats.Seats.{mine_is, mine_sound, relies, stands_born}
 use Rattle.ell_cards.proofs.lemmas.shown.CutWords.{cut_same}
-use Rattle.ell_cards.proofs.lemmas.stepping.Exchanges.{told_is}
-use Rattle.ell_cards.proofs.lemmas.stepping.Known.{insert_flagged, insert_changed, known_delete, is_known_delete, delete_cut, delete_unmarkable}
-use Rattle.ell_cards.proofs.lemmas.runs.Alive.{calls_touch_no_dead_card, turns_keep_dead}
-use Rattle.ell_cards.proofs.lemmas.runs.Aside.{aside_not_won, aside_in_run}
-use Rattle.ell_cards.proofs.lemmas.whole.Rests.{rest_touches_the_root}
+use Rattle.ell_runs.proofs.lemmas.stepping.Exchanges.{told_is}
+use Rattle.ell_runs.proofs.lemmas.stepping.Known.{insert_flagged, insert_changed, known_delete, is_known_delete, delete_cut, delete_unmarkable}
+use Rattle.ell_runs.proofs.lemmas.runs.Alive.{calls_touch_no_dead_card, turns_keep_dead}
+use Rattle.ell_cards.proofs.lemmas.ties.Aside.{aside_not_won, aside_in_run}
+use Rattle.ell_runs.proofs.lemmas.runs.Rests.{rest_touches_the_root}
 use Rattle.ell_cards.proofs.lemmas.ties.Winning.{start_won, born_won, start_is_put, born_is_put, insert_is_put, says_by, insert_is_won, delete_is_won, marked_is_won}
 
 -- the field that a call touches is one that a card says which is no delete's, unless it asks for a field, or stores one

@@ -10,13 +10,13 @@ use Rattle.ell_layout.proofs.lemmas.Listed.{address_in_table}
 use Rattle.ell_core.specs.history.Stages.{Stages}
 use Rattle.ell_core.proofs.lemmas.outcomes.Decide.{some_not_none}
 use Rattle.ell_cards.specs.declared.view.Known.{Known}
-use Rattle.ell_cards.specs.declared.view.Slots.{Slots}
+use Rattle.ell_runs.specs.declared.view.Slots.{Slots}
 use Rattle.ell_cards.specs.Periods.{WholeState}
-use Rattle.ell_cards.specs.Sayings.{says}
+use Rattle.ell_runs.specs.Sayings.{says}
 use Rattle.ell_cards.specs.Shown.{cut_field}
 use Rattle.ell_cards.specs.SlotWords.{has_slot_in}
-use Rattle.ell_cards.specs.States.{TableState}
-use Rattle.ell_cards.specs.Holding.{HoldsWaiting}
+use Rattle.ell_runs.specs.States.{TableState}
+use Rattle.ell_runs.specs.Holding.{HoldsWaiting}
 use Rattle.ell_cards.specs.Tied.{LiesThere, HasWon, HasStored, IsKept, IsTied}
 use Rattle.ell_cards.specs.Tied.IsKept.{won, stored}
 

@@ -14,19 +14,20 @@ use Rattle.ell_core.specs.declared.fact.Fact.TheVariants as fact
 use Rattle.ell_core.specs.history.Later.{StagesLater, wins_of}
 use Rattle.ell_core.specs.history.Stages.{Stage, Stages, is_claimed, waits, is_start, is_insert, is_delete, insert_won, delete_won, is_changed, is_marked, is_cut, is_unmarkable, is_node_born}
 use Rattle.ell_layout.specs.declared.field.Field.{Field}
-use Rattle.ell_cards.specs.declared.call.Call.{Call}
-use Rattle.ell_cards.specs.declared.call.Call.TheVariants as call
-use Rattle.ell_cards.specs.declared.view.View.{View}
+use Rattle.ell_runs.specs.declared.call.Call.{Call}
+use Rattle.ell_runs.specs.declared.call.Call.TheVariants as call
+use Rattle.ell_runs.specs.declared.view.View.{View}
 use Rattle.ell_core.specs.statements.Since.{has_ended}
-use Rattle.ell_cards.specs.Calls.{May, atomic_of, is_won}
-use Rattle.ell_cards.specs.Machines.{HasMachine}
-use Rattle.ell_cards.specs.Models.{TablePlan, Does}
-use Rattle.ell_cards.specs.Sayings.{says, put_says, delete_says}
-use Rattle.ell_cards.specs.States.{TableState}
+use Rattle.ell_runs.specs.Calls.{May, atomic_of, is_won}
+use Rattle.ell_runs.specs.Machines.{HasMachine}
+use Rattle.ell_runs.specs.Plans.{TablePlan}
+use Rattle.ell_runs.specs.Views.{Does}
+use Rattle.ell_runs.specs.Sayings.{says, put_says, delete_says}
+use Rattle.ell_runs.specs.States.{TableState}
 use Rattle.ell_cards.specs.Tied.{HasWon, FlagsCard}
-use Rattle.ell_cards.specs.TurnEffects.{turn_wins}
-use Rattle.ell_cards.specs.Turns.{Makes, found_by}
-use Rattle.ell_cards.proofs.lemmas.seats.Seats.{mine_sound}
+use Rattle.ell_runs.specs.TurnEffects.{turn_wins}
+use Rattle.ell_runs.specs.Turns.{Makes, found_by}
+use Rattle.ell_runs.proofs.lemmas.seats.Seats.{mine_sound}
 
 -- by its stage a card has won its flag, or is of the opening tree
 abbrev pub IsWonStage : Stage → Type 0

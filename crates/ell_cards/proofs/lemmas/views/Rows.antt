@@ -1,34 +1,28 @@
 -- What a pass knows after a row of claims, in which each card but the last one is laid aside.
-use Rattle.std.proofs.Common.{◌≢◌, ◌<◌, unwrap_or, ◌≡◌, ◌⊎◌, ℕ, zero, suc, ◌+◌, ◌≤◌, ◌==◌, ◌%◌, if◌then◌else◌, Bool, true, false, Option, Some, None, List, [], ◌∷◌, inl, inr, refl, sym, ap, ◌∙◌, subst, arith}
+use Rattle.std.proofs.Common.{◌≢◌, ◌<◌, unwrap_or, ◌≡◌, ◌⊎◌, ℕ, zero, suc, ◌+◌, ◌==◌, ◌%◌, if◌then◌else◌, Bool, true, false, Option, Some, List, [], ◌∷◌, inl, inr, refl, sym, ap, ◌∙◌, subst, arith}
 use Rattle.std.proofs.lemmas.Bool.{cases_eq}
 use Rattle.std.proofs.lemmas.Option.{same_Some}
 use Rattle.ell_core.specs.declared.exchange.Exchange.TheVariants as exchange
-use Rattle.ell_core.specs.declared.fact.Fact.{Fact}
-use Rattle.ell_core.specs.declared.fact.Fact.TheVariants.{IFlagged, DFlagged, Marked}
 use Rattle.ell_core.specs.declared.view.Search.{Search}
 use Rattle.ell_core.specs.declared.view.Seen.{Seen}
-use Rattle.ell_core.specs.state.Facts.{known_of}
 use Rattle.ell_core.specs.statements.Told.{is_fixed}
 use Rattle.ell_layout.specs.declared.field.Field.{Field}
 use Rattle.ell_layout.specs.declared.field.Field.TheVariants as field
 use Rattle.ell_ops.specs.declared.op.Op.{Op}
 use Rattle.ell_ops.specs.declared.op.Op.TheVariants.{Find, Insert, Delete, Swap}
-use Rattle.ell_word.specs.Node.{card}
-use Rattle.ell_cards.specs.declared.call.Call.TheVariants as call
-use Rattle.ell_cards.specs.declared.call.NewNode.{NewNode}
-use Rattle.ell_cards.specs.declared.view.Told.{Told}
-use Rattle.ell_cards.specs.declared.view.Told.TheVariants.{Key, Value, Info, Expects}
-use Rattle.ell_cards.specs.declared.view.View.{View}
-use Rattle.ell_cards.specs.Changes.{expected_tag, filling_for, filling_of, ledger_keys, tag_of_claim, tagged, told_filling, told_value, value_told}
-use Rattle.ell_cards.specs.Calls.{after}
-use Rattle.ell_cards.specs.Guards.{Wants, MayClaim}
-use Rattle.ell_cards.specs.Models.{Has, latest, earlier, IsTold, KnowsCard}
-use Rattle.ell_cards.specs.Naming.{EntryIsNamed, EntryIsPlaced, IsNamed, IsPlaced}
+use Rattle.ell_runs.specs.declared.call.Call.TheVariants as call
+use Rattle.ell_runs.specs.declared.call.NewNode.{NewNode}
+use Rattle.ell_runs.specs.declared.view.Told.{Told}
+use Rattle.ell_runs.specs.declared.view.Told.TheVariants.{Key, Value, Info, Expects}
+use Rattle.ell_runs.specs.declared.view.View.{View}
+use Rattle.ell_runs.specs.Changes.{expected_tag, filling_for, filling_of, ledger_keys, tagged, told_filling, told_value, value_told}
+use Rattle.ell_runs.specs.Calls.{after}
+use Rattle.ell_runs.specs.Guards.{Wants, MayClaim}
+use Rattle.ell_runs.specs.Views.{Has, latest, earlier, IsTold}
 use Rattle.ell_cards.specs.Skipping.{after_one, after_row, told_of_claim, IsAfterRow}
 use Rattle.ell_cards.specs.Shown.{cut_planned, shown_words}
-use Rattle.ell_cards.specs.SlotWords.{slot_of}
-use Rattle.ell_cards.specs.Stepping.{SameShare}
-use Rattle.ell_cards.proofs.lemmas.views.Entries.{filling_more}
+use Rattle.ell_runs.specs.Views.{SameShare}
+use Rattle.ell_runs.proofs.lemmas.views.Entries.{filling_more}
 
 -- what was told before a claim is told after it
 pub told_on : (c : ℕ) (node : NewNode) (v : View) (e : Told) → IsTold v e → IsTold (after_one c node v) e

@@ -1,4 +1,4 @@
-use Rattle.std.proofs.Common.{◌≡◌, ◌≢◌, ◌==◌, ℕ, if◌then◌else◌, true, Option, Some, None, refl, sym, ap, subst, unwrap_or, nat_le, eq-eqb, nat_lt}
+use Rattle.std.proofs.Common.{◌≡◌, ◌≢◌, ℕ, Some, None, refl, sym, ap, subst, nat_le, nat_lt}
 use Rattle.ell_ops.specs.declared.op.Op.{Op}
 use Rattle.ell_ops.specs.declared.op.Op.TheVariants.{Find, Insert, Delete, Swap}
 use Rattle.ell_ops.specs.Meaning.{key_of}
@@ -7,23 +7,14 @@ use Rattle.ell_word.specs.Node.{IsInternal}
 use Rattle.ell_word.specs.Word.{packed}
 use Rattle.ell_core.specs.declared.view.Seen.{Seen}
 use Rattle.ell_core.specs.acts.Searching.{IsClean, MayTake}
-use Rattle.ell_cards.specs.declared.view.View.{View}
-use Rattle.ell_cards.specs.Models.{PassModel, Sees, Steps, Does, StandsAt}
-use Rattle.ell_cards.specs.Changes.{after_upd, is_this, value_told, filling_for, filling_of}
-use Rattle.ell_cards.proofs.lemmas.views.Afters.{after_next}
-use Rattle.ell_cards.specs.Guards.{MayGoDown, MayClaim, Wants}
+use Rattle.ell_runs.specs.declared.view.View.{View}
+use Rattle.ell_cards.specs.Models.{PassModel, Sees, Steps}
+use Rattle.ell_runs.specs.Views.{Does, StandsAt}
+use Rattle.ell_runs.specs.Changes.{after_upd}
+use Rattle.ell_runs.proofs.lemmas.views.Afters.{after_next}
+use Rattle.ell_runs.specs.Guards.{MayGoDown, MayClaim, Wants}
 use Rattle.ell_cards.proofs.lemmas.views.Steps.{view_after, view_seen}
-use Rattle.ell_cards.specs.declared.call.NewNode.{NewNode}
-
--- a node with the word that was read there, if one was, and the tag of a child word
-abbrev pub seen_at : ℕ → Option ℕ → ℕ → Option Seen
-seen_at x read tag = Some (record { node = x; word = unwrap_or read 0; tag = tag })
-
--- the key that was asked at the node where the pass stands is the key there
-pub told_here : (o here : Option ℕ) (x key : ℕ) → o ≡ Some x → (if is_this o x then Some key else here) ≡ Some key
-told_here None here x key e = cc
-told_here (Some y) here x key e =
-    let same : (y == x) ≡ true = eq-eqb y x (cc) in rw same
+use Rattle.ell_runs.specs.declared.call.NewNode.{NewNode}
 
 -- the update word was read where the pass stands and was told the key, and it may go down
 pub may_go_down : (a b : PassModel) (op : Op) (x : ℕ) (u : Update) (key k : ℕ) → Sees a b (after_upd x u a.view) → k ≡ key_of op → Does a.view op → StandsAt a.view x
@@ -69,10 +60,3 @@ may_claim from a b op c below key node parent s busy other ready stands told beh
     by (Insert k value) w = record { leaf = w.leaf; edge = w.edge; fits = w.fits; named = w.named }
     by (Swap k was value) w = record { outer = w.outer; same = w.same; value = w.value; named = w.named }
     by (Delete k) w = record { outer = w.outer; same = w.same; above = w.above; grandparent = w.grandparent; calm = w.calm }
-
--- what fills a card, by a search that ended at a node of this key
-pub filling_at : (v : View) (op : Op) (c : ℕ) (node : NewNode) (below key : ℕ) (parent : Seen) (above : Option Seen) → Does v op → StandsAt v below → v.here ≡ Some key
-    → v.worker.search.parent ≡ Some parent → v.worker.search.grandparent ≡ above
-    → filling_of c node v ≡ filling_for c node (Some op) (Some below) (Some parent) above key (value_told v.told)
-filling_at v op c node below key parent above busy stands told behind grandparent =
-    λ t. filling_for c node (busy t) (stands t) (behind t) (grandparent t) (unwrap_or (told t) 0) (value_told v.told)

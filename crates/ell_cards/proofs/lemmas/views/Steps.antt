@@ -1,15 +1,16 @@
 use Rattle.std.proofs.Common.{◌+◌, ◌≤◌, arith, ◌≡◌, ℕ, Bool, sym, ap, subst}
 use Rattle.ell_layout.specs.declared.field.Field.{Field}
 use Rattle.ell_layout.specs.declared.field.Field.TheVariants as field
-use Rattle.ell_cards.specs.declared.view.Told.TheVariants.{Met, Key, Info, Frozen, Expects}
-use Rattle.ell_cards.specs.declared.view.View.{View}
-use Rattle.ell_cards.specs.Models.{PassModel, Sees, Steps, latest, earlier, IsTold}
-use Rattle.ell_cards.proofs.lemmas.views.Afters.{after_key_of, after_info, after_frozen_child}
-use Rattle.ell_cards.specs.Guards.{NamesNode}
-use Rattle.ell_cards.specs.Depths.{depth_told, depth_of}
-use Rattle.ell_cards.specs.Changes.{depth_there}
-use Rattle.ell_cards.proofs.lemmas.views.Depths.{met_deep, met_there}
-use Rattle.ell_cards.proofs.lemmas.views.Entries.{info_latest, info_node, info_tag}
+use Rattle.ell_runs.specs.declared.view.Told.TheVariants.{Met, Key, Info, Frozen, Expects}
+use Rattle.ell_runs.specs.declared.view.View.{View}
+use Rattle.ell_cards.specs.Models.{PassModel, Sees, Steps}
+use Rattle.ell_runs.specs.Views.{latest, earlier, IsTold}
+use Rattle.ell_runs.proofs.lemmas.views.Afters.{after_key_of, after_info, after_frozen_child}
+use Rattle.ell_runs.specs.Guards.{NamesNode}
+use Rattle.ell_runs.specs.Depths.{depth_told, depth_of}
+use Rattle.ell_runs.specs.Changes.{depth_there}
+use Rattle.ell_runs.proofs.lemmas.views.Depths.{met_deep, met_there}
+use Rattle.ell_runs.proofs.lemmas.views.Entries.{info_latest, info_node, info_tag}
 use Rattle.ell_word.specs.Link.{link_in}
 use Rattle.ell_layout.specs.Cards.{says_by}
 

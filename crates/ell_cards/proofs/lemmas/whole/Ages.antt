@@ -6,29 +6,30 @@ use Rattle.atomic_table.proofs.Lists.{at_set}
 use Rattle.ell_word.specs.Node.{card}
 use Rattle.ell_core.specs.history.Later.{WordsLater, StagesLater, wins_of}
 use Rattle.ell_grace.specs.Dead.{IsDead, HasUses}
-use Rattle.ell_cards.specs.declared.call.Call.{Call}
-use Rattle.ell_cards.specs.declared.call.Call.TheVariants as call
+use Rattle.ell_runs.specs.declared.call.Call.{Call}
+use Rattle.ell_runs.specs.declared.call.Call.TheVariants as call
 use Rattle.ell_cards.specs.declared.view.Known.{Known}
 use Rattle.ell_cards.specs.declared.view.SlotRead.{SlotRead}
-use Rattle.ell_cards.specs.declared.view.Slots.{Slots}
-use Rattle.ell_cards.specs.declared.view.View.{View}
+use Rattle.ell_runs.specs.declared.view.Slots.{Slots}
+use Rattle.ell_runs.specs.declared.view.View.{View}
 use Rattle.ell_cards.specs.Ages.{IsOut, is_dead, is_aside, is_beyond, AreDead, ForgotWhen, NotesThere, IsNotedThere, AgesAreSound}
-use Rattle.ell_cards.specs.Aside.{IsAside}
-use Rattle.ell_cards.specs.Calls.{May}
-use Rattle.ell_cards.specs.Laws.{machine_of_table}
-use Rattle.ell_cards.specs.Machines.{HasMachine}
-use Rattle.ell_cards.specs.Models.{TablePlan}
-use Rattle.ell_cards.specs.Periods.{WholeState, IsAtRest, slot_word}
+use Rattle.ell_runs.specs.Aside.{IsAside}
+use Rattle.ell_runs.specs.Calls.{May}
+use Rattle.ell_runs.specs.Laws.{machine_of_table}
+use Rattle.ell_runs.specs.Machines.{HasMachine}
+use Rattle.ell_runs.specs.Plans.{TablePlan}
+use Rattle.ell_cards.specs.Periods.{WholeState, slot_word}
+use Rattle.ell_runs.specs.Touching.{IsAtRest}
 use Rattle.ell_cards.specs.SlotWords.{card_by, is_noted, slot_of}
-use Rattle.ell_cards.specs.Starts.{IsReached}
-use Rattle.ell_cards.specs.States.{TableState}
+use Rattle.ell_runs.specs.Starts.{IsReached}
+use Rattle.ell_runs.specs.States.{TableState}
 use Rattle.ell_cards.specs.Stepping.{IsQuiet}
-use Rattle.ell_cards.specs.Touching.{forgets}
-use Rattle.ell_cards.specs.TurnEffects.{turn_wins}
-use Rattle.ell_cards.specs.Turns.{Turn, Makes, TableTurns, found_by, view_after, state_after}
-use Rattle.ell_cards.proofs.lemmas.runs.Used.{turn_keeps_uses}
-use Rattle.ell_cards.proofs.lemmas.runs.Aside.{aside_on}
-use Rattle.ell_cards.proofs.lemmas.runs.TurnsOfRuns.{one_more_turn, turn_lawful}
+use Rattle.ell_runs.specs.Touching.{forgets}
+use Rattle.ell_runs.specs.TurnEffects.{turn_wins}
+use Rattle.ell_runs.specs.Turns.{Turn, Makes, TableTurns, found_by, view_after, state_after}
+use Rattle.ell_runs.proofs.lemmas.runs.Used.{turn_keeps_uses}
+use Rattle.ell_cards.proofs.lemmas.ties.Aside.{aside_on}
+use Rattle.ell_runs.proofs.lemmas.runs.TurnsOfRuns.{one_more_turn, turn_lawful}
 use Rattle.ell_cards.proofs.lemmas.whole.Rests.{stays_at_rest}
 
 -- a call that forgets nothing begins nothing

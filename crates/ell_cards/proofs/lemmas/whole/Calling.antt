@@ -14,44 +14,50 @@ use Rattle.ell_word.specs.Node.{greatest_card, greatest_number, turn_size}
 use Rattle.ell_layout.specs.Layout.{address, table_size}
 use Rattle.ell_layout.specs.declared.field.Field.{Field}
 use Rattle.ell_layout.specs.declared.field.Field.TheVariants as field
-use Rattle.ell_cards.specs.declared.call.Call.{Call}
-use Rattle.ell_cards.specs.declared.call.Call.TheVariants as call
-use Rattle.ell_cards.specs.declared.view.Event.{Event}
+use Rattle.ell_runs.specs.declared.call.Call.{Call}
+use Rattle.ell_runs.specs.declared.call.Call.TheVariants as call
+use Rattle.ell_runs.specs.declared.view.Event.{Event}
 use Rattle.ell_cards.specs.declared.view.Known.{Known}
 use Rattle.ell_cards.specs.declared.view.Period.{Period}
 use Rattle.ell_cards.specs.declared.view.Retired.{Retired}
-use Rattle.ell_cards.specs.declared.view.Sight.{Sight}
-use Rattle.ell_cards.specs.declared.view.Slots.{Slots}
-use Rattle.ell_cards.specs.declared.view.Told.TheVariants.{Info}
-use Rattle.ell_cards.specs.declared.view.View.{View}
+use Rattle.ell_runs.specs.declared.view.Sight.{Sight}
+use Rattle.ell_runs.specs.declared.view.Slots.{Slots}
+use Rattle.ell_runs.specs.declared.view.Told.TheVariants.{Info}
+use Rattle.ell_runs.specs.declared.view.View.{View}
 use Rattle.std.proofs.lemmas.Bool.{false≢true}
 use Rattle.std.proofs.lemmas.Option.{same_Some}
 use Rattle.ell_cards.specs.Ages.{HasPeriods}
-use Rattle.ell_cards.specs.Aside.{IsAside}
+use Rattle.ell_runs.specs.Aside.{IsAside}
 use Rattle.ell_cards.specs.Leaks.{NothingLeaks}
-use Rattle.ell_cards.specs.Calls.{Load, Store, Exchange, next_link, word_of, place_of, atomic_of, is_won, left_by, May}
-use Rattle.ell_cards.specs.Machines.{HasMachine}
-use Rattle.ell_cards.specs.Models.{Has, latest, earlier, PassModel, TablePlan, last_slot, last_slot_of}
-use Rattle.ell_cards.specs.Naming.{IsNamed, IsPlaced}
+use Rattle.ell_runs.specs.Calls.{Load, Store, Exchange, next_link, word_of, atomic_of, is_won, left_by, May}
+use Rattle.ell_cards.specs.Addresses.{place_of}
+use Rattle.ell_runs.specs.Machines.{HasMachine}
+use Rattle.ell_runs.specs.Views.{Has, latest, earlier}
+use Rattle.ell_cards.specs.Models.{PassModel, last_slot, last_slot_of}
+use Rattle.ell_runs.specs.Plans.{TablePlan}
+use Rattle.ell_runs.specs.Naming.{IsNamed}
+use Rattle.ell_cards.specs.InSlots.{IsPlaced}
 use Rattle.ell_cards.specs.PeriodLaws.{IsInPeriod}
-use Rattle.ell_cards.specs.Periods.{WholeState, IsAtRest, slots_size, after_flagging}
+use Rattle.ell_cards.specs.Periods.{WholeState, slots_size, after_flagging}
+use Rattle.ell_runs.specs.Touching.{IsAtRest}
 use Rattle.ell_cards.specs.Apart.{IsApart}
 use Rattle.ell_cards.specs.Shown.{IsWord, cut_word, cut_by, shown_word, shown_words, shown, shown_call, FieldIsWhole, FillIsWhole, CanBeShown, StoresAreWhole, StoresWord}
-use Rattle.ell_cards.specs.Histories.{event_of, history_of}
-use Rattle.ell_cards.specs.Seeing.{AllHaveSeen, AreMade, AreSilent, Marks, IsCalm}
+use Rattle.ell_runs.specs.Histories.{event_of, history_of}
+use Rattle.ell_cards.specs.AllSeen.{AllHaveSeen, AreMade, AreSilent}
+use Rattle.ell_runs.specs.Seeing.{Marks, IsCalm}
 use Rattle.ell_cards.specs.SlotWords.{slot_of}
-use Rattle.ell_cards.specs.Starts.{SlotsFit}
-use Rattle.ell_cards.specs.States.{TableState}
+use Rattle.ell_runs.specs.Starts.{SlotsFit}
+use Rattle.ell_runs.specs.States.{TableState}
 use Rattle.ell_cards.specs.Stepping.{Exchanges, IsQuiet, MayInTable, MayTell}
 use Rattle.ell_cards.specs.Tied.{HasWon, MayInMemory, IsTied, FlagsCard, FlagsNone}
 use Rattle.ell_cards.specs.Ties.{card_touched, ExpectsNear, FindsTied, IsTiedByAges, TouchesTied, memory_after}
-use Rattle.ell_cards.specs.Touching.{touched_by}
-use Rattle.ell_cards.specs.Turns.{Makes, found_by, view_after, state_after}
+use Rattle.ell_runs.specs.Touching.{touched_by}
+use Rattle.ell_runs.specs.Turns.{Makes, found_by, view_after, state_after}
 use Rattle.ell_cards.specs.Whole.{FieldsAreWhole, WordsAre, PeriodsAre, AllStoresAreWhole, IsWhole, PlansFit, trees_of}
-use Rattle.ell_cards.proofs.lemmas.runs.Reaching.{reached_kept, call_on}
-use Rattle.ell_cards.proofs.lemmas.seats.Named.{kept_named, named_more}
+use Rattle.ell_runs.proofs.lemmas.runs.Reaching.{reached_kept, call_on}
+use Rattle.ell_runs.proofs.lemmas.seats.Named.{kept_named, named_more}
 use Rattle.ell_cards.proofs.lemmas.seats.Placed.{named_placed}
-use Rattle.ell_cards.proofs.lemmas.seats.Seats.{set_there}
+use Rattle.ell_runs.proofs.lemmas.seats.Seats.{set_there}
 use Rattle.ell_cards.proofs.lemmas.shown.CutWords.{cut_same}
 use Rattle.ell_cards.proofs.lemmas.shown.ShownActs.{calls_act_alike}
 use Rattle.ell_cards.proofs.lemmas.shown.ShownCalls.{guards_are_lifted}

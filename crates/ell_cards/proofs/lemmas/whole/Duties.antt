@@ -14,21 +14,22 @@ use Rattle.ell_core.specs.history.Invariant.{insert_key}
 use Rattle.ell_core.specs.state.Machine.{Worker}
 use Rattle.ell_core.proofs.lemmas.stages.Order.{changed-insert, cut-delete, one_kind, over-delete, backed-delete, insert_over-changed}
 use Rattle.ell_cards.specs.declared.view.Retired.{Retired}
-use Rattle.ell_cards.specs.declared.view.Slots.{Slots}
-use Rattle.ell_cards.specs.declared.view.View.{View}
+use Rattle.ell_runs.specs.declared.view.Slots.{Slots}
+use Rattle.ell_runs.specs.declared.view.View.{View}
 use Rattle.ell_cards.specs.Ages.{AreRetired}
-use Rattle.ell_cards.specs.Holding.{HasFlagged}
-use Rattle.ell_cards.specs.Laws.{machine_of_table}
+use Rattle.ell_runs.specs.Holding.{HasFlagged}
+use Rattle.ell_runs.specs.Laws.{machine_of_table}
 use Rattle.ell_cards.specs.Leaks.{Kills}
 use Rattle.ell_cards.specs.LettingGo.{PutIsRetired, OwnAreRetired, IsRetired}
 use Rattle.ell_cards.specs.LettingGo.IsRetired.{put, cut, backed}
-use Rattle.ell_cards.specs.Machines.{HasMachine}
-use Rattle.ell_cards.specs.Models.{TablePlan, Knows}
+use Rattle.ell_runs.specs.Machines.{HasMachine}
+use Rattle.ell_runs.specs.Plans.{TablePlan}
+use Rattle.ell_runs.specs.Views.{Knows}
 use Rattle.ell_cards.specs.SlotWords.{has_slot_in}
-use Rattle.ell_cards.specs.States.{TableState}
-use Rattle.ell_cards.proofs.lemmas.runs.Alive.{own_key, flat_some}
-use Rattle.ell_cards.proofs.lemmas.seats.Seats.{mine_is, mine_sound}
-use Rattle.ell_cards.proofs.lemmas.stepping.Exchanges.{told_is}
+use Rattle.ell_runs.specs.States.{TableState}
+use Rattle.ell_runs.proofs.lemmas.runs.Alive.{own_key, flat_some}
+use Rattle.ell_runs.proofs.lemmas.seats.Seats.{mine_is, mine_sound}
+use Rattle.ell_runs.proofs.lemmas.stepping.Exchanges.{told_is}
 
 over_not_cut : (s : Stage) → is_cut s ≡ true → is_backed s ≡ true → ⊥
 over_not_cut s h b = grind arith

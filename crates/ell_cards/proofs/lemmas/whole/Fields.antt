@@ -10,16 +10,16 @@ use Rattle.ell_layout.specs.Layout.{address}
 use Rattle.ell_layout.specs.Words.{key_field, value_field, child_field}
 use Rattle.ell_layout.proofs.lemmas.Listed.{addresses_apart}
 use Rattle.ell_core.specs.declared.fact.Fact.TheVariants as fact
-use Rattle.ell_cards.specs.declared.call.Call.{Call}
-use Rattle.ell_cards.specs.declared.call.Call.TheVariants as call
-use Rattle.ell_cards.specs.declared.view.View.{View}
-use Rattle.ell_cards.specs.Calls.{May, word_of, atomic_of, left_by}
-use Rattle.ell_cards.specs.Models.{TablePlan}
-use Rattle.ell_cards.specs.Naming.{IsNamed}
+use Rattle.ell_runs.specs.declared.call.Call.{Call}
+use Rattle.ell_runs.specs.declared.call.Call.TheVariants as call
+use Rattle.ell_runs.specs.declared.view.View.{View}
+use Rattle.ell_runs.specs.Calls.{May, word_of, atomic_of, left_by}
+use Rattle.ell_runs.specs.Plans.{TablePlan}
+use Rattle.ell_runs.specs.Naming.{IsNamed}
 use Rattle.ell_cards.specs.Shown.{IsWord, FieldIsWhole, CanBeShown}
-use Rattle.ell_cards.specs.States.{TableState}
+use Rattle.ell_runs.specs.States.{TableState}
 use Rattle.ell_cards.specs.Ties.{ExpectsNear}
-use Rattle.ell_cards.specs.Turns.{found_by}
+use Rattle.ell_runs.specs.Turns.{found_by}
 use Rattle.ell_cards.specs.Whole.{FieldsAreWhole}
 use Rattle.ell_cards.proofs.lemmas.shown.CutWords.{compares_alike}
 use Rattle.ell_cards.proofs.lemmas.shown.ShownKinds.{calls_can_be_shown}

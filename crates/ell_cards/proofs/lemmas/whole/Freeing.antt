@@ -10,21 +10,21 @@ use Rattle.ell_cards.specs.declared.view.Known.{Known}
 use Rattle.ell_cards.specs.declared.view.Period.{Period}
 use Rattle.ell_cards.specs.declared.view.Retired.{Retired}
 use Rattle.ell_cards.specs.declared.view.SlotRead.{SlotRead}
-use Rattle.ell_cards.specs.declared.view.Slots.{Slots}
+use Rattle.ell_runs.specs.declared.view.Slots.{Slots}
 use Rattle.ell_cards.specs.Ages.{IsOut, is_dead, is_aside, NotesThere, IsNotedThere, AreRetired, HasPeriods, KnowsDeadNode, KnowsDeadCard, MayStamp}
-use Rattle.ell_cards.specs.Aside.{IsAside}
+use Rattle.ell_runs.specs.Aside.{IsAside}
 use Rattle.ell_cards.specs.Apart.{cut_node}
-use Rattle.ell_cards.specs.Dead.{HasTakenOut}
-use Rattle.ell_cards.specs.Models.{TablePlan}
+use Rattle.ell_runs.specs.Dead.{HasTakenOut}
+use Rattle.ell_runs.specs.Plans.{TablePlan}
 use Rattle.ell_cards.specs.Periods.{WholeState, clock_word, slot_word, slots_size, last_reading, LieInSlots, pending_by, after_read, after_stamp, PeriodsAreSound}
 use Rattle.ell_cards.specs.declared.view.Period.{Period}
 use Rattle.ell_cards.specs.Shown.{shown}
 use Rattle.ell_cards.specs.SlotWords.{card_by, slot_of, turn_of, turn_in, free_word, is_noted}
-use Rattle.ell_cards.specs.Starts.{IsReached}
-use Rattle.ell_cards.specs.States.{TableState}
+use Rattle.ell_runs.specs.Starts.{IsReached}
+use Rattle.ell_runs.specs.States.{TableState}
 use Rattle.ell_cards.specs.Stepping.{MayGoOn}
-use Rattle.ell_cards.proofs.lemmas.runs.Alive.{known_dead_is_dead}
-use Rattle.ell_cards.proofs.lemmas.runs.Named.{passes_name_met}
+use Rattle.ell_runs.proofs.lemmas.runs.Alive.{known_dead_is_dead}
+use Rattle.ell_runs.proofs.lemmas.runs.Named.{passes_name_met}
 use Rattle.ell_cards.proofs.lemmas.shown.ShownDead.{place_whole, taken_out_whole}
 use Rattle.ell_cards.proofs.lemmas.ties.Apart.{met_lies}
 use Rattle.ell_cards.proofs.lemmas.whole.Ages.{ages_of_period, noted_at, noted_same}

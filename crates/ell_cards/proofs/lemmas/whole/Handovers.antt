@@ -10,15 +10,16 @@ use Rattle.ell_layout.specs.Words.{put}
 use Rattle.ell_layout.proofs.lemmas.Writes.{put_same, put_other, put_cases}
 use Rattle.ell_cards.specs.declared.view.Known.{Known}
 use Rattle.ell_cards.specs.declared.view.Period.{Period}
-use Rattle.ell_cards.specs.declared.view.Slots.{Slots}
-use Rattle.ell_cards.specs.declared.view.View.{View}
-use Rattle.ell_cards.specs.Models.{TablePlan}
-use Rattle.ell_cards.specs.Changes.{joined_view, spent_view}
-use Rattle.ell_cards.specs.Periods.{WholeState, no_period, after_give, given_period, joined_period, period_in, pending_by, place_says, IsAtRest, PeriodHolds, HasPlace, own, spare, PeriodsAreSound, grace_of}
+use Rattle.ell_runs.specs.declared.view.Slots.{Slots}
+use Rattle.ell_runs.specs.declared.view.View.{View}
+use Rattle.ell_runs.specs.Plans.{TablePlan}
+use Rattle.ell_runs.specs.Changes.{joined_view, spent_view}
+use Rattle.ell_cards.specs.Periods.{WholeState, no_period, after_give, given_period, joined_period, period_in, pending_by, place_says, PeriodHolds, HasPlace, own, spare, PeriodsAreSound, grace_of}
+use Rattle.ell_runs.specs.Touching.{IsAtRest}
 use Rattle.ell_cards.specs.Ages.{AgesAreSound}
-use Rattle.ell_cards.specs.Sights.{given_sight}
-use Rattle.ell_cards.specs.States.{TableState}
-use Rattle.ell_cards.specs.Turns.{TableTurns, Splits as SplitsInto, Joins as JoinsWith}
+use Rattle.ell_runs.specs.Sights.{given_sight}
+use Rattle.ell_runs.specs.States.{TableState}
+use Rattle.ell_runs.specs.Turns.{TableTurns, Splits as SplitsInto, Joins as JoinsWith}
 use Rattle.ell_cards.specs.Whole.{joined_known, spent_known}
 use Rattle.ell_cards.proofs.lemmas.whole.Ages.{AgesOn, Onward, onward, dead_on, still_since, noted_on, read_on, lost_on, out_on}
 use Rattle.ell_cards.proofs.lemmas.whole.Rests.{is_at_rest}

@@ -28,23 +28,23 @@ use Rattle.ell_grace.specs.Gone.{TakesOut}
 use Rattle.ell_grace.proofs.lemmas.dead.Came.{what_came_is_in_or_out}
 use Rattle.ell_grace.proofs.lemmas.outs.Taken.{born_low}
 use Rattle.ell_cards.specs.declared.view.Known.{Known}
-use Rattle.ell_cards.specs.declared.view.Slots.{Slots}
-use Rattle.ell_cards.specs.declared.view.View.{View}
+use Rattle.ell_runs.specs.declared.view.Slots.{Slots}
+use Rattle.ell_runs.specs.declared.view.View.{View}
 use Rattle.ell_cards.specs.Ages.{HasPeriods}
 use Rattle.ell_cards.specs.Leaks.{Holds, IsHeld, IsInFlaggedHand, NothingLeaks}
 use Rattle.ell_cards.specs.Leaks.Holds.{waiting, lost}
-use Rattle.ell_cards.specs.Laws.{machine_of_table}
-use Rattle.ell_cards.specs.Machines.{HasMachine}
-use Rattle.ell_cards.specs.Models.{TablePlan}
+use Rattle.ell_runs.specs.Laws.{machine_of_table}
+use Rattle.ell_runs.specs.Machines.{HasMachine}
+use Rattle.ell_runs.specs.Plans.{TablePlan}
 use Rattle.ell_cards.specs.PeriodLaws.{IsInUse, IsBusy, SlotsInUseAreFew}
 use Rattle.ell_cards.specs.Periods.{WholeState, slot_word}
 use Rattle.ell_cards.specs.SlotWords.{is_noted, slot_of}
-use Rattle.ell_cards.specs.States.{TableState}
+use Rattle.ell_runs.specs.States.{TableState}
 use Rattle.ell_cards.specs.Tied.{HasWon}
-use Rattle.ell_cards.specs.TurnEffects.{own_words}
+use Rattle.ell_runs.specs.TurnEffects.{own_words}
 use Rattle.ell_cards.specs.Whole.{trees_of, PeriodsAre}
-use Rattle.ell_cards.proofs.lemmas.own_words.OwnTree.{reached_born}
-use Rattle.ell_cards.proofs.lemmas.own_words.OwnWords.{own_pairs}
+use Rattle.ell_runs.proofs.lemmas.own_words.OwnTree.{reached_born}
+use Rattle.ell_runs.proofs.lemmas.own_words.OwnWords.{own_pairs}
 use Rattle.ell_cards.proofs.lemmas.ties.Winning.{IsWonStage}
 use Rattle.ell_cards.proofs.lemmas.whole.LeaksOfCalls.{in_hand}
 use Rattle.ell_cards.proofs.lemmas.words.NotedBits.{low_bits}

@@ -11,15 +11,15 @@ use Rattle.ell_core.specs.history.Stages.{Stages}
 use Rattle.ell_core.proofs.lemmas.outcomes.Decide.{some_not_none}
 use Rattle.ell_cards.specs.declared.view.Known.{Known}
 use Rattle.ell_cards.specs.declared.view.Period.{Period}
-use Rattle.ell_cards.specs.declared.view.Slots.{Slots}
-use Rattle.ell_cards.specs.declared.view.View.{View}
-use Rattle.ell_cards.specs.Holding.{HoldsWaiting}
+use Rattle.ell_runs.specs.declared.view.Slots.{Slots}
+use Rattle.ell_runs.specs.declared.view.View.{View}
+use Rattle.ell_runs.specs.Holding.{HoldsWaiting}
 use Rattle.ell_cards.specs.Leaks.{Holds, IsHeld, IsInFlaggedHand, Kills, NothingLeaks}
 use Rattle.ell_cards.specs.Leaks.Holds.{waiting, lost}
 use Rattle.ell_cards.specs.Periods.{WholeState, slot_word}
 use Rattle.ell_cards.specs.SlotWords.{is_noted, slot_of, turn_of, taken_word}
 use Rattle.ell_cards.specs.Tied.{HasWon}
-use Rattle.ell_cards.proofs.lemmas.seats.Seats.{set_there}
+use Rattle.ell_runs.proofs.lemmas.seats.Seats.{set_there}
 use Rattle.ell_cards.proofs.lemmas.words.NotedBits.{none_noted}
 
 -- a pass holds a slot by the card for which it took one last, and the one whose flag it lost

@@ -22,8 +22,8 @@ use Rattle.ell_core.specs.statements.Since.{has_ended}
 use Rattle.ell_core.proofs.lemmas.outcomes.Decide.{some_not_none}
 use Rattle.ell_core.proofs.lemmas.stages.Ended.{ended_cases, insert_over-ended, delete_over-ended, backed-ended}
 use Rattle.ell_core.proofs.lemmas.stages.Order.{changed-insert, cut-delete, one_kind, over-delete, backed-delete, insert_over-changed}
-use Rattle.ell_cards.specs.declared.call.Call.{Call}
-use Rattle.ell_cards.specs.declared.call.Call.TheVariants as call
+use Rattle.ell_runs.specs.declared.call.Call.{Call}
+use Rattle.ell_runs.specs.declared.call.Call.TheVariants as call
 use Rattle.ell_ops.specs.declared.op.Op.{Op}
 use Rattle.ell_ops.specs.declared.op.Op.TheVariants.{Find, Insert, Delete, Swap}
 use Rattle.ell_core.specs.declared.fact.Fact.{Fact}
@@ -33,31 +33,31 @@ use Rattle.ell_grace.proofs.lemmas.outs.Taken.{taken_born}
 use Rattle.ell_cards.specs.declared.view.Known.{Known}
 use Rattle.ell_cards.specs.declared.view.Period.{Period}
 use Rattle.ell_cards.specs.declared.view.Retired.{Retired}
-use Rattle.ell_cards.specs.declared.view.Sight.{Sight}
-use Rattle.ell_cards.specs.declared.view.Slots.{Slots}
-use Rattle.ell_cards.specs.declared.view.View.{View}
+use Rattle.ell_runs.specs.declared.view.Sight.{Sight}
+use Rattle.ell_runs.specs.declared.view.Slots.{Slots}
+use Rattle.ell_runs.specs.declared.view.View.{View}
 use Rattle.ell_cards.specs.Ages.{IsOut, IsNotedThere, RetiredStaysNoted}
-use Rattle.ell_cards.specs.Calls.{May, after, atomic_of, is_won}
-use Rattle.ell_cards.specs.Changes.{after_flag, after_mark, unmarking, with_fact, is_mark_of}
-use Rattle.ell_cards.specs.Holding.{HasFlagged, HoldsWaiting}
-use Rattle.ell_cards.specs.Laws.{machine_of_table}
+use Rattle.ell_runs.specs.Calls.{May, after, atomic_of, is_won}
+use Rattle.ell_runs.specs.Changes.{after_flag, after_mark, unmarking, with_fact, is_mark_of}
+use Rattle.ell_runs.specs.Holding.{HasFlagged, HoldsWaiting}
+use Rattle.ell_runs.specs.Laws.{machine_of_table}
 use Rattle.ell_cards.specs.Leaks.{Holds, IsHeld, IsInFlaggedHand, Kills, NothingLeaks}
 use Rattle.ell_cards.specs.Leaks.Holds.{waiting, lost}
 use Rattle.ell_cards.specs.LettingGo.{IsRetired, MayLetGo}
 use Rattle.ell_cards.specs.LettingGo.IsRetired.{put, cut, backed}
 use Rattle.ell_cards.specs.Periods.{WholeState, slot_word}
 use Rattle.ell_cards.specs.SlotWords.{has_slot_in, is_noted, slot_of}
-use Rattle.ell_cards.specs.Machines.{HasMachine}
-use Rattle.ell_cards.specs.Models.{TablePlan, IsFree, flat_from}
-use Rattle.ell_cards.specs.States.{TableState, seat_worker}
+use Rattle.ell_runs.specs.Machines.{HasMachine}
+use Rattle.ell_runs.specs.Plans.{TablePlan, flat_from}
+use Rattle.ell_runs.specs.Views.{IsFree}
+use Rattle.ell_runs.specs.States.{TableState, seat_worker}
 use Rattle.ell_cards.specs.Tied.{HasWon, FlagsCard, MayInMemory}
-use Rattle.ell_cards.specs.TurnEffects.{turn_wins, win_of}
-use Rattle.ell_cards.specs.Turns.{Makes, found_by, view_after, state_after}
-use Rattle.ell_cards.proofs.lemmas.seats.Seats.{mine_sound, set_there}
+use Rattle.ell_runs.specs.TurnEffects.{turn_wins, win_of}
+use Rattle.ell_runs.specs.Turns.{Makes, found_by, view_after, state_after}
+use Rattle.ell_runs.proofs.lemmas.seats.Seats.{mine_sound, set_there}
 use Rattle.ell_cards.proofs.lemmas.whole.Ages.{noted_as}
 use Rattle.ell_cards.proofs.lemmas.whole.Duties.{all_retired}
 use Rattle.ell_cards.proofs.lemmas.ties.Winning.{IsWonStage, born_won, ended_long, start_won, insert_is_won, delete_is_won}
-use Rattle.ell_cards.specs.Meanwhile.{KeepsOn}
 
 -- a card that has won its flag is of the opening tree, or an insert's, or a delete's
 won_kind : (s : Stage) → IsWonStage s → (is_start s ≡ true) ⊎ ((insert_won s ≡ true) ⊎ (delete_won s ≡ true))

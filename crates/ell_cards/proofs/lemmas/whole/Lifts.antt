@@ -13,18 +13,19 @@ use Rattle.ell_layout.specs.Cards.{stored, put_filling, delete_filling, stays_be
 use Rattle.ell_core.specs.declared.fact.Fact.{Fact}
 use Rattle.ell_core.specs.declared.fact.Fact.TheVariants as fact
 use Rattle.ell_core.specs.declared.view.Seen.{Seen}
-use Rattle.ell_cards.specs.declared.call.Call.{Call}
-use Rattle.ell_cards.specs.declared.call.Call.TheVariants as call
-use Rattle.ell_cards.specs.declared.call.NewNode.{NewNode}
-use Rattle.ell_cards.specs.declared.view.Told.TheVariants.{Met, Info, Frozen, Expects}
-use Rattle.ell_cards.specs.declared.view.Slots.{Slots}
-use Rattle.ell_cards.specs.declared.view.View.{View}
+use Rattle.ell_runs.specs.declared.call.Call.{Call}
+use Rattle.ell_runs.specs.declared.call.Call.TheVariants as call
+use Rattle.ell_runs.specs.declared.call.NewNode.{NewNode}
+use Rattle.ell_runs.specs.declared.view.Told.TheVariants.{Met, Info, Frozen, Expects}
+use Rattle.ell_runs.specs.declared.view.Slots.{Slots}
+use Rattle.ell_runs.specs.declared.view.View.{View}
 use Rattle.ell_cards.specs.Apart.{cut_node, IsApart}
-use Rattle.ell_cards.specs.Changes.{after_claim, after_flag, after_mark, filling_for, expected_tag, is_mark_of, tag_of_claim, tagged, unmarking, value_told, with_fact}
-use Rattle.ell_cards.specs.Guards.{MayClaim, IsSibling}
-use Rattle.ell_cards.specs.Models.{TablePlan, latest, flat_from}
-use Rattle.ell_cards.specs.Naming.{IsNamed}
-use Rattle.ell_cards.specs.Calls.{Atomic, Store, after, atomic_of, is_won, May}
+use Rattle.ell_runs.specs.Changes.{after_claim, after_flag, after_mark, filling_for, expected_tag, is_mark_of, tag_of_claim, tagged, unmarking, value_told, with_fact}
+use Rattle.ell_runs.specs.Guards.{MayClaim, IsSibling}
+use Rattle.ell_runs.specs.Plans.{TablePlan, flat_from}
+use Rattle.ell_runs.specs.Views.{latest}
+use Rattle.ell_runs.specs.Naming.{IsNamed}
+use Rattle.ell_runs.specs.Calls.{Atomic, Store, after, atomic_of, is_won, May}
 use Rattle.ell_cards.specs.Whole.{PlansFit}
 use Rattle.ell_cards.specs.Shown.{IsWord, cut_word, cut_tag, cut_by, shown_word, shown, shown_call, CanBeShown, StoresAreWhole, FillIsWhole, StoresWord, IsLifted}
 use Rattle.ell_cards.proofs.lemmas.shown.CutWords.{cut_same, node_small}

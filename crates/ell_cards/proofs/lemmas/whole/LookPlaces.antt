@@ -1,33 +1,31 @@
 -- Where looks stand in the history that a pass has seen.
-use Rattle.std.proofs.Common.{◌≡◌, ◌≢◌, ℕ, zero, suc, ◌<◌, ◌≤◌, Option, Some, None, List, [], ◌∷◌, length, take, drop, inl, inr, refl, sym, ap, ◌∙◌, subst, arith}
+use Rattle.std.proofs.Common.{◌≡◌, ℕ, zero, suc, ◌≤◌, Option, Some, None, List, [], ◌∷◌, length, take, drop, inl, inr, refl, sym, ap, ◌∙◌, subst, arith}
 use Rattle.std.proofs.lemmas.Bool.{cases_lt}
 use mathlib.Core.Option.{some, some-injective, some-ne-none}
 use lib.ListN.{get_elem?}
 use Rattle.ell_layout.specs.Words.{Words}
 use Rattle.ell_ops.specs.Contents.{Contents, contents_of}
-use Rattle.ell_cards.specs.declared.call.Call.{Call}
-use Rattle.ell_cards.specs.declared.call.Call.TheVariants as call
-use Rattle.ell_cards.specs.declared.view.Event.{Event}
-use Rattle.ell_cards.specs.declared.view.Event.TheVariants.{Looks}
-use Rattle.ell_cards.specs.declared.view.Sight.{Sight}
-use Rattle.ell_cards.specs.declared.view.View.{View}
+use Rattle.ell_runs.specs.declared.call.Call.{Call}
+use Rattle.ell_runs.specs.declared.call.Call.TheVariants as call
+use Rattle.ell_runs.specs.declared.view.Event.{Event}
+use Rattle.ell_runs.specs.declared.view.Sight.{Sight}
+use Rattle.ell_runs.specs.declared.view.View.{View}
 use Rattle.ell_cards.specs.Apart.{IsApart}
-use Rattle.ell_cards.specs.Changing.{HasMap}
-use Rattle.ell_cards.specs.Histories.{event_of, history_of}
-use Rattle.ell_cards.specs.Linearizing.{Item}
-use Rattle.ell_cards.specs.LookPlaces.{FindsHavePlaces, HasPlaceIn, IsOnlyThere}
-use Rattle.ell_cards.specs.Looking.{BeginsNothing, FoundInRun, HasBetween, HasThere, LooksOn}
-use Rattle.ell_cards.specs.Models.{TablePlan}
-use Rattle.ell_cards.specs.Seeing.{HasSeen, LookedAt}
+use Rattle.ell_runs.specs.Changing.{HasMap}
+use Rattle.ell_runs.specs.Histories.{history_of}
+use Rattle.ell_runs.specs.LookPlaces.{FindsHavePlaces, HasPlaceIn, IsOnlyThere}
+use Rattle.ell_runs.specs.Looking.{BeginsNothing, FoundInRun, HasBetween, HasThere, LooksOn}
+use Rattle.ell_runs.specs.Plans.{TablePlan}
+use Rattle.ell_runs.specs.Seeing.{HasSeen}
 use Rattle.ell_cards.specs.Shown.{shown}
-use Rattle.ell_cards.specs.Starts.{IsReached}
-use Rattle.ell_cards.specs.States.{TableState}
-use Rattle.ell_cards.specs.Turns.{Turn, Makes, Splits, Joins, TableRun}
-use Rattle.ell_cards.proofs.lemmas.runs.AsMap.{map_has}
-use Rattle.ell_cards.proofs.lemmas.runs.Beginnings.{looks_are_of_one_state, stretches_are_of_one_state}
-use Rattle.ell_cards.proofs.lemmas.runs.Histories.{answered_of, linear_of, look_at}
-use Rattle.ell_cards.proofs.lemmas.runs.Linearizing.{linearized, sequence}
-use Rattle.ell_cards.proofs.lemmas.runs.Placing.{look_stands}
+use Rattle.ell_runs.specs.Starts.{IsReached}
+use Rattle.ell_runs.specs.States.{TableState}
+use Rattle.ell_runs.specs.Turns.{Turn, Makes, Splits, Joins, TableRun}
+use Rattle.ell_runs.proofs.lemmas.runs.AsMap.{map_has}
+use Rattle.ell_cards.proofs.lemmas.shown.InRuns.{looks_are_of_one_state, stretches_are_of_one_state}
+use Rattle.ell_runs.proofs.lemmas.runs.Histories.{answered_of, linear_of, look_at}
+use Rattle.ell_runs.proofs.lemmas.runs.Linearizing.{linearized, sequence}
+use Rattle.ell_runs.proofs.lemmas.runs.Placing.{look_stands}
 
 -- where a look goes on, the pass begins no other
 look_turn : (other seat : ℕ) (c : Call) → Makes other c ≡ Makes seat call.Look → (other ≡ seat) × (c ≡ call.Look)

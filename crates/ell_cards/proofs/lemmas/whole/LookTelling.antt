@@ -1,34 +1,36 @@
 -- A load of a look by which a pass sees all of its table's history, and where in it what the look has found stands.
-use Rattle.std.proofs.Common.{◌≡◌, ◌≢◌, ℕ, ◌<◌, Some, None, List, [], ◌∷◌, ◌++◌, refl, sym, ap, ◌∙◌, subst}
+use Rattle.std.proofs.Common.{◌≡◌, ◌≢◌, ℕ, ◌<◌, Some, None, List, [], ◌∷◌, refl, sym, ap, ◌∙◌, subst}
 use mathlib.Core.Option.{some}
 use lib.ListN.{get_elem?}
 use Rattle.atomic_table.specs.Table.{Allows}
-use Rattle.ell_cards.specs.declared.call.Call.{Call}
-use Rattle.ell_cards.specs.declared.call.Call.TheVariants as call
+use Rattle.ell_runs.specs.declared.call.Call.{Call}
+use Rattle.ell_runs.specs.declared.call.Call.TheVariants as call
 use Rattle.ell_cards.specs.declared.pass.Standing.{Standing}
 use Rattle.ell_cards.specs.declared.share.Share.{Share}
-use Rattle.ell_cards.specs.declared.view.Event.{Event}
+use Rattle.ell_runs.specs.declared.view.Event.{Event}
 use Rattle.ell_cards.specs.declared.view.Known.{Known}
-use Rattle.ell_cards.specs.declared.view.Sight.{Sight}
-use Rattle.ell_cards.specs.declared.view.Slots.{Slots}
-use Rattle.ell_cards.specs.declared.view.View.{View}
+use Rattle.ell_runs.specs.declared.view.Sight.{Sight}
+use Rattle.ell_runs.specs.declared.view.Slots.{Slots}
+use Rattle.ell_runs.specs.declared.view.View.{View}
 use Rattle.ell_cards.specs.Apart.{IsApart}
-use Rattle.ell_cards.specs.Calls.{Load, May, atomic_of, place_of}
-use Rattle.ell_cards.specs.Histories.{event_of, history_of}
+use Rattle.ell_runs.specs.Calls.{Load, May, atomic_of}
+use Rattle.ell_cards.specs.Addresses.{place_of}
+use Rattle.ell_runs.specs.Histories.{event_of, history_of}
 use Rattle.ell_cards.specs.Inside.{PassFits, PlaceFits}
-use Rattle.ell_cards.specs.LookPlaces.{FindsHavePlaces, SeesMoreInLook}
-use Rattle.ell_cards.specs.Models.{PassModel, TableModel, TablePlan}
+use Rattle.ell_runs.specs.LookPlaces.{FindsHavePlaces, SeesMoreInLook}
+use Rattle.ell_cards.specs.Models.{PassModel, TableModel}
+use Rattle.ell_runs.specs.Plans.{TablePlan}
 use Rattle.ell_cards.specs.Periods.{WholeState, whole_size}
-use Rattle.ell_cards.specs.Seeing.{HasSeen, IsCalm}
+use Rattle.ell_runs.specs.Seeing.{HasSeen, IsCalm}
 use Rattle.ell_cards.specs.Shown.{shown, shown_call}
-use Rattle.ell_cards.specs.Starts.{SlotsFit}
+use Rattle.ell_runs.specs.Starts.{SlotsFit}
 use Rattle.ell_cards.specs.Stepping.{IsQuiet, MayInTable, MayTell}
 use Rattle.ell_cards.specs.Tied.{MayInMemory}
-use Rattle.ell_cards.specs.Turns.{Makes, state_after, view_after}
+use Rattle.ell_runs.specs.Turns.{Makes, state_after, view_after}
 use Rattle.ell_cards.specs.Whole.{IsWhole}
-use Rattle.ell_cards.proofs.lemmas.runs.Reaching.{call_on}
+use Rattle.ell_runs.proofs.lemmas.runs.Reaching.{call_on}
 use Rattle.ell_cards.proofs.lemmas.seats.Opened.{asks_there, owed_by}
-use Rattle.ell_cards.proofs.lemmas.seats.Seats.{set_there}
+use Rattle.ell_runs.proofs.lemmas.seats.Seats.{set_there}
 use Rattle.ell_cards.proofs.lemmas.whole.Calling.{goes_by, load_does, load_flags, load_stores, tree_here}
 use Rattle.ell_cards.proofs.lemmas.whole.Calling.Notes.{nothing}
 use Rattle.ell_cards.proofs.lemmas.whole.Lifts.{plain_shown, stores_word}

@@ -6,32 +6,29 @@ use mathlib.Core.Option.{some}
 use lib.ListN.{get_elem?}
 use prog.Atomic.{either}
 use Rattle.ell_core.proofs.lemmas.outcomes.Decide.{some_not_none}
-use Rattle.ell_grace.specs.Dead.{HasUses}
-use Rattle.ell_cards.specs.declared.call.Call.{Call}
+use Rattle.ell_runs.specs.declared.call.Call.{Call}
 use Rattle.ell_cards.specs.declared.view.Known.{Known}
 use Rattle.ell_cards.specs.declared.view.Period.{Period}
-use Rattle.ell_cards.specs.declared.view.Sight.{Sight}
-use Rattle.ell_cards.specs.declared.view.Slots.{Slots}
-use Rattle.ell_cards.specs.declared.view.View.{View}
+use Rattle.ell_runs.specs.declared.view.Sight.{Sight}
+use Rattle.ell_runs.specs.declared.view.Slots.{Slots}
+use Rattle.ell_runs.specs.declared.view.View.{View}
 use Rattle.ell_cards.specs.Ages.{IsOut, IsNotedThere, AreRetired, AgesAreSound, HasPeriods}
-use Rattle.ell_cards.specs.Aside.{IsAside}
-use Rattle.ell_cards.specs.Calls.{May, atomic_of, is_won}
-use Rattle.ell_cards.specs.Laws.{machine_of_table}
+use Rattle.ell_runs.specs.Aside.{IsAside}
+use Rattle.ell_runs.specs.Calls.{May, atomic_of, is_won}
 use Rattle.ell_cards.specs.Leaks.{Holds, NothingLeaks}
 use Rattle.ell_cards.specs.Leaks.Holds.{waiting, lost}
-use Rattle.ell_cards.specs.Machines.{HasMachine}
-use Rattle.ell_cards.specs.Models.{TablePlan}
+use Rattle.ell_runs.specs.Plans.{TablePlan}
 use Rattle.ell_cards.specs.Periods.{WholeState, slot_word, slots_size, after_freeing, pending_by, HasPlace, own, spare, PeriodHolds, PeriodsAreSound, grace_of}
 use Rattle.ell_cards.specs.SlotWords.{card_by, free_word, is_noted, slot_of, turn_in, turn_of, taken_word}
-use Rattle.ell_cards.specs.Starts.{IsReached}
-use Rattle.ell_cards.specs.States.{TableState}
+use Rattle.ell_runs.specs.Starts.{IsReached}
+use Rattle.ell_runs.specs.States.{TableState}
 use Rattle.ell_cards.specs.Stepping.{MayGoOn}
 use Rattle.ell_cards.specs.Tied.{FlagsCard, HasWon}
-use Rattle.ell_cards.specs.Turns.{Makes, found_by, state_after}
-use Rattle.ell_cards.proofs.lemmas.runs.Aside.{lost_is_aside}
-use Rattle.ell_cards.proofs.lemmas.seats.Seats.{set_there}
+use Rattle.ell_runs.specs.Turns.{Makes, found_by, state_after}
+use Rattle.ell_cards.proofs.lemmas.ties.Aside.{lost_is_aside}
+use Rattle.ell_runs.proofs.lemmas.seats.Seats.{set_there}
 use Rattle.ell_cards.proofs.lemmas.ties.Periods.{tie_of_period}
-use Rattle.ell_cards.proofs.lemmas.whole.Ages.{Onward, AgesOn, ages_of_period}
+use Rattle.ell_cards.proofs.lemmas.whole.Ages.{AgesOn, ages_of_period}
 use Rattle.ell_cards.proofs.lemmas.whole.Freeing.{frees_now, noted_then}
 use Rattle.ell_cards.proofs.lemmas.whole.Going.{GoesTo, goes_on_there, set_twice, stays, turned_to}
 use Rattle.ell_cards.proofs.lemmas.whole.Leaks.{leaks_same}

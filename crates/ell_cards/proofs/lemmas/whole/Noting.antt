@@ -17,11 +17,11 @@ use Rattle.ell_grace.specs.Gone.{TakesOut}
 use Rattle.ell_cards.specs.declared.card_nodes.CardNodes.{CardNodes}
 use Rattle.ell_cards.specs.declared.view.Known.{Known}
 use Rattle.ell_cards.specs.declared.view.Period.{Period}
-use Rattle.ell_cards.specs.declared.view.Slots.{Slots}
+use Rattle.ell_runs.specs.declared.view.Slots.{Slots}
 use Rattle.ell_cards.specs.Ages.{IsOut, NotesThere, IsNotedThere, AreRetired, HasPeriods, KnowsDeadNode, MayStamp}
 use Rattle.ell_cards.specs.CardNodes.{NotesToo, has_node}
-use Rattle.ell_cards.specs.Dead.{HasTakenOut}
-use Rattle.ell_cards.specs.Models.{TablePlan}
+use Rattle.ell_runs.specs.Dead.{HasTakenOut}
+use Rattle.ell_runs.specs.Plans.{TablePlan}
 use Rattle.ell_cards.specs.Noting.{KnowsDeadNodes, LiesThereStill, MayNote, MayNoteNext, MayRetire}
 use Rattle.ell_cards.specs.PeriodLaws.{IsNotedInSlot, RetiredNodesAreNoted}
 use Rattle.ell_cards.specs.Whole.{PeriodsAre}
@@ -29,13 +29,13 @@ use Rattle.ell_cards.specs.Periods.{WholeState, slot_word, slots_size, after_not
 use Rattle.ell_cards.specs.Retiring.{is_done, retires_if, with_retired}
 use Rattle.ell_cards.specs.Shown.{shown}
 use Rattle.ell_cards.specs.SlotWords.{card_by, slot_of, turn_of, turn_in, free_word, is_noted}
-use Rattle.ell_cards.specs.Starts.{IsReached}
-use Rattle.ell_cards.specs.States.{TableState}
+use Rattle.ell_runs.specs.Starts.{IsReached}
+use Rattle.ell_runs.specs.States.{TableState}
 use Rattle.ell_cards.specs.Stepping.{MayGoOn}
-use Rattle.ell_cards.proofs.lemmas.runs.Named.{passes_name_met}
-use Rattle.ell_cards.proofs.lemmas.runs.Touching.{known_takes_out}
+use Rattle.ell_runs.proofs.lemmas.runs.Named.{passes_name_met}
+use Rattle.ell_runs.proofs.lemmas.runs.Touching.{known_takes_out}
 use Rattle.ell_cards.proofs.lemmas.shown.ShownDead.{WasTakenOut, nodes_never_come, place_whole, taken_out_whole}
-use Rattle.ell_cards.proofs.lemmas.stepping.Exchanges.{told_is}
+use Rattle.ell_runs.proofs.lemmas.stepping.Exchanges.{told_is}
 use Rattle.ell_cards.proofs.lemmas.ties.Apart.{met_lies}
 use Rattle.ell_cards.proofs.lemmas.whole.Trees.{tree_at}
 use Rattle.ell_cards.proofs.lemmas.views.DeadNodes.{both, of_either}

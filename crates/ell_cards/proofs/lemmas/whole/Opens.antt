@@ -12,19 +12,21 @@ use Rattle.ell_layout.specs.Layout.{address, table_size}
 use Rattle.ell_layout.specs.Words.{words_of, table_words}
 use Rattle.ell_cards.specs.declared.view.Known.{Known}
 use Rattle.ell_cards.specs.declared.view.Period.{Period}
-use Rattle.ell_cards.specs.declared.view.Slots.{Slots}
-use Rattle.ell_cards.specs.declared.view.View.{View}
-use Rattle.ell_cards.specs.Models.{TablePlan, last_slot, last_slot_of}
-use Rattle.ell_cards.specs.Changes.{first_of}
-use Rattle.ell_cards.specs.Periods.{clock_word, place_word, slot_word, slots_size, stamp_at, pending_by, opening_word, words_of_free_slots, AreOpeningWords, AreWholeWords, size_by, whole_size, period_by, announced_by, period_in, IsAtRest, PeriodHolds, PeriodsAreSound, grace_of}
-use Rattle.ell_cards.specs.Aside.{IsAside}
+use Rattle.ell_runs.specs.declared.view.Slots.{Slots}
+use Rattle.ell_runs.specs.declared.view.View.{View}
+use Rattle.ell_runs.specs.Plans.{TablePlan}
+use Rattle.ell_cards.specs.Models.{last_slot, last_slot_of}
+use Rattle.ell_runs.specs.Changes.{first_of}
+use Rattle.ell_cards.specs.Periods.{clock_word, place_word, slot_word, slots_size, stamp_at, pending_by, opening_word, words_of_free_slots, AreOpeningWords, AreWholeWords, size_by, whole_size, period_by, announced_by, period_in, PeriodHolds, PeriodsAreSound, grace_of}
+use Rattle.ell_runs.specs.Touching.{IsAtRest}
+use Rattle.ell_runs.specs.Aside.{IsAside}
 use Rattle.ell_cards.specs.Ages.{is_beyond, ForgotWhen, AgesAreSound}
-use Rattle.ell_cards.specs.RunLaws.{StartIsKept}
-use Rattle.ell_cards.specs.Sights.{no_sight}
+use Rattle.ell_runs.specs.RunLaws.{StartIsKept}
+use Rattle.ell_runs.specs.Sights.{no_sight}
 use Rattle.ell_cards.specs.SlotWords.{slot_of, card_by, free_word, freed_by, is_noted, taken_word}
-use Rattle.ell_cards.specs.States.{TableState}
-use Rattle.ell_cards.specs.Starts.{MayStart}
-use Rattle.ell_cards.proofs.lemmas.runs.Alive.{start_uses}
+use Rattle.ell_runs.specs.States.{TableState}
+use Rattle.ell_runs.specs.Starts.{MayStart}
+use Rattle.ell_runs.proofs.lemmas.runs.Alive.{start_uses}
 
 -- so many zeros are as many
 pub zeros_many : (n : ℕ) → length (replicate {A = ℕ} n 0) ≡ n

@@ -3,10 +3,11 @@ use Rattle.std.proofs.Common.{◌≡◌, ◌≢◌, ℕ, zero, suc, List, [], �
 use mathlib.Core.Option.{some, some-injective, some-ne-none}
 use lib.ListN.{get_elem?}
 use Rattle.atomic_table.proofs.Lists.{at_set, at_snoc}
-use Rattle.ell_cards.specs.declared.view.Act.{Act}
+use Rattle.ell_runs.specs.declared.view.Act.{Act}
 use Rattle.ell_cards.specs.declared.view.Known.{Known}
-use Rattle.ell_cards.specs.Models.{Has, latest, earlier}
-use Rattle.ell_cards.specs.Seeing.{AreAllApart, AreApart}
+use Rattle.ell_runs.specs.Views.{Has, latest, earlier}
+use Rattle.ell_cards.specs.AllSeen.{AreAllApart}
+use Rattle.ell_runs.specs.Seeing.{AreApart}
 use Rattle.ell_cards.proofs.lemmas.whole.Seeing.{has_either, has_none}
 
 -- the calls of two lists that have none in common

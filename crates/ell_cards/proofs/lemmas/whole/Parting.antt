@@ -5,32 +5,35 @@ use mathlib.Core.Option.{some}
 use lib.ListN.{get_elem?}
 use Rattle.atomic_table.specs.Table.{Splits, Joins}
 use Rattle.atomic_table.proofs.Lists.{set_else}
-use Rattle.ell_cards.specs.declared.view.Event.{Event}
-use Rattle.ell_cards.specs.declared.view.Event.TheVariants.{Quiet}
+use Rattle.ell_runs.specs.declared.view.Event.{Event}
+use Rattle.ell_runs.specs.declared.view.Event.TheVariants.{Quiet}
 use Rattle.ell_cards.specs.declared.view.Known.{Known}
-use Rattle.ell_cards.specs.declared.view.Slots.{Slots}
-use Rattle.ell_cards.specs.Models.{TablePlan, IsFree}
-use Rattle.ell_cards.specs.Changes.{left_view, right_view, joined_view, spent_view}
-use Rattle.ell_cards.specs.Periods.{after_give, given_period, IsAtRest}
-use Rattle.ell_cards.specs.States.{TableState}
+use Rattle.ell_runs.specs.declared.view.Slots.{Slots}
+use Rattle.ell_runs.specs.Plans.{TablePlan}
+use Rattle.ell_runs.specs.Views.{IsFree}
+use Rattle.ell_runs.specs.Changes.{left_view, right_view, joined_view, spent_view}
+use Rattle.ell_cards.specs.Periods.{after_give, given_period}
+use Rattle.ell_runs.specs.Touching.{IsAtRest}
+use Rattle.ell_runs.specs.States.{TableState}
 use Rattle.ell_cards.specs.Ties.{left_known, right_known}
 use Rattle.ell_cards.specs.Shown.{StoresAreWhole}
 use Rattle.ell_cards.specs.Stepping.{MaySplit}
 use Rattle.ell_core.proofs.lemmas.outcomes.Decide.{some_not_none}
-use Rattle.ell_cards.specs.Histories.{history_of}
-use Rattle.ell_cards.specs.Seeing.{HasSeen, AllHaveSeen, AreMade}
-use Rattle.ell_cards.specs.Sights.{given_sight}
-use Rattle.ell_cards.proofs.lemmas.runs.Spent.{neither}
+use Rattle.ell_runs.specs.Histories.{history_of}
+use Rattle.ell_runs.specs.Seeing.{HasSeen}
+use Rattle.ell_cards.specs.AllSeen.{AllHaveSeen, AreMade}
+use Rattle.ell_runs.specs.Sights.{given_sight}
+use Rattle.ell_runs.proofs.lemmas.runs.Spent.{neither}
 use Rattle.ell_cards.proofs.lemmas.whole.Seeing.{silent_set, silent_snoc, has_none, has_left, has_right, has_either, made_quiet, made_set, made_snoc, made_joined, history_snoc, all_on, all_set, all_snoc, seen_on, longer_part}
-use Rattle.ell_cards.specs.Starts.{SlotsFit}
-use Rattle.ell_cards.specs.Turns.{TableTurns, Splits as SplitsInto, Joins as JoinsWith, state_split, state_joined}
+use Rattle.ell_runs.specs.Starts.{SlotsFit}
+use Rattle.ell_runs.specs.Turns.{TableTurns, Splits as SplitsInto, Joins as JoinsWith, state_split, state_joined}
 use Rattle.ell_cards.proofs.lemmas.ties.Handovers.{split_goes, split_held, join_goes, join_held}
 use Rattle.ell_cards.proofs.lemmas.whole.Handovers.{split_periods, join_periods}
 use Rattle.ell_cards.specs.Whole.{trees_of, joined_known, spent_known, PeriodsAre, IsWhole, PlansFit}
-use Rattle.ell_cards.proofs.lemmas.lifetimes.Joins.{each_joined as each_view_joined}
-use Rattle.ell_cards.proofs.lemmas.lifetimes.Splits.{each_split as each_view_split}
+use Rattle.ell_runs.proofs.lemmas.lifetimes.Joins.{each_joined as each_view_joined}
+use Rattle.ell_runs.proofs.lemmas.lifetimes.Splits.{each_split as each_view_split}
 use Rattle.ell_cards.proofs.lemmas.shown.ShownViews.{unfilled_whole}
-use Rattle.ell_cards.proofs.lemmas.runs.Reaching.{reached_on}
+use Rattle.ell_runs.proofs.lemmas.runs.Reaching.{reached_on}
 use Rattle.ell_cards.proofs.lemmas.whole.OwnCalls.{apart_joined, apart_set, apart_snoc}
 use Rattle.ell_cards.proofs.lemmas.whole.Rests.{is_at_rest}
 use Rattle.ell_cards.proofs.lemmas.whole.Retired.{retired_on}
@@ -50,7 +53,7 @@ whole_splits plan k keys quiet may id s h here =
     let l' : Known = record k { tree = left_view keys k.tree; period = after_give k.period } in
     let r : Known = record { tree = right_view keys k.tree; period = given_period k.period; sight = given_sight k.sight } in
     let there : get_elem? h.tree.views id ≡ some k.tree = ap (λ v. get_elem? v id) (sym h.views) ∙ tree_at s.views id k here in
-    let tree : TableState = record { words = h.tree.words; homes = h.tree.homes; views = set h.tree.views id (left_view keys k.tree) ++ (right_view keys k.tree) ∷ [] } in
+    let tree : TableState = record { words = h.tree.words; views = set h.tree.views id (left_view keys k.tree) ++ (right_view keys k.tree) ∷ [] } in
     let turn : TableTurns plan h.tree (SplitsInto id keys) tree = record {
       view = k.tree;
       there = there;
@@ -114,7 +117,7 @@ pub whole_joins : (plan : TablePlan) (k l : Known) → IsFree k.tree → IsFree 
 whole_joins plan k l free other_free unlost id other s h here aside there =
     let ours : get_elem? h.tree.views id ≡ some k.tree = ap (λ v. get_elem? v id) (sym h.views) ∙ tree_at s.views id k here in
     let theirs : get_elem? s.views other ≡ some l = sym (set_else s.views id other (joined_known k l) aside) ∙ there in
-    let tree : TableState = record { words = h.tree.words; homes = h.tree.homes; views = set (set h.tree.views id (joined_view k.tree l.tree)) other spent_view } in
+    let tree : TableState = record { words = h.tree.words; views = set (set h.tree.views id (joined_view k.tree l.tree)) other spent_view } in
     let turn : TableTurns plan h.tree (JoinsWith id other) tree = record {
       view = k.tree;
       view' = l.tree;

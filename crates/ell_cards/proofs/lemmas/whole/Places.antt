@@ -2,23 +2,24 @@ use Rattle.std.proofs.Common.{◌≡◌, ◌≢◌, ℕ, ◌≤◌, ◌==◌, no
 use Rattle.ell_layout.specs.Layout.{table_size}
 use Rattle.ell_cards.specs.declared.pass.Standing.{Standing}
 use Rattle.ell_cards.specs.declared.view.Period.{Period}
+use Rattle.ell_cards.specs.Frames.{StandsStill}
 use Rattle.ell_cards.specs.Inside.{HasSlotThere, PlaceFits}
-use Rattle.ell_cards.specs.declared.view.Slots.{Slots}
-use Rattle.ell_cards.specs.Models.{TablePlan}
-use Rattle.ell_cards.specs.Periods.{LostIs, StandsAs, after_flagging, after_give, after_take, given_period, joined_period, period_by, size_by, slots_size, whole_size}
+use Rattle.ell_runs.specs.declared.view.Slots.{Slots}
+use Rattle.ell_runs.specs.Plans.{TablePlan}
+use Rattle.ell_cards.specs.Periods.{LostIs, StandsAs, after_flagging, after_freeing, after_give, after_take, given_period, joined_period, period_by, size_by, slots_size, whole_size}
 use Rattle.ell_core.proofs.lemmas.outcomes.Decide.{some_not_none}
 
 -- the code of a pass keeps its place where nothing changes
 pub same_place : (standing : Standing) (words words' : ℕ) (p p' : Period) → words' ≡ words → p' ≡ p → PlaceFits standing words p → PlaceFits standing words' p'
 same_place standing words words' p p' same is fits = subst (λ n. PlaceFits standing n p') (sym same) (subst (PlaceFits standing words) (sym is) fits)
 
--- of two steps that leave its places both do
-pub stands_on : {a b c : Period} → StandsAs a b → StandsAs b c → StandsAs a c
+-- of two steps that leave its places both do, where the second sets a slot free
+pub stands_on : {a b c : Period} → StandsAs a b → StandsStill (after_freeing b) c → StandsAs a c
 stands_on first second = record {
-  place = second.place ∙ first.place;
-  other = second.other ∙ first.other;
-  other_says = second.other_says ∙ first.other_says;
-  announced = second.announced ∙ first.announced;
+  place = second.stands.place ∙ first.place;
+  other = second.stands.other ∙ first.other;
+  other_says = second.stands.other_says ∙ first.other_says;
+  announced = second.stands.announced ∙ first.announced;
 }
 
 -- so it does where its places stay, and what is announced there, and the safe number and the slot

@@ -8,23 +8,23 @@ use Rattle.ell_core.specs.history.Later.{WordsLater}
 use Rattle.ell_core.specs.state.Machine.{Worker}
 use Rattle.ell_core.proofs.lemmas.following.waiting.Cards.{hand_claimed}
 use Rattle.ell_grace.specs.Dead.{HasUses}
-use Rattle.ell_cards.specs.declared.call.Call.{Call}
+use Rattle.ell_runs.specs.declared.call.Call.{Call}
 use Rattle.ell_cards.specs.declared.view.Known.{Known}
 use Rattle.ell_cards.specs.declared.view.Period.{Period}
 use Rattle.ell_cards.specs.declared.view.Retired.{Retired}
-use Rattle.ell_cards.specs.declared.view.Sight.{Sight}
-use Rattle.ell_cards.specs.declared.view.Slots.{Slots}
+use Rattle.ell_runs.specs.declared.view.Sight.{Sight}
+use Rattle.ell_runs.specs.declared.view.Slots.{Slots}
 use Rattle.ell_cards.specs.Ages.{IsOut, IsNotedThere, AreRetired, RetiredStaysNoted}
-use Rattle.ell_cards.specs.Calls.{May}
-use Rattle.ell_cards.specs.Laws.{machine_of_table}
-use Rattle.ell_cards.specs.Machines.{HasMachine}
-use Rattle.ell_cards.specs.Models.{TablePlan}
+use Rattle.ell_runs.specs.Calls.{May}
+use Rattle.ell_runs.specs.Laws.{machine_of_table}
+use Rattle.ell_runs.specs.Machines.{HasMachine}
+use Rattle.ell_runs.specs.Plans.{TablePlan}
 use Rattle.ell_cards.specs.Periods.{WholeState, slot_word}
-use Rattle.ell_cards.specs.States.{TableState}
-use Rattle.ell_cards.specs.Turns.{found_by, view_after}
+use Rattle.ell_runs.specs.States.{TableState}
+use Rattle.ell_runs.specs.Turns.{found_by, view_after}
 use Rattle.ell_cards.specs.Whole.{trees_of}
-use Rattle.ell_cards.proofs.lemmas.runs.Hands.{call_held}
-use Rattle.ell_cards.proofs.lemmas.seats.Seats.{mine_is}
+use Rattle.ell_runs.proofs.lemmas.runs.Hands.{call_held}
+use Rattle.ell_runs.proofs.lemmas.seats.Seats.{mine_is}
 use Rattle.ell_cards.proofs.lemmas.whole.Ages.{noted_same}
 use Rattle.ell_cards.proofs.lemmas.whole.Trees.{tree_at}
 

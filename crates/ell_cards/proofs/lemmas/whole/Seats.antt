@@ -9,10 +9,11 @@ use Rattle.ell_layout.specs.Words.{put}
 use Rattle.ell_layout.proofs.lemmas.Writes.{put_same, put_other}
 use Rattle.ell_cards.specs.declared.view.Known.{Known}
 use Rattle.ell_cards.specs.declared.view.Period.{Period}
-use Rattle.ell_cards.specs.declared.view.Slots.{Slots}
-use Rattle.ell_cards.specs.Periods.{clock_word, place_word, slot_word, stamp_at, period_of, period_in, LieInSlots, PeriodHolds, HasPlace, own, spare, IsAtRest, place_says}
+use Rattle.ell_runs.specs.declared.view.Slots.{Slots}
+use Rattle.ell_cards.specs.Periods.{clock_word, place_word, slot_word, stamp_at, period_of, period_in, LieInSlots, PeriodHolds, HasPlace, own, spare, place_says}
+use Rattle.ell_runs.specs.Touching.{IsAtRest}
 use Rattle.ell_cards.specs.SlotWords.{slot_of, card_by, freed_by}
-use Rattle.ell_cards.proofs.lemmas.seats.Seats.{set_there}
+use Rattle.ell_runs.proofs.lemmas.seats.Seats.{set_there}
 
 -- the words of the cards stand before the clock, and the places behind it
 pub before_clock : (s : Slots) (i : ℕ) → i < table_size s.last → i < clock_word s

@@ -9,38 +9,40 @@ use Rattle.atomic_table.proofs.Lists.{at_set, at_snoc, at_map, set_else}
 use Rattle.ell_ops.specs.declared.op.Op.{Op}
 use Rattle.ell_ops.specs.declared.reply.Reply.{Reply}
 use Rattle.ell_core.proofs.lemmas.outcomes.Decide.{some_not_none}
-use Rattle.ell_cards.specs.declared.call.Call.{Call}
-use Rattle.ell_cards.specs.declared.call.Call.TheVariants as call
-use Rattle.ell_cards.specs.declared.view.Act.{Act}
-use Rattle.ell_cards.specs.declared.view.Event.{Event}
-use Rattle.ell_cards.specs.declared.view.Event.TheVariants.{Begins, Ends, Looks, Quiet}
+use Rattle.ell_runs.specs.declared.call.Call.{Call}
+use Rattle.ell_runs.specs.declared.call.Call.TheVariants as call
+use Rattle.ell_runs.specs.declared.view.Act.{Act}
+use Rattle.ell_runs.specs.declared.view.Event.{Event}
+use Rattle.ell_runs.specs.declared.view.Event.TheVariants.{Begins, Ends, Looks, Quiet}
 use Rattle.ell_cards.specs.declared.view.Known.{Known}
-use Rattle.ell_cards.specs.declared.view.Sight.{Sight}
-use Rattle.ell_cards.specs.declared.view.View.{View}
+use Rattle.ell_runs.specs.declared.view.Sight.{Sight}
+use Rattle.ell_runs.specs.declared.view.View.{View}
 use Rattle.ell_ops.specs.Contents.{contents_of}
-use Rattle.ell_cards.specs.Histories.{IsCall, IsLinearizable, event_of, history_of}
-use Rattle.ell_cards.specs.Linearizing.{IsAnswered, KeepsOnBetween}
-use Rattle.ell_cards.specs.Models.{TablePlan, Does, Has, IsFree, latest, earlier}
-use Rattle.ell_cards.specs.Calls.{May, after}
-use Rattle.ell_cards.specs.Changing.{HasMap}
-use Rattle.ell_cards.specs.Linearizing.{ops_of}
-use Rattle.ell_cards.specs.TurnEffects.{own_words}
+use Rattle.ell_runs.specs.Histories.{IsCall, IsLinearizable, event_of, history_of}
+use Rattle.ell_runs.specs.Linearizing.{IsAnswered, KeepsOnBetween}
+use Rattle.ell_runs.specs.Plans.{TablePlan}
+use Rattle.ell_runs.specs.Views.{Does, Has, IsFree, latest, earlier}
+use Rattle.ell_runs.specs.Calls.{May, after}
+use Rattle.ell_runs.specs.Changing.{HasMap}
+use Rattle.ell_runs.specs.Linearizing.{ops_of}
+use Rattle.ell_runs.specs.TurnEffects.{own_words}
 use Rattle.ell_ops.specs.Meaning.{final}
 use Rattle.ell_cards.specs.Whole.{trees_of}
-use Rattle.ell_cards.proofs.lemmas.runs.Spent.{IsAllThere, all_there}
-use Rattle.ell_cards.proofs.lemmas.seats.Taken.{owned_stays}
-use Rattle.ell_cards.proofs.lemmas.seats.Seats.{set_there}
+use Rattle.ell_runs.proofs.lemmas.runs.Spent.{IsAllThere, all_there}
+use Rattle.ell_runs.proofs.lemmas.seats.Staying.{owned_stays}
+use Rattle.ell_runs.proofs.lemmas.seats.Seats.{set_there}
 use Rattle.std.specs.Option.{option_or}
-use Rattle.ell_cards.specs.Seeing.{BeganAt, HasSeen, AllHaveSeen, IsMadeBy, AreMade, AreAllApart, AreSilent, IsSpentIn, HasSeenAll, SeesEnd, Marks, IsCalm}
+use Rattle.ell_runs.specs.Seeing.{BeganAt, HasSeen, IsSpentIn, HasSeenAll, SeesEnd, Marks, IsCalm}
+use Rattle.ell_cards.specs.AllSeen.{AllHaveSeen, IsMadeBy, AreMade, AreAllApart, AreSilent}
 use Rattle.ell_cards.specs.Shown.{shown, shown_call}
-use Rattle.ell_cards.specs.Sights.{IsPart, longer}
-use Rattle.ell_cards.specs.Starts.{IsReached}
-use Rattle.ell_cards.specs.States.{TableState}
-use Rattle.ell_cards.specs.Turns.{Turn, Makes}
-use Rattle.ell_cards.proofs.lemmas.runs.Histories.{ended_only, lin, linear_of, call_of, begin_at, histories_are_linearizable}
-use Rattle.ell_cards.proofs.lemmas.runs.LinearizingAnswers.{behind}
-use Rattle.ell_cards.proofs.lemmas.runs.LinearizingPoints.{begun_of}
-use Rattle.ell_cards.proofs.lemmas.runs.LinearizingStates.{at_end, state_at, run_to}
+use Rattle.ell_runs.specs.Sights.{IsPart, longer}
+use Rattle.ell_runs.specs.Starts.{IsReached}
+use Rattle.ell_runs.specs.States.{TableState}
+use Rattle.ell_runs.specs.Turns.{Turn, Makes}
+use Rattle.ell_runs.proofs.lemmas.runs.Histories.{ended_only, lin, linear_of, call_of, begin_at, histories_are_linearizable}
+use Rattle.ell_runs.proofs.lemmas.runs.LinearizingAnswers.{behind}
+use Rattle.ell_runs.proofs.lemmas.runs.LinearizingPoints.{begun_of}
+use Rattle.ell_runs.proofs.lemmas.runs.LinearizingStates.{at_end, state_at, run_to}
 
 -- the operation that an event begins, if the pass in the seat begins one there
 abbrev pub begin_in : ℕ → Event → Option (ℕ × Op)

@@ -3,25 +3,27 @@ use Rattle.std.proofs.Common.{◌≡◌, ◌≢◌, ℕ, Option, List, [], ◌�
 use mathlib.Core.Option.{some}
 use lib.ListN.{get_elem?}
 use Rattle.ell_ops.specs.declared.reply.Reply.{Reply}
-use Rattle.ell_cards.specs.declared.call.Call.{Call}
-use Rattle.ell_cards.specs.declared.call.Call.TheVariants as call
-use Rattle.ell_cards.specs.declared.view.Act.{Act}
-use Rattle.ell_cards.specs.declared.view.Event.{Event}
-use Rattle.ell_cards.specs.declared.view.Event.TheVariants.{Ends}
+use Rattle.ell_runs.specs.declared.call.Call.{Call}
+use Rattle.ell_runs.specs.declared.call.Call.TheVariants as call
+use Rattle.ell_runs.specs.declared.view.Act.{Act}
+use Rattle.ell_runs.specs.declared.view.Event.{Event}
+use Rattle.ell_runs.specs.declared.view.Event.TheVariants.{Ends}
 use Rattle.ell_cards.specs.declared.view.Known.{Known}
-use Rattle.ell_cards.specs.declared.view.Sight.{Sight}
-use Rattle.ell_cards.specs.declared.view.View.{View}
-use Rattle.ell_cards.specs.Calls.{May, after}
-use Rattle.ell_cards.specs.Histories.{IsCall, event_of, history_of}
-use Rattle.ell_cards.specs.Models.{TablePlan, Has, IsFree}
-use Rattle.ell_cards.specs.Seeing.{AllHaveSeen, AreAllApart, AreApart, AreMade, AreSilent, HasSeen, IsCalm, IsSpentIn}
-use Rattle.ell_cards.specs.Starts.{IsReached}
-use Rattle.ell_cards.specs.States.{TableState}
-use Rattle.ell_cards.specs.Turns.{Makes}
-use Rattle.ell_cards.proofs.lemmas.runs.Histories.{answered_of, lin}
-use Rattle.ell_cards.proofs.lemmas.runs.LinearizingPoints.{one_end}
-use Rattle.ell_cards.proofs.lemmas.runs.Reaching.{call_on}
-use Rattle.ell_cards.proofs.lemmas.runs.Spent.{spent_are_spent}
+use Rattle.ell_runs.specs.declared.view.Sight.{Sight}
+use Rattle.ell_runs.specs.declared.view.View.{View}
+use Rattle.ell_runs.specs.Calls.{May, after}
+use Rattle.ell_runs.specs.Histories.{IsCall, event_of, history_of}
+use Rattle.ell_runs.specs.Plans.{TablePlan}
+use Rattle.ell_runs.specs.Views.{Has, IsFree}
+use Rattle.ell_cards.specs.AllSeen.{AllHaveSeen, AreAllApart, AreMade, AreSilent}
+use Rattle.ell_runs.specs.Seeing.{AreApart, HasSeen, IsCalm, IsSpentIn}
+use Rattle.ell_runs.specs.Starts.{IsReached}
+use Rattle.ell_runs.specs.States.{TableState}
+use Rattle.ell_runs.specs.Turns.{Makes}
+use Rattle.ell_runs.proofs.lemmas.runs.Histories.{answered_of, lin}
+use Rattle.ell_runs.proofs.lemmas.runs.LinearizingPoints.{one_end}
+use Rattle.ell_runs.proofs.lemmas.runs.Reaching.{call_on}
+use Rattle.ell_runs.proofs.lemmas.runs.Spent.{spent_are_spent}
 use Rattle.ell_cards.proofs.lemmas.whole.OwnCalls.{apart_set}
 use Rattle.ell_cards.proofs.lemmas.whole.Seeing.{act_of, at_inside, call_more, ends_call, has_first, history_snoc, made_by, made_quiet, made_set, marked_seen, seen_on, silent_call, spent_before, whole_part, marked}
 

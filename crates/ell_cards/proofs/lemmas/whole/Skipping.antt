@@ -4,32 +4,34 @@ use mathlib.Core.Option.{some}
 use lib.ListN.{get_elem?}
 use prog.Atomic.{either}
 use Rattle.atomic_table.specs.Table.{Allows, Act, Valid, carried_after, keeps, stepped}
-use Rattle.ell_cards.specs.declared.call.Call.TheVariants as call
-use Rattle.ell_cards.specs.declared.call.NewNode.{NewNode}
+use Rattle.ell_runs.specs.declared.call.Call.TheVariants as call
+use Rattle.ell_runs.specs.declared.call.NewNode.{NewNode}
 use Rattle.ell_cards.specs.declared.view.Known.{Known}
-use Rattle.ell_cards.specs.declared.view.Slots.{Slots}
-use Rattle.ell_cards.specs.declared.view.View.{View}
+use Rattle.ell_runs.specs.declared.view.Slots.{Slots}
+use Rattle.ell_runs.specs.declared.view.View.{View}
 use Rattle.ell_cards.specs.Ages.{HasPeriods}
-use Rattle.ell_cards.specs.Holding.{HoldsWaiting}
+use Rattle.ell_runs.specs.Holding.{HoldsWaiting}
 use Rattle.std.proofs.lemmas.Bool.{false≢true}
 use Rattle.std.proofs.lemmas.Option.{same_Some}
-use Rattle.ell_cards.specs.Calls.{after, May}
-use Rattle.ell_cards.specs.Changes.{ledger_keys, after_claim}
-use Rattle.ell_cards.specs.Guards.{MayClaim}
-use Rattle.ell_cards.specs.Models.{TablePlan, TableModel, PassModel, flat_from, last_slot_of}
-use Rattle.ell_cards.specs.Naming.{IsPlaced}
+use Rattle.ell_runs.specs.Calls.{after, May}
+use Rattle.ell_runs.specs.Changes.{ledger_keys, after_claim}
+use Rattle.ell_runs.specs.Guards.{MayClaim}
+use Rattle.ell_runs.specs.Plans.{TablePlan, flat_from}
+use Rattle.ell_cards.specs.Models.{TableModel, PassModel, last_slot_of}
+use Rattle.ell_cards.specs.InSlots.{IsPlaced}
 use Rattle.ell_cards.specs.Periods.{whole_size, WholeState}
 use Rattle.ell_cards.specs.Apart.{IsApart}
 use Rattle.ell_cards.specs.Shown.{IsWord, cut_word, cut_planned, shown}
 use Rattle.ell_cards.specs.Skipping.{after_one, after_row, after_claimed_row, IsFresh, MayStepOn}
-use Rattle.ell_cards.specs.Starts.{SlotsFit}
-use Rattle.ell_cards.specs.Stepping.{IsInside, KeepsPass, MayInTable, SameShare, MayTell}
-use Rattle.ell_cards.specs.Turns.{found_by, state_after, view_after}
+use Rattle.ell_runs.specs.Starts.{SlotsFit}
+use Rattle.ell_cards.specs.Stepping.{IsInside, KeepsPass, MayInTable, MayTell}
+use Rattle.ell_runs.specs.Views.{SameShare}
+use Rattle.ell_runs.specs.Turns.{found_by, state_after, view_after}
 use Rattle.ell_cards.specs.Whole.{WordsAre, PeriodsAre, IsWhole}
-use Rattle.ell_cards.proofs.lemmas.runs.Reaching.{reached_kept, call_on}
-use Rattle.ell_cards.proofs.lemmas.seats.Named.{kept_named}
+use Rattle.ell_runs.proofs.lemmas.runs.Reaching.{reached_kept, call_on}
+use Rattle.ell_runs.proofs.lemmas.seats.Named.{kept_named}
 use Rattle.ell_cards.proofs.lemmas.seats.Opened.{allowed, of_table}
-use Rattle.ell_cards.proofs.lemmas.seats.Seats.{set_there}
+use Rattle.ell_runs.proofs.lemmas.seats.Seats.{set_there}
 use Rattle.ell_cards.proofs.lemmas.shown.CutWords.{cut_same}
 use Rattle.ell_cards.proofs.lemmas.shown.ShownChanges.{claims_are_shown}
 use Rattle.ell_cards.proofs.lemmas.shown.ShownGuards.{claim_whole}

@@ -1,4 +1,4 @@
-use Rattle.std.proofs.Common.{◌≡◌, ◌≢◌, ℕ, ◌+◌, ◌*◌, ◌%◌, ◌^◌, ◌<◌, ◌≤◌, ◌==◌, ◌&&◌, nat_lt, nat_le, if◌then◌else◌, Bool, true, false, Option, Some, None, List, length, get_or, set, inl, inr, ◌⊎◌, refl, sym, ap, ◌∙◌, subst, arith, ne_eqb, eq-eqb, get_or-set_same, get_or-set_other}
+use Rattle.std.proofs.Common.{◌≡◌, ◌≢◌, ℕ, ◌+◌, ◌*◌, ◌%◌, ◌<◌, ◌≤◌, ◌==◌, ◌&&◌, nat_lt, nat_le, if◌then◌else◌, Bool, true, false, Option, Some, None, List, length, get_or, set, inl, inr, ◌⊎◌, refl, sym, ap, ◌∙◌, subst, arith, ne_eqb, eq-eqb, get_or-set_same, get_or-set_other}
 use Rattle.std.proofs.lemmas.Option.{same_Some}
 use Rattle.std.proofs.lemmas.Bool.{cases_eq}
 use Rattle.std.proofs.lemmas.Bool.Decides.{nat_tests}
@@ -13,8 +13,8 @@ use Rattle.ell_grace.proofs.lemmas.epochs.Grace.{grace_goes_on, taken_cards_were
 use Rattle.ell_cards.specs.declared.view.Known.{Known}
 use Rattle.ell_cards.specs.declared.view.Period.{Period}
 use Rattle.ell_cards.specs.declared.view.Retired.{Retired}
-use Rattle.ell_cards.specs.declared.view.Slots.{Slots}
-use Rattle.ell_cards.specs.Periods.{WholeState, clock_word, place_word, slot_word, slots_size, stamp_at, pending_by, period_in, word_at_place, announced_by, place_says, last_reading, after_read, after_stamp, after_taking, LieInSlots, HasPlace, own, spare, StandsAs, PeriodHolds, PeriodsAreSound, grace_of}
+use Rattle.ell_runs.specs.declared.view.Slots.{Slots}
+use Rattle.ell_cards.specs.Periods.{WholeState, clock_word, place_word, slot_word, slots_size, stamp_at, pending_by, period_in, word_at_place, announced_by, place_says, after_read, after_stamp, after_taking, LieInSlots, HasPlace, own, spare, StandsAs, PeriodHolds, PeriodsAreSound, grace_of}
 use Rattle.ell_cards.specs.SlotWords.{slot_of, turn_of, turn_in, stamp_in, free_word, card_by, freed_by, taken_word}
 use Rattle.ell_cards.proofs.lemmas.whole.Seats.{before_slots, clock_before_slots, stamp_by, stamps_same, period_was, part_put, part_same, holds_on}
 use Rattle.ell_cards.proofs.lemmas.whole.Steps.{word_again, announced_again, periods_after}

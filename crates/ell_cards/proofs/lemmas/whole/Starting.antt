@@ -7,19 +7,21 @@ use Rattle.ell_layout.specs.Start.{words_at_start}
 use Rattle.ell_layout.specs.Words.{words_of}
 use Rattle.ell_cards.specs.declared.view.Known.{Known}
 use Rattle.ell_cards.specs.declared.view.Period.{Period}
-use Rattle.ell_cards.specs.declared.view.Slots.{Slots}
-use Rattle.ell_cards.specs.declared.view.View.{View}
-use Rattle.ell_cards.specs.Changes.{first_of}
-use Rattle.ell_cards.specs.Models.{TablePlan, last_slot, last_slot_of}
+use Rattle.ell_runs.specs.declared.view.Slots.{Slots}
+use Rattle.ell_runs.specs.declared.view.View.{View}
+use Rattle.ell_runs.specs.Changes.{first_of}
+use Rattle.ell_runs.specs.Plans.{TablePlan}
+use Rattle.ell_cards.specs.Models.{last_slot, last_slot_of}
 use Rattle.ell_cards.specs.Periods.{AreWholeWords, period_by}
 use Rattle.ell_core.proofs.lemmas.outcomes.Decide.{some_not_none}
-use Rattle.ell_cards.specs.Seeing.{HasSeen, AllHaveSeen, AreSilent}
+use Rattle.ell_runs.specs.Seeing.{HasSeen}
+use Rattle.ell_cards.specs.AllSeen.{AllHaveSeen, AreSilent}
 use Rattle.ell_cards.specs.Shown.{IsWord, FieldIsWhole, StoresAreWhole}
-use Rattle.ell_cards.specs.Sights.{no_sight}
-use Rattle.ell_cards.specs.Starts.{MayStart, SlotsFit}
+use Rattle.ell_runs.specs.Sights.{no_sight}
+use Rattle.ell_runs.specs.Starts.{MayStart, SlotsFit}
 use Rattle.ell_cards.specs.Whole.{first_known, WordsAre, PeriodsAre, IsWhole, PlansFit}
-use Rattle.ell_cards.proofs.lemmas.lifetimes.Openings.{each_first}
-use Rattle.ell_cards.proofs.lemmas.runs.Reaching.{reached_first}
+use Rattle.ell_runs.proofs.lemmas.lifetimes.Openings.{each_first}
+use Rattle.ell_runs.proofs.lemmas.runs.Reaching.{reached_first}
 use Rattle.ell_cards.proofs.lemmas.shown.ShownKinds.{field_is_whole}
 use Rattle.ell_cards.proofs.lemmas.shown.ShownViews.{unfilled_whole}
 use Rattle.ell_cards.proofs.lemmas.ties.Opens.{tree_opened, reached_opened, periods_opened, leaks_opened}
@@ -49,7 +51,7 @@ whole_first plan may cards words small size are is = by plan.slots refl may.slot
     by None none fit same =
         let all : length cards ≡ table_size plan.last_card = size ∙ ap (λ o. table_size (last_slot_of o plan.last_card)) none in
         record {
-          tree = opening cards [] (first_of plan);
+          tree = record { words = cards; views = first_of plan ∷ [] };
           reached = reached_first plan cards may all are;
           seen = first_seen (first_of plan) (period_by plan.slots);
           made = λ a c. absurd (some-ne-none _ (sym c.ends));
@@ -59,7 +61,7 @@ whole_first plan may cards words small size are is = by plan.slots refl may.slot
           homes = refl;
           stores = each_first (first_of plan) (λ v. StoresAreWhole v × PlansFit plan.slots v) (unfilled_whole (first_of plan) refl refl, unplanned_fits plan.slots (first_of plan) refl);
           words = subst (λ o. WordsAre o words cards) (sym none) same;
-          periods = subst (λ o. PeriodsAre plan o (opening cards [] (first_of plan)) (opening words [] (first_known plan))) (sym none) tt;
+          periods = subst (λ o. PeriodsAre plan o ((record { words = cards; views = first_of plan ∷ [] })) (opening words [] (first_known plan))) (sym none) tt;
         }
     by (Some s) placed fit opens =
         let all : length cards ≡ table_size s.last = size ∙ ap (λ o. table_size (last_slot_of o plan.last_card)) placed in

@@ -14,10 +14,11 @@ use Rattle.ell_grace.specs.epochs.Periods.{GraceIsSound}
 use Rattle.ell_grace.proofs.lemmas.epochs.Grace.{grace_goes_on}
 use Rattle.ell_cards.specs.declared.view.Known.{Known}
 use Rattle.ell_cards.specs.declared.view.Period.{Period}
-use Rattle.ell_cards.specs.declared.view.Sight.{Sight}
-use Rattle.ell_cards.specs.declared.view.Slots.{Slots}
+use Rattle.ell_runs.specs.declared.view.Sight.{Sight}
+use Rattle.ell_runs.specs.declared.view.Slots.{Slots}
 use Rattle.ell_cards.specs.declared.view.Survey.{Survey}
-use Rattle.ell_cards.specs.Periods.{WholeState, clock_word, place_word, slot_word, slots_size, stamp_at, pending_by, period_in, word_at_place, announced_by, place_says, last_reading, after_clock, after_announce, after_retract, after_look_at, after_take, after_give, after_release, settled_at, surveyed_at, HasPlace, own, spare, IsAtRest, PeriodHolds, PeriodsAreSound, grace_of}
+use Rattle.ell_cards.specs.Periods.{WholeState, clock_word, place_word, slot_word, slots_size, stamp_at, pending_by, period_in, word_at_place, announced_by, place_says, last_reading, after_clock, after_announce, after_retract, after_look_at, after_take, after_give, after_release, settled_at, surveyed_at, HasPlace, own, spare, PeriodHolds, PeriodsAreSound, grace_of}
+use Rattle.ell_runs.specs.Touching.{IsAtRest}
 use Rattle.ell_cards.proofs.lemmas.whole.Seats.{places_apart, before_slots, clock_before_slots, stamps_same, period_was, part_put, part_same, holds_on}
 use Rattle.ell_cards.proofs.lemmas.whole.Trees.{grace_same}
 

@@ -9,15 +9,15 @@ use prog.Atomic.{either}
 use Rattle.ell_layout.specs.Words.{put}
 use Rattle.ell_cards.specs.declared.view.Known.{Known}
 use Rattle.ell_cards.specs.declared.view.Period.{Period}
-use Rattle.ell_cards.specs.declared.view.Slots.{Slots}
+use Rattle.ell_runs.specs.declared.view.Slots.{Slots}
 use Rattle.ell_cards.specs.Ages.{HasPeriods}
-use Rattle.ell_cards.specs.Models.{TablePlan}
+use Rattle.ell_runs.specs.Plans.{TablePlan}
 use Rattle.ell_cards.specs.Periods.{WholeState, slot_word, slots_size, after_read, after_taking}
 use Rattle.ell_cards.specs.SlotWords.{has_slot_in, slot_of, turn_of, stamp_in, taken_word}
-use Rattle.ell_cards.specs.Starts.{IsReached}
-use Rattle.ell_cards.specs.States.{TableState}
+use Rattle.ell_runs.specs.Starts.{IsReached}
+use Rattle.ell_runs.specs.States.{TableState}
 use Rattle.ell_cards.specs.Stepping.{MayGoOn}
-use Rattle.ell_cards.specs.Holding.{HoldsWaiting}
+use Rattle.ell_runs.specs.Holding.{HoldsWaiting}
 use Rattle.ell_cards.specs.Whole.{trees_of}
 use Rattle.ell_cards.proofs.lemmas.ties.TakingSlots.{take_goes}
 use Rattle.ell_cards.proofs.lemmas.whole.Freeing.{reads_now}

@@ -3,30 +3,31 @@ use Rattle.std.proofs.Common.{◌≡◌, ◌≢◌, ℕ, ◌<◌, None, List, []
 use mathlib.Core.Option.{some}
 use lib.ListN.{get_elem?}
 use Rattle.atomic_table.specs.Table.{Allows}
-use Rattle.ell_cards.specs.declared.call.Call.{Call}
-use Rattle.ell_cards.specs.declared.call.Call.TheVariants as call
-use Rattle.ell_cards.specs.declared.view.Event.{Event}
-use Rattle.ell_cards.specs.declared.view.Event.TheVariants.{Quiet}
+use Rattle.ell_runs.specs.declared.call.Call.{Call}
+use Rattle.ell_runs.specs.declared.call.Call.TheVariants as call
+use Rattle.ell_runs.specs.declared.view.Event.{Event}
+use Rattle.ell_runs.specs.declared.view.Event.TheVariants.{Quiet}
 use Rattle.ell_cards.specs.declared.view.Known.{Known}
-use Rattle.ell_cards.specs.declared.view.Sight.{Sight}
-use Rattle.ell_cards.specs.declared.view.View.{View}
-use Rattle.ell_cards.specs.Calls.{May, after}
-use Rattle.ell_cards.specs.Histories.{history_of}
-use Rattle.ell_cards.specs.Models.{PassModel, TableModel, TablePlan}
+use Rattle.ell_runs.specs.declared.view.Sight.{Sight}
+use Rattle.ell_runs.specs.declared.view.View.{View}
+use Rattle.ell_runs.specs.Calls.{May, after}
+use Rattle.ell_runs.specs.Histories.{history_of}
+use Rattle.ell_cards.specs.Models.{PassModel, TableModel}
+use Rattle.ell_runs.specs.Plans.{TablePlan}
 use Rattle.ell_cards.specs.Periods.{WholeState, whole_size}
-use Rattle.ell_cards.specs.Seeing.{HasSeenAll, HasSeenMore, IsCalm}
+use Rattle.ell_runs.specs.Seeing.{HasSeenAll, HasSeenMore, IsCalm}
 use Rattle.ell_cards.specs.Shown.{shown, shown_call}
-use Rattle.ell_cards.specs.Starts.{SlotsFit}
+use Rattle.ell_runs.specs.Starts.{SlotsFit}
 use Rattle.ell_cards.specs.Stepping.{MayTell}
-use Rattle.ell_cards.specs.Turns.{Makes, state_after, view_after}
+use Rattle.ell_runs.specs.Turns.{Makes, state_after, view_after}
 use Rattle.ell_cards.specs.Closed.{EndsHistory, HistoryEnds}
-use Rattle.ell_cards.specs.Linearizing.{ops_of}
+use Rattle.ell_runs.specs.Linearizing.{ops_of}
 use Rattle.ell_ops.specs.Contents.{contents_of}
 use Rattle.ell_ops.specs.Meaning.{final}
 use Rattle.ell_cards.specs.Whole.{IsWhole}
-use Rattle.ell_cards.proofs.lemmas.runs.Reaching.{call_on}
+use Rattle.ell_runs.proofs.lemmas.runs.Reaching.{call_on}
 use Rattle.ell_cards.proofs.lemmas.seats.Opened.{allowed, of_table}
-use Rattle.ell_cards.proofs.lemmas.seats.Seats.{set_there}
+use Rattle.ell_runs.proofs.lemmas.seats.Seats.{set_there}
 use Rattle.ell_cards.proofs.lemmas.whole.Calling.{goes_by, load_does, made_after, seen_after, silent_after, tree_here, views_after}
 use Rattle.ell_cards.proofs.lemmas.whole.Calling.Notes.{nothing}
 use Rattle.ell_cards.proofs.lemmas.whole.Places.{size_some}

@@ -7,9 +7,10 @@ use Rattle.ell_layout.specs.Layout.{table_size}
 use Rattle.ell_grace.specs.epochs.Grace.{Grace}
 use Rattle.ell_grace.specs.epochs.Periods.{GraceIsSound}
 use Rattle.ell_cards.specs.declared.view.Known.{Known}
-use Rattle.ell_cards.specs.declared.view.Slots.{Slots}
-use Rattle.ell_cards.specs.declared.view.View.{View}
-use Rattle.ell_cards.specs.Periods.{WholeState, clock_word, place_word, slot_word, pending_by, announced_by, IsAtRest, PeriodHolds, HasPlace, PeriodsAreSound, grace_of}
+use Rattle.ell_runs.specs.declared.view.Slots.{Slots}
+use Rattle.ell_runs.specs.declared.view.View.{View}
+use Rattle.ell_cards.specs.Periods.{WholeState, clock_word, place_word, slot_word, pending_by, announced_by, PeriodHolds, HasPlace, PeriodsAreSound, grace_of}
+use Rattle.ell_runs.specs.Touching.{IsAtRest}
 use Rattle.ell_cards.specs.Whole.{trees_of}
 use Rattle.ell_cards.proofs.lemmas.whole.Seats.{before_clock, clock_before_slots, stamps_same, part_same, holds_on, holds_of}
 

@@ -10,23 +10,24 @@ use Rattle.ell_grace.proofs.lemmas.dead.Runs.{never_comes_stays_out}
 use Rattle.ell_layout.specs.declared.field.Field.{Field}
 use Rattle.ell_layout.specs.Layout.{address}
 use Rattle.ell_layout.proofs.lemmas.Listed.{same_card}
-use Rattle.ell_cards.specs.declared.call.Call.{Call}
+use Rattle.ell_runs.specs.declared.call.Call.{Call}
 use Rattle.ell_cards.specs.declared.view.Known.{Known}
-use Rattle.ell_cards.specs.declared.view.Slots.{Slots}
+use Rattle.ell_runs.specs.declared.view.Slots.{Slots}
 use Rattle.ell_cards.specs.Ages.{is_dead, is_aside, is_beyond, AreDead, ForgotWhen, HasPeriods}
-use Rattle.ell_cards.specs.Calls.{May, word_of}
-use Rattle.ell_cards.specs.Laws.{machine_of_table}
-use Rattle.ell_cards.specs.Models.{TablePlan}
+use Rattle.ell_runs.specs.Calls.{May, word_of}
+use Rattle.ell_runs.specs.Laws.{machine_of_table}
+use Rattle.ell_runs.specs.Plans.{TablePlan}
 use Rattle.ell_cards.specs.PeriodLaws.{IsSafelyFree, FreeSlotsAreUntouched}
-use Rattle.ell_cards.specs.Periods.{WholeState, IsAtRest, slots_size}
+use Rattle.ell_cards.specs.Periods.{WholeState, slots_size}
+use Rattle.ell_runs.specs.Touching.{IsAtRest}
 use Rattle.ell_cards.specs.SlotWords.{slot_of}
-use Rattle.ell_cards.specs.States.{TableState}
+use Rattle.ell_runs.specs.States.{TableState}
 use Rattle.ell_cards.specs.Tied.{MayInMemory}
 use Rattle.ell_cards.specs.Ties.{card_touched}
-use Rattle.ell_cards.specs.Touching.{Touched, AtNode, OfCard, AtRoot, touched_by, IsWordOf, IsTheRoots}
+use Rattle.ell_runs.specs.Touching.{Touched, AtNode, OfCard, AtRoot, touched_by, IsWordOf, IsTheRoots}
 use Rattle.ell_cards.specs.Whole.{WordsAre, PeriodsAre}
-use Rattle.ell_cards.proofs.lemmas.runs.Touching.{calls_touch_their_words}
-use Rattle.ell_cards.proofs.lemmas.whole.Rests.{rest_touches_the_root}
+use Rattle.ell_runs.proofs.lemmas.runs.Touching.{calls_touch_their_words}
+use Rattle.ell_runs.proofs.lemmas.runs.Rests.{rest_touches_the_root}
 use Rattle.ell_cards.proofs.lemmas.whole.Slots.{taken_is_dead, taken_was_dead_for}
 use Rattle.ell_cards.proofs.lemmas.whole.Trees.{tree_at}
 use Rattle.ell_cards.proofs.lemmas.ties.Touched.{IsReady, spots, no_claim, touched_lies, calls_touch_nothing_out}

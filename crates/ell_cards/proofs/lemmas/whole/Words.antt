@@ -1,9 +1,10 @@
 use Rattle.std.proofs.Common.{◌≡◌, ◌≢◌, ℕ, ◌<◌, ◌≤◌, Option, Some, None, true, refl, sym, ap, ◌∙◌, subst, arith}
 use Rattle.ell_word.specs.Node.{greatest_card}
-use Rattle.ell_cards.specs.declared.view.Slots.{Slots}
-use Rattle.ell_cards.specs.Models.{TablePlan, TableModel}
+use Rattle.ell_runs.specs.declared.view.Slots.{Slots}
+use Rattle.ell_runs.specs.Plans.{TablePlan}
+use Rattle.ell_cards.specs.Models.{TableModel}
 use Rattle.ell_cards.specs.Periods.{clock_word, place_word, size_by, slots_size, whole_size}
-use Rattle.ell_cards.specs.Starts.{SlotsFit}
+use Rattle.ell_runs.specs.Starts.{SlotsFit}
 
 -- slots that fit a plan are of a flat tree
 flat_by : (plan : TablePlan) (o : Option Slots) → SlotsFit plan o → o ≢ None → plan.flat ≡ true

@@ -5,8 +5,8 @@ use Rattle.ell_core.specs.declared.fact.Fact.{Fact}
 use Rattle.ell_core.proofs.lemmas.words.Packed.{packed_again}
 use Rattle.ell_word.specs.Word.{packed, unpacked}
 use Rattle.ell_word.specs.declared.update.Update.{Update}
-use Rattle.ell_cards.specs.declared.view.View.{View}
-use Rattle.ell_cards.specs.Changes.{after_flag, exchanged, found_update, found_word, if_won, update_outcome}
+use Rattle.ell_runs.specs.declared.view.View.{View}
+use Rattle.ell_runs.specs.Changes.{after_flag, exchanged, found_update, found_word, if_won, update_outcome}
 
 -- what a pass knows after it tried to set a flag, by the word that its exchange found, and by what it was answered
 pub flagged_so : (k : Exchange) (c : ℕ) (flag : Fact) (x : ℕ) (from : Update) (v : View) (expected n : ℕ) (said : Result (Unit {0}) Update) → expected ≡ packed from → said ≡ update_outcome expected n

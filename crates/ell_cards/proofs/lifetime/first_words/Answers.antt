@@ -1,7 +1,8 @@
 use Rattle.std.proofs.Common.{ℕ, List, length, get_or, ap, ◌∙◌, subst}
 use Rattle.ell_cards.specs.Shown.{IsWord}
 use Rattle.ell_layout.specs.Layout.{table_size}
-use Rattle.ell_cards.specs.Models.{TablePlan, last_slot}
+use Rattle.ell_runs.specs.Plans.{TablePlan}
+use Rattle.ell_cards.specs.Models.{last_slot}
 use Rattle.ell_cards.proofs.lemmas.whole.Opens.{whole_by, whole_length}
 use Rattle.ell_cards.proofs.lemmas.whole.Starting.{whole_first}
 use Rattle.ell_cards.proofs.lifetime.first_words.Goals as goal

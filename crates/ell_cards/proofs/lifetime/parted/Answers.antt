@@ -1,6 +1,6 @@
 use Rattle.std.proofs.Common.{◌≡◌, ◌≤◌, ◌++◌, ℕ, List, length, drop, append-nil, sym, ap, ◌∙◌, arith}
 use Rattle.std.proofs.lemmas.List.{drop_all}
-use Rattle.ell_cards.proofs.lemmas.lifetimes.Parts.{without, ascending_parts}
+use Rattle.ell_runs.proofs.lemmas.lifetimes.Parts.{without, ascending_parts}
 use Rattle.ell_cards.proofs.lifetime.parted.Goals as goal
 
 -- what is left at the end of the walk is nothing

@@ -1,5 +1,5 @@
 use Rattle.std.proofs.Common.{◌≡◌, ◌++◌, drop}
-use Rattle.ell_cards.proofs.lemmas.lifetimes.Parts.{without}
+use Rattle.ell_runs.proofs.lemmas.lifetimes.Parts.{without}
 use Rattle.ell_cards.proofs.lifetime.parted.Given as goal
 
 abbrev pub invariant-loop-key : goal.invariant-loop-key

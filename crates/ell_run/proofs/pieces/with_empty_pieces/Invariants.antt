@@ -1,5 +1,5 @@
 use Rattle.std.proofs.Common.{◌≡◌, ℕ, length, map}
-use Rattle.ell_cards.specs.Models.{TablePlan}
+use Rattle.ell_runs.specs.Plans.{TablePlan}
 use Rattle.ell_tree.specs.Ledgers.{PassModel}
 use Rattle.ell_run.specs.Pieces.{busy}
 use Rattle.ell_run.specs.Work.{IsWorked}

@@ -2,7 +2,7 @@ use Rattle.std.proofs.Common.{rules, ◌≡◌, ◌≢◌, ◌*◌, ◌+◌, Non
 use Rattle.ell_ops.specs.declared.op.Op.TheVariants.{Find}
 use Rattle.ell_ops.specs.Meaning.{found}
 use Rattle.ell_core.specs.statements.Effects.{reply_of_change}
-use Rattle.ell_cards.proofs.lemmas.runs.Tries.{more_tries}
+use Rattle.ell_runs.proofs.lemmas.runs.Tries.{more_tries}
 use Rattle.ell_tree.specs.Called.{put_by, tries_in}
 use Rattle.ell_tree.specs.Computing.{IsUntouched, ReadsValue, round_steps_in}
 use Rattle.ell_tree.specs.Ends.{LaidDown, NoneIsLeft, find_steps}
@@ -16,7 +16,7 @@ use Rattle.ell_tree.proofs.lemmas.Milestones.{milestones_most}
 use Rattle.ell_tree.proofs.lemmas.Rounds.{rounds_within, one_round_more, spends_none, by_rounds, not_some}
 use Rattle.ell_tree.proofs.computing.compute.Goals as goal
 use Rattle.ell_tree.proofs.computing.compute.Goals.{in-Ok-Lost, in-Err-Busy}
-use Rattle.ell_cards.specs.Depths.{deepest}
+use Rattle.ell_runs.specs.Depths.{deepest}
 
 pub loop-round-init : goal.loop-round-init
 loop-round-init g c =

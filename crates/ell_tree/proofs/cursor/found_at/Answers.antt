@@ -1,8 +1,8 @@
 use Rattle.std.proofs.Common.{inl, inr, refl, arith, rules}
-use Rattle.ell_cards.specs.Depths.{deepest}
-use Rattle.ell_cards.specs.Models.{flat_from}
-use Rattle.ell_cards.specs.declared.view.Told.TheVariants.{Met}
-use Rattle.ell_cards.proofs.lemmas.views.Afters.{after_key_of, after_value_of}
+use Rattle.ell_runs.specs.Depths.{deepest}
+use Rattle.ell_runs.specs.Plans.{flat_from}
+use Rattle.ell_runs.specs.declared.view.Told.TheVariants.{Met}
+use Rattle.ell_runs.proofs.lemmas.views.Afters.{after_key_of, after_value_of}
 use Rattle.ell_tree.proofs.lemmas.Counts.{uncounted_looked, uncounted_trans}
 use Rattle.ell_tree.proofs.lemmas.Cursors.{asked_shallow, tells_none, tells_one, key_on, on_more, on_trans, value_on}
 use Rattle.ell_tree.proofs.cursor.found_at.Goals as goal

@@ -3,19 +3,21 @@ use Rattle.ell_ops.specs.declared.op.Op.TheVariants.{Delete}
 use Rattle.ell_ops.specs.declared.reply.Reply.TheVariants.{Yes}
 use Rattle.ell_word.specs.declared.update.State.TheVariants.{Clean}
 use Rattle.ell_core.specs.declared.view.Search.{Search}
-use Rattle.ell_cards.specs.Depths.{deepest}
+use Rattle.ell_runs.specs.Depths.{deepest}
 use Rattle.ell_core.specs.declared.fact.Fact.TheVariants.{DOver}
-use Rattle.ell_cards.specs.declared.view.View.{View}
+use Rattle.ell_runs.specs.declared.view.View.{View}
 use Rattle.ell_cards.specs.LettingGo.{cut}
-use Rattle.ell_cards.specs.Models.{PassModel, flat_from, Does, Knows, new_node}
-use Rattle.ell_cards.proofs.lemmas.runs.Taking.{deletes_take_what_they_tell}
+use Rattle.ell_cards.specs.Models.{PassModel}
+use Rattle.ell_runs.specs.Plans.{flat_from, new_node}
+use Rattle.ell_runs.specs.Views.{Does, Knows}
+use Rattle.ell_cards.proofs.lemmas.shown.InRuns.{deletes_take_what_they_tell}
 use Rattle.ell_tree.specs.CardsTaken.{cards_taken, TakesNoCard}
 use Rattle.ell_tree.specs.Helps.{help_steps}
 use Rattle.ell_tree.specs.Hindrances.{Meets, way_of}
 use Rattle.ell_tree.specs.Keeping.{KeepsAllButMet}
 use Rattle.ell_tree.specs.Searches.{seen_any, below}
-use Rattle.ell_cards.specs.Changes.{answered_so}
-use Rattle.ell_cards.specs.Guards.{TakesBy}
+use Rattle.ell_runs.specs.Changes.{answered_so}
+use Rattle.ell_runs.specs.Guards.{TakesBy}
 use Rattle.ell_tree.proofs.lemmas.Sights.{ends_from}
 use Rattle.ell_tree.proofs.lemmas.Keeping.{inner_kept, share_trans}
 use Rattle.ell_tree.proofs.lemmas.LettingGo.{lets_none_go, lets_flagged_go}

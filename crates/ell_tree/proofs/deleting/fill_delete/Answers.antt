@@ -3,7 +3,7 @@ use Rattle.ell_word.specs.Link.{IsLink, linked, tag_unit}
 use Rattle.ell_word.specs.Word.{packed}
 use Rattle.ell_layout.specs.declared.field.Field.TheVariants as field
 use Rattle.ell_cards.specs.Apart.{NamesLowBits}
-use Rattle.ell_cards.specs.declared.view.View.{View}
+use Rattle.ell_runs.specs.declared.view.View.{View}
 use Rattle.ell_tree.specs.declared.searching.Passed.{Passed}
 use Rattle.ell_tree.specs.declared.searching.Place.{Place}
 use Rattle.ell_tree.specs.Searches.{seen, seen_any}

@@ -9,9 +9,9 @@ use Rattle.ell_tree.specs.Keeping.{KeepsAllButMet}
 use Rattle.ell_tree.proofs.lemmas.Keeping.{keeps_but_met_trans}
 use Rattle.ell_tree.proofs.lemmas.Meeting.{delete_ended_still, up_to_none, up_to_trans, up_to_end}
 use Rattle.ell_tree.proofs.helping.help_delete.Goals as goal
-use Rattle.ell_cards.specs.Depths.{deepest, depth_of}
-use Rattle.ell_cards.specs.Models.{TablePlan}
-use Rattle.ell_cards.specs.Dead.{KnowsDeleteEnded}
+use Rattle.ell_runs.specs.Depths.{deepest, depth_of}
+use Rattle.ell_runs.specs.Plans.{TablePlan}
+use Rattle.ell_runs.specs.Dead.{KnowsDeleteEnded}
 
 pub loop-next-init : goal.loop-next-init
 loop-next-init g c = record {

@@ -3,8 +3,8 @@ use Rattle.ell_tree.specs.Keeping.{KeepsAllButMet}
 use Rattle.ell_tree.specs.Helps.{IsFlag}
 use Rattle.ell_tree.specs.Hindrances.{MeetsUpTo}
 use Rattle.ell_tree.proofs.helping.help_delete.Given as goal
-use Rattle.ell_cards.specs.Depths.{depth_of, deepest}
-use Rattle.ell_cards.specs.Dead.{KnowsDeleteEnded}
+use Rattle.ell_runs.specs.Depths.{depth_of, deepest}
+use Rattle.ell_runs.specs.Dead.{KnowsDeleteEnded}
 
 -- the steps so far are four for each internal node that the chain went down; the first delete has ended once another is at hand
 abbrev pub invariant-loop-next : goal.invariant-loop-next

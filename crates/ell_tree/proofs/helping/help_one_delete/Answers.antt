@@ -1,6 +1,6 @@
 use Rattle.std.proofs.Common.{◌≡◌, ◌+◌, ◌<◌, ◌≤◌, ◌++◌, ℕ, inl, ap, ◌∙◌, arith}
-use Rattle.ell_cards.specs.Depths.{deepest, depth_of}
-use Rattle.ell_cards.proofs.lemmas.views.Depths.{depth_more, parent_deeper}
+use Rattle.ell_runs.specs.Depths.{deepest, depth_of}
+use Rattle.ell_runs.proofs.lemmas.views.Depths.{depth_more, parent_deeper}
 use Rattle.ell_tree.specs.declared.helping.DeleteFlag.{DeleteFlag}
 use Rattle.ell_tree.specs.declared.helping.Ending.{Ending}
 use Rattle.ell_tree.specs.declared.helping.Ending.TheVariants.{Done, Backed, Behind}
@@ -11,7 +11,7 @@ use Rattle.ell_tree.specs.Keeping.{KeepsAllButMet}
 use Rattle.ell_tree.proofs.lemmas.Keeping.{keeps_but_met_more, keeps_but_met_of, keeps_but_met_trans}
 use Rattle.ell_tree.proofs.lemmas.Meeting.{meets_none, meets_trans}
 use Rattle.ell_tree.proofs.helping.help_one_delete.Goals as goal
-use Rattle.ell_cards.specs.Models.{TablePlan}
+use Rattle.ell_runs.specs.Plans.{TablePlan}
 
 -- how a delete ends after words of its card were read, which say that its parent is below its grandparent
 help_ends : (plan : TablePlan) (flag : DeleteFlag) (p : ℕ) (a b d : PassModel) (r : Ending) → KeepsAllButMet a b 2 → b.view.hindrances ≡ a.view.hindrances

@@ -1,7 +1,7 @@
 use Rattle.std.proofs.Common.{◌≡◌, ◌↔◌, IsTrue, Bool, true, false, refl, zero, suc, ℕ, ◌<◌, ◌≤◌, if◌then◌else◌, nat_lt, sym, ap, ◌∙◌, subst, arith}
 use Rattle.std.proofs.lemmas.Bool.{false≢true, lt-ltb, le-ltb}
 use Rattle.ell_layout.specs.Cards.{left_of_card, right_of_card}
-use Rattle.ell_cards.specs.Models.{flat_from}
+use Rattle.ell_runs.specs.Plans.{flat_from}
 use Rattle.ell_word.specs.Link.{IsLink, linked}
 use Rattle.ell_layout.specs.declared.field.Field.TheVariants as field
 use Rattle.ell_tree.proofs.lemmas.Links.{parent_low, place_link}

@@ -3,7 +3,7 @@ use Rattle.ell_core.specs.declared.fact.Fact.TheVariants.{IFlagged}
 use Rattle.ell_core.specs.declared.exchange.Exchange.TheVariants as exchange
 use Rattle.ell_tree.proofs.lemmas.Flagging.{may_iflag, flag_goes, flag_takes, flag_ends}
 use Rattle.ell_tree.proofs.inserting.flag_insert.Goals as goal
-use Rattle.ell_cards.specs.Models.{new_node}
+use Rattle.ell_runs.specs.Plans.{new_node}
 
 pub iflag-requires-clause-may : goal.iflag-requires-clause-may
 iflag-requires-clause-may g c = may_iflag c.args.pass.now c.fill_insert.new.pass _ c.args.card (new_node c.args.steps.table.now.plan c.args.node_key) c.args.what c.args.place c.requires.card c.fill_insert.ensures.fills

@@ -1,14 +1,16 @@
 use Rattle.std.proofs.Common.{◌+◌, ◌≡◌, ◌≢◌, Some, length, sym, ap, ◌∙◌, subst, rules, arith}
 use Rattle.ell_word.specs.declared.update.State.TheVariants.{Clean}
 use Rattle.ell_core.specs.declared.view.Search.{Search}
-use Rattle.ell_cards.specs.declared.view.Told.TheVariants.{Met}
+use Rattle.ell_runs.specs.declared.view.Told.TheVariants.{Met}
 use Rattle.std.proofs.lemmas.Bool.{false≢true}
 use Rattle.ell_ops.specs.Meaning.{found}
 use Rattle.ell_core.proofs.lemmas.keeping.Puts.{put_key}
 use Rattle.ell_core.specs.declared.fact.Fact.TheVariants.{IOver}
-use Rattle.ell_cards.specs.declared.view.View.{View}
+use Rattle.ell_runs.specs.declared.view.View.{View}
 use Rattle.ell_cards.specs.LettingGo.{put}
-use Rattle.ell_cards.specs.Models.{PassModel, Knows, new_node}
+use Rattle.ell_cards.specs.Models.{PassModel}
+use Rattle.ell_runs.specs.Views.{Knows}
+use Rattle.ell_runs.specs.Plans.{new_node}
 use Rattle.ell_tree.specs.CardsTaken.{cards_taken, TakesNoCard, TakesOneCard, TakesOneIf}
 use Rattle.ell_tree.specs.Ends.{AnswersAs, changes_by, reply_by}
 use Rattle.ell_tree.specs.Hindrances.{way_of}
@@ -24,7 +26,7 @@ use Rattle.ell_tree.proofs.lemmas.Hindrances.{root_in_try}
 use Rattle.ell_tree.proofs.lemmas.Putting.{put_wants, put_refused, put_done, refused_outer}
 use Rattle.ell_tree.proofs.lemmas.Retiring.{has_put, keeps_all_noted}
 use Rattle.ell_tree.proofs.lemmas.Milestones.{sees_end, gives_out}
-use Rattle.ell_cards.specs.Seeing.{SeesEnd}
+use Rattle.ell_runs.specs.Seeing.{SeesEnd}
 use Rattle.ell_tree.proofs.inserting.try_put.Goals as goal
 
 pub take_card-requires-clause-wants : goal.take_card-requires-clause-wants

@@ -1,8 +1,8 @@
 use Rattle.std.proofs.Common.{◌≡◌, ◌+◌, ◌*◌, ◌∙◌, List, sym, subst, ap, length, arith, rules, eq-eqb, eqb-true}
-use Rattle.ell_cards.proofs.lemmas.runs.Tries.{more_tries}
-use Rattle.ell_cards.proofs.lemmas.runs.LayingDown.{laid_down_last_changes_nothing}
-use Rattle.ell_cards.specs.declared.view.Act.{Act}
-use Rattle.ell_cards.specs.Seeing.{SeesBegin}
+use Rattle.ell_runs.proofs.lemmas.runs.Tries.{more_tries}
+use Rattle.ell_cards.proofs.lemmas.shown.InRuns.{laid_down_last_changes_nothing}
+use Rattle.ell_runs.specs.declared.view.Act.{Act}
+use Rattle.ell_runs.specs.Seeing.{SeesBegin}
 use Rattle.ell_tree.specs.Ends.{changes_by, try_steps_in}
 use Rattle.ell_tree.specs.Hindrances.{way_of}
 use Rattle.ell_tree.proofs.lemmas.Counts.{took_in, took_in_within, took_in_trans, rounds_first, rounds_later, round_steps, rounds_steps}

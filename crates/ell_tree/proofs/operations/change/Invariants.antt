@@ -1,12 +1,13 @@
 use Rattle.std.proofs.Common.{◌≡◌, ◌+◌, ◌≤◌, None, length}
 use Rattle.ell_ops.specs.Meaning.{key_of, reply_of}
-use Rattle.ell_cards.specs.Changes.{tries_hindered}
+use Rattle.ell_runs.specs.Changes.{tries_hindered}
 use Rattle.ell_tree.specs.CardsTaken.{TakesAtMost}
 use Rattle.ell_tree.specs.Ends.{try_steps_in}
 use Rattle.ell_tree.specs.Hindrances.{AreOver, Meets, way_of}
 use Rattle.ell_tree.specs.Ledgers.{Owns, present_in}
-use Rattle.ell_cards.specs.Seeing.{SeesBegin}
-use Rattle.ell_cards.specs.Stepping.{LetsGo, SameShare}
+use Rattle.ell_runs.specs.Seeing.{SeesBegin}
+use Rattle.ell_cards.specs.Stepping.{LetsGo}
+use Rattle.ell_runs.specs.Views.{SameShare}
 use Rattle.ell_tree.specs.Searches.{AtRoot}
 use Rattle.ell_tree.specs.Tries.{Stops}
 use Rattle.ell_tree.specs.Milestones.{milestones_known}

@@ -3,7 +3,7 @@ use Rattle.ell_layout.specs.Words.{has_block}
 use Rattle.ell_core.specs.statements.Readers.{from_of, upto_of}
 use Rattle.ell_core.proofs.lemmas.runs.Stretches.{key_from, key_upto}
 use Rattle.ell_block.proofs.lemmas.Middles.{within_ends}
-use Rattle.ell_cards.specs.Models.{flat_from}
+use Rattle.ell_runs.specs.Plans.{flat_from}
 use Rattle.ell_tree.proofs.reading.keys_below.Goals as goal
 
 pub returns-then-last-high-clause-with : goal.returns-then-last-high-clause-with

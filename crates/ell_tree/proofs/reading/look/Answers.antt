@@ -1,15 +1,15 @@
 -- What a look that counts its steps at its end has done.
 use Rattle.std.proofs.Common.{sym, ap, subst, ◌∙◌}
-use Rattle.ell_cards.specs.LookPlaces.{SawLookBegin}
-use Rattle.ell_cards.specs.Looking.{HasFound}
+use Rattle.ell_runs.specs.LookPlaces.{SawLookBegin}
+use Rattle.ell_runs.specs.Looking.{HasFound}
 use Rattle.ell_cards.specs.Models.{PassModel}
-use Rattle.ell_cards.specs.declared.view.View.{View}
+use Rattle.ell_runs.specs.declared.view.View.{View}
 use Rattle.ell_tree.specs.Looks.{look_steps}
 use Rattle.ell_tree.proofs.lemmas.Counts.{counted_all}
 use Rattle.ell_tree.proofs.lemmas.LookPlaces.{places_counted}
 use Rattle.ell_tree.proofs.lemmas.Looks.{only_counted}
 use Rattle.ell_tree.proofs.reading.look.Goals as goal
-use Rattle.ell_cards.specs.Depths.{deepest}
+use Rattle.ell_runs.specs.Depths.{deepest}
 
 pub returns : goal.returns
 returns g c =

@@ -1,4 +1,4 @@
-use Rattle.ell_cards.specs.Models.{flat_from}
+use Rattle.ell_runs.specs.Plans.{flat_from}
 use Rattle.ell_tree.proofs.lemmas.Cursors.{about_mine}
 use Rattle.ell_tree.proofs.reading.look_about.Goals as goal
 

@@ -2,17 +2,18 @@ use Rattle.std.proofs.Common.{◌≡◌, ◌≢◌, ℕ, ◌+◌, nat_le, true, 
 use Rattle.ell_word.specs.Link.{linked}
 use Rattle.ell_word.specs.Node.{IsInternal}
 use Rattle.ell_layout.specs.Words.{IsLeaf}
-use Rattle.ell_cards.proofs.lemmas.views.Afters.{after_look, after_key_of, after_value_of}
+use Rattle.ell_runs.proofs.lemmas.views.Afters.{after_look, after_key_of, after_value_of}
 use Rattle.ell_tree.proofs.lemmas.Counts.{look_uncounted, uncounted_looked, uncounted_one, uncounted_trans}
 use Rattle.ell_tree.proofs.lemmas.Looks.{comes_alone, comes_first, met_still, may_down, comes_down, down_deeper, found_none, only_none, found_some, only_some, one_none, one_some, key_only, reads_mine, saw_none, saw_some}
 use Rattle.ell_tree.proofs.lemmas.Links.{node_same}
 use Rattle.ell_ops.specs.Meaning.{greatest_key}
-use Rattle.ell_cards.specs.declared.glance.Glance.{Glance}
-use Rattle.ell_cards.specs.declared.glance.Stretch.{Stretch}
-use Rattle.ell_cards.specs.Guards.{GoOnBy, MayLookDown}
-use Rattle.ell_cards.specs.Models.{flat_from, Sees}
+use Rattle.ell_runs.specs.declared.glance.Glance.{Glance}
+use Rattle.ell_runs.specs.declared.glance.Stretch.{Stretch}
+use Rattle.ell_runs.specs.Guards.{GoOnBy, MayLookDown}
+use Rattle.ell_runs.specs.Plans.{flat_from}
+use Rattle.ell_cards.specs.Models.{Sees}
 use Rattle.ell_core.proofs.lemmas.runs.Stretches.{key_from, key_upto}
-use Rattle.ell_cards.proofs.lemmas.views.Afters.{after_look_down}
+use Rattle.ell_runs.proofs.lemmas.views.Afters.{after_look_down}
 use Rattle.std.proofs.lemmas.Bool.{false≢true}
 use Rattle.ell_tree.proofs.reading.walk.Goals as goal
 

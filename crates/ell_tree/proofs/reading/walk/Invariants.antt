@@ -2,7 +2,7 @@ use Rattle.std.proofs.Common.{◌+◌, ◌-◌, false}
 use Rattle.ell_tree.specs.Counts.{HasUncounted}
 use Rattle.ell_tree.proofs.lemmas.Looks.{Comes}
 use Rattle.ell_tree.proofs.reading.walk.Given as goal
-use Rattle.ell_cards.specs.Depths.{deepest, depth_of}
+use Rattle.ell_runs.specs.Depths.{deepest, depth_of}
 
 abbrev pub invariant-loop-steps : goal.invariant-loop-steps
 invariant-loop-steps g l = record {

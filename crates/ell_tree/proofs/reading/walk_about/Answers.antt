@@ -3,10 +3,10 @@ use Rattle.ell_word.specs.Link.{linked}
 use Rattle.ell_word.specs.Node.{IsInternal}
 use Rattle.ell_block.specs.Blocks.{InBlockOf}
 use Rattle.ell_layout.specs.Words.{has_block}
-use Rattle.ell_cards.specs.declared.glance.Glance.{Glance}
-use Rattle.ell_cards.specs.Models.{flat_from}
-use Rattle.ell_cards.specs.Looking.{HasFoundBetween}
-use Rattle.ell_cards.proofs.lemmas.views.Afters.{after_look, after_key_of}
+use Rattle.ell_runs.specs.declared.glance.Glance.{Glance}
+use Rattle.ell_runs.specs.Plans.{flat_from}
+use Rattle.ell_runs.specs.Looking.{HasFoundBetween}
+use Rattle.ell_runs.proofs.lemmas.views.Afters.{after_look, after_key_of}
 use Rattle.ell_tree.proofs.lemmas.Counts.{look_uncounted, uncounted_looked, uncounted_one, uncounted_trans}
 use Rattle.ell_tree.proofs.lemmas.Links.{node_same}
 use Rattle.ell_tree.proofs.lemmas.Cursors.{come_on, found_between}

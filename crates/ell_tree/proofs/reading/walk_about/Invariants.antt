@@ -1,5 +1,5 @@
 use Rattle.std.proofs.Common.{◌≡◌, ◌+◌, ◌-◌, true}
-use Rattle.ell_cards.specs.Depths.{deepest, depth_of}
+use Rattle.ell_runs.specs.Depths.{deepest, depth_of}
 use Rattle.ell_tree.specs.Counts.{HasUncounted}
 use Rattle.ell_tree.proofs.lemmas.Looks.{Comes}
 use Rattle.ell_tree.proofs.reading.walk_about.Given as goal

@@ -2,7 +2,7 @@ use Rattle.std.proofs.Common.{rules, ◌≡◌, ◌≢◌, ◌*◌, ◌+◌, Non
 use Rattle.ell_ops.specs.declared.op.Op.TheVariants.{Delete, Find}
 use Rattle.ell_ops.specs.declared.reply.Reply.TheVariants.{Yes}
 use Rattle.ell_ops.specs.Meaning.{found}
-use Rattle.ell_cards.proofs.lemmas.runs.Tries.{more_tries}
+use Rattle.ell_runs.proofs.lemmas.runs.Tries.{more_tries}
 use Rattle.ell_tree.specs.Called.{SeesTake}
 use Rattle.ell_tree.specs.Computing.{Concludes, IsUntouched, round_steps_in}
 use Rattle.ell_tree.specs.Ends.{Answers, LaidDown, NoneIsLeft, TakesValue, find_steps}
@@ -16,7 +16,7 @@ use Rattle.ell_tree.proofs.lemmas.Removing.{is_that, removes}
 use Rattle.ell_tree.proofs.lemmas.Rounds.{one_round_more}
 use Rattle.ell_tree.proofs.removing.remove_if.Goals as goal
 use Rattle.ell_tree.proofs.removing.remove_if.Goals.{in-Ok-Lost, in-Err-Busy}
-use Rattle.ell_cards.specs.Depths.{deepest}
+use Rattle.ell_runs.specs.Depths.{deepest}
 
 pub loop-round-init : goal.loop-round-init
 loop-round-init g c =

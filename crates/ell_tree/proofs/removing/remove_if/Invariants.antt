@@ -9,7 +9,7 @@ use Rattle.ell_tree.specs.Ledgers.{Owns, answers, present_in}
 use Rattle.ell_tree.specs.Milestones.{milestones_known}
 use Rattle.ell_tree.specs.Promises.{MayDo}
 use Rattle.ell_tree.proofs.removing.remove_if.Given as goal
-use Rattle.ell_cards.specs.Depths.{deepest}
+use Rattle.ell_runs.specs.Depths.{deepest}
 
 -- each try so far was hindered, or another pass had changed the key; what was found last is there
 abbrev pub invariant-loop-round : goal.invariant-loop-round

@@ -1,8 +1,8 @@
-use Rattle.std.proofs.Common.{◌≡◌, ◌+◌, Some, Ok, true, false, is_some, ap, ◌∙◌, refl, subst, rules, arith}
+use Rattle.std.proofs.Common.{◌≡◌, ◌+◌, Some, true, false, is_some, ap, ◌∙◌, refl, subst, rules, arith}
 use Rattle.ell_ops.specs.declared.op.Op.TheVariants.{Delete}
 use Rattle.ell_ops.specs.declared.reply.Reply.TheVariants.{Yes}
 use Rattle.ell_ops.specs.Meaning.{yes_if}
-use Rattle.ell_cards.proofs.lemmas.runs.Tries.{more_tries}
+use Rattle.ell_runs.proofs.lemmas.runs.Tries.{more_tries}
 use Rattle.ell_tree.specs.Ends.{AnswersAs, TakesValue, is_value}
 use Rattle.ell_tree.specs.Searches.{there_at}
 use Rattle.ell_tree.specs.declared.trying.Tried.TheVariants.{Hindered, Spent}
@@ -14,7 +14,7 @@ use Rattle.ell_tree.proofs.lemmas.Milestones.{milestones_one, milestones_same}
 use Rattle.ell_tree.proofs.lemmas.Owning.{answers_begun, keeps_answers, takes_before}
 use Rattle.ell_tree.proofs.lemmas.Removing.{at_that, halts_laid, not_at}
 use Rattle.ell_tree.proofs.lemmas.Trying.{searched, ends_after}
-use Rattle.ell_cards.specs.Seeing.{SeesEnd}
+use Rattle.ell_runs.specs.Seeing.{SeesEnd}
 use Rattle.ell_tree.proofs.lemmas.Sights.{sees_call, sees_none}
 use Rattle.ell_tree.proofs.removing.remove_once.Goals as goal
 

@@ -2,7 +2,7 @@ use Rattle.std.proofs.Common.{◌%◌, sym, ◌∙◌, subst}
 use Rattle.ell_word.specs.Node.{card}
 use Rattle.ell_cards.specs.CardNodes.{node_alone}
 use Rattle.ell_cards.specs.Noting.{AreTakenOut}
-use Rattle.ell_cards.specs.Dead.{HasTakenOut}
+use Rattle.ell_runs.specs.Dead.{HasTakenOut}
 use Rattle.ell_cards.proofs.lemmas.views.DeadNodes.{so_alone, so_both}
 use Rattle.ell_tree.proofs.retiring.retire_both.Goals as goal
 

@@ -1,5 +1,5 @@
 use Rattle.std.proofs.Common.{◌<◌}
-use Rattle.ell_cards.specs.LookPlaces.{FindsHavePlaces}
+use Rattle.ell_runs.specs.LookPlaces.{FindsHavePlaces}
 use Rattle.ell_tree.specs.Cursors.{AreKept}
 use Rattle.ell_tree.proofs.lemmas.Scans.{Descends}
 use Rattle.ell_tree.proofs.scanning.last_below.Given as goal

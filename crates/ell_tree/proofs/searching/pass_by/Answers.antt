@@ -1,5 +1,5 @@
 use Rattle.std.proofs.Common.{refl}
-use Rattle.ell_cards.specs.Models.{flat_from}
+use Rattle.ell_runs.specs.Plans.{flat_from}
 use Rattle.ell_cards.proofs.lemmas.views.Searches.{may_go_down}
 use Rattle.ell_tree.proofs.lemmas.Searches.{descend_seeks, descend_uncounted, descend_search, descend_met, descend_passed, descend_unknown, descend_deeper, descend_fits}
 use Rattle.ell_tree.proofs.searching.pass_by.Goals as goal

@@ -1,12 +1,12 @@
 -- What a search that counts its steps at its end has done.
 use Rattle.std.proofs.Common.{◌+◌, ◌*◌, sym, ap, subst}
 use Rattle.ell_cards.specs.Models.{PassModel}
-use Rattle.ell_cards.specs.declared.view.View.{View}
+use Rattle.ell_runs.specs.declared.view.View.{View}
 use Rattle.ell_tree.specs.Searches.{EndsAt}
 use Rattle.ell_tree.proofs.lemmas.Counts.{counted_all}
 use Rattle.ell_tree.proofs.lemmas.Keeping.{keeps_but_search_counted}
 use Rattle.ell_tree.proofs.searching.search.Goals as goal
-use Rattle.ell_cards.specs.Depths.{deepest}
+use Rattle.ell_runs.specs.Depths.{deepest}
 
 pub returns : goal.returns
 returns g c =

@@ -1,10 +1,10 @@
 use Rattle.std.proofs.Common.{◌+◌, ◌*◌, refl, ap, ◌∙◌, arith, rules}
 use Rattle.ell_layout.specs.Words.{IsLeaf}
 use Rattle.ell_core.specs.declared.view.Search.{Search}
-use Rattle.ell_cards.specs.Depths.{deepest, depth_of}
-use Rattle.ell_cards.specs.Models.{flat_from}
-use Rattle.ell_cards.specs.declared.view.Told.TheVariants.{Met}
-use Rattle.ell_cards.proofs.lemmas.views.Afters.{after_key_of}
+use Rattle.ell_runs.specs.Depths.{deepest, depth_of}
+use Rattle.ell_runs.specs.Plans.{flat_from}
+use Rattle.ell_runs.specs.declared.view.Told.TheVariants.{Met}
+use Rattle.ell_runs.proofs.lemmas.views.Afters.{after_key_of}
 use Rattle.ell_tree.specs.Searches.{below}
 use Rattle.ell_tree.proofs.lemmas.Counts.{uncounted_one, uncounted_trans}
 use Rattle.ell_tree.proofs.lemmas.Keeping.{keeps_but_search_trans}

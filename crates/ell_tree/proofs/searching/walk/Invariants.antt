@@ -2,7 +2,7 @@ use Rattle.std.proofs.Common.{ℕ, ◌≡◌, ◌+◌, ◌*◌, ◌<◌, ◌-◌
 use Rattle.ell_tree.specs.Counts.{HasUncounted}
 use Rattle.ell_tree.specs.Keeping.{KeepsAllButSearch}
 use Rattle.ell_tree.proofs.searching.walk.Given as goal
-use Rattle.ell_cards.specs.Depths.{deepest, depth_of, IsShallow}
+use Rattle.ell_runs.specs.Depths.{deepest, depth_of, IsShallow}
 use Rattle.ell_tree.proofs.lemmas.Searches.{Stands}
 
 -- the steps so far are three for each internal node down to the parent

@@ -6,11 +6,11 @@ use Rattle.ell_core.specs.state.Machine.{ledger_of}
 use Rattle.ell_tree.specs.Ledgers.{present_in, Owns, ledger}
 use Rattle.ell_tree.proofs.lemmas.Called.{of_taken}
 use Rattle.ell_tree.proofs.steps.answer.Goals as goal
-use Rattle.ell_cards.proofs.lemmas.runs.Answering.{answers_have_their_points}
-use Rattle.ell_cards.specs.Changes.{answered_so}
-use Rattle.ell_cards.specs.Guards.{TakesBy}
-use Rattle.ell_cards.specs.Seeing.{SeesEnd}
-use Rattle.ell_cards.specs.declared.view.Act.{Act}
+use Rattle.ell_cards.proofs.lemmas.shown.InRuns.{answers_have_their_points}
+use Rattle.ell_runs.specs.Changes.{answered_so}
+use Rattle.ell_runs.specs.Guards.{TakesBy}
+use Rattle.ell_runs.specs.Seeing.{SeesEnd}
+use Rattle.ell_runs.specs.declared.view.Act.{Act}
 use Rattle.ell_cards.specs.Models.{PassModel}
 
 -- what is not there is none

@@ -1,7 +1,7 @@
 use Rattle.std.proofs.Common.{subst}
 use Rattle.ell_word.specs.Link.{linked}
-use Rattle.ell_cards.specs.declared.view.Told.TheVariants.{Met, Frozen}
-use Rattle.ell_cards.specs.Models.{IsTold}
+use Rattle.ell_runs.specs.declared.view.Told.TheVariants.{Met, Frozen}
+use Rattle.ell_runs.specs.Views.{IsTold}
 use Rattle.ell_cards.proofs.lemmas.views.Steps.{frozen_told, frozen_met}
 use Rattle.ell_tree.proofs.lemmas.Links.{node_same}
 use Rattle.ell_tree.proofs.lemmas.Reading.{child_walks}

@@ -1,7 +1,8 @@
 use Rattle.std.proofs.Common.{refl, sym, ap, subst}
-use Rattle.ell_cards.specs.declared.view.Told.TheVariants.{Key}
-use Rattle.ell_cards.specs.declared.view.View.{View}
-use Rattle.ell_cards.specs.Models.{PassModel, IsTold}
+use Rattle.ell_runs.specs.declared.view.Told.TheVariants.{Key}
+use Rattle.ell_runs.specs.declared.view.View.{View}
+use Rattle.ell_cards.specs.Models.{PassModel}
+use Rattle.ell_runs.specs.Views.{IsTold}
 use Rattle.ell_cards.proofs.lemmas.views.Steps.{key_told}
 use Rattle.ell_tree.proofs.lemmas.Reading.{key_walks}
 use Rattle.ell_tree.proofs.steps.read_key.Goals as goal

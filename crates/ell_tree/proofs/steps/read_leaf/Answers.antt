@@ -1,8 +1,8 @@
 use Rattle.std.proofs.Common.{sym, subst}
 use Rattle.ell_word.specs.declared.link.Link.{Link}
 use Rattle.ell_layout.specs.declared.field.Field.TheVariants.{L}
-use Rattle.ell_cards.specs.declared.view.Told.TheVariants.{Info, Expects}
-use Rattle.ell_cards.specs.Models.{IsTold}
+use Rattle.ell_runs.specs.declared.view.Told.TheVariants.{Info, Expects}
+use Rattle.ell_runs.specs.Views.{IsTold}
 use Rattle.ell_cards.proofs.lemmas.views.Steps.{info_told, tag_told}
 use Rattle.ell_tree.proofs.lemmas.Reading.{info_walks}
 use Rattle.ell_tree.proofs.steps.read_leaf.Goals as goal

@@ -1,6 +1,7 @@
 use Rattle.std.proofs.Common.{rules, refl, ◌≢◌, None, Some, ap, ◌∙◌, arith}
 use Rattle.std.proofs.lemmas.Option.{same_Some}
-use Rattle.ell_cards.specs.Models.{PassModel, new_node}
+use Rattle.ell_cards.specs.Models.{PassModel}
+use Rattle.ell_runs.specs.Plans.{new_node}
 use Rattle.ell_tree.proofs.lemmas.Claiming.{may_claim_there, may_lay_aside, may_fill, row_goes, keeps_slot, taken_claims, in_vain, lost_claims}
 use Rattle.ell_tree.proofs.lemmas.LettingGo.{lets_aside_go}
 use Rattle.ell_tree.proofs.trying.claim_next.Goals as goal

@@ -1,6 +1,6 @@
 use Rattle.std.proofs.Common.{ap, ◌∙◌, subst}
 use Rattle.ell_tree.specs.Contents.{contents_of, nothing}
-use Rattle.ell_tree.specs.Models.{IsFree}
+use Rattle.ell_tree.specs.Views.{IsFree}
 use Rattle.ell_tree.specs.OneThread.{IsOfOneThread}
 use Rattle.ell_tree.specs.Seeing.{AreApart}
 use Rattle.one_winner.proofs.sharing.conclude.Goals as goal

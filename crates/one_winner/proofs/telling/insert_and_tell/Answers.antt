@@ -4,7 +4,7 @@ use Rattle.ell_tree.specs.Contents.{nothing}
 use Rattle.ell_tree.specs.Meaning.{found, yes_if}
 use Rattle.ell_tree.specs.Act.{Act}
 use Rattle.ell_tree.specs.Ends.{Answers}
-use Rattle.ell_tree.specs.Models.{given_share}
+use Rattle.ell_tree.specs.Views.{given_share}
 use Rattle.ell_tree.specs.OneThread.{IsOfOneThread}
 use Rattle.ell_tree.specs.Sight.{Sight}
 use Rattle.ell_tree.proofs.lemmas.Sights.{ends_inside, longer_right}

@@ -4,14 +4,15 @@ use lib.ListN.{get_elem?}
 use Rattle.std.specs.List.{All}
 use Rattle.std.specs.Slots.{slots_items}
 use Rattle.ell_core.specs.state.Machine.{ledger_of}
-use Rattle.ell_cards.specs.Models.{TableModel, PassModel, IsFree, last_slot_of, whole_share}
+use Rattle.ell_cards.specs.Models.{TableModel, PassModel, last_slot_of}
+use Rattle.ell_runs.specs.Views.{IsFree, whole_share}
 use Rattle.ell_cards.specs.Memories.{SeatModel}
 use Rattle.ell_cards.specs.Shown.{shown}
 use Rattle.ell_cards.specs.Whole.{WordsAre}
 use Rattle.ell_cards.proofs.lemmas.whole.Calling.{tree_here}
 use Rattle.ell_cards.proofs.lemmas.whole.Telling.{history_ends}
 use Rattle.ell_cards.specs.Closed.{ClosedModel, HistoryEnds, TableEnds}
-use Rattle.ell_cards.proofs.lemmas.runs.Ending.{ends}
+use Rattle.ell_cards.proofs.lemmas.shown.Ending.{ends}
 use Rattle.ell_cards.proofs.closed.CardTable+FixedMemory+A.close.Goals as goal
 
 pub returns-clause-ends : goal.returns-clause-ends

@@ -1,18 +1,19 @@
 use Rattle.std.proofs.Common.{◌≡◌, ◌+◌, ◌≤◌, ◌∙◌, None, false, ap, sym, subst, arith}
 use Rattle.ell_word.specs.Node.{greatest_card, greatest_number}
-use Rattle.ell_cards.specs.Depths.{deepest}
-use Rattle.ell_cards.proofs.lemmas.Ranks.{deepest_most}
+use Rattle.ell_runs.specs.Depths.{deepest}
+use Rattle.ell_runs.proofs.lemmas.Ranks.{deepest_most}
 use Rattle.atomic_table.specs.Table.{Me}
 use Rattle.ell_cards.specs.declared.pass.Standing.{Standing}
 use Rattle.ell_cards.specs.declared.share.Share.{Share}
 use Rattle.ell_cards.specs.declared.view.Known.{Known}
-use Rattle.ell_cards.specs.Models.{TablePlan, flat_from, whole_share}
-use Rattle.ell_cards.specs.Changes.{first_of}
+use Rattle.ell_runs.specs.Plans.{TablePlan, flat_from}
+use Rattle.ell_runs.specs.Views.{whole_share}
+use Rattle.ell_runs.specs.Changes.{first_of}
 use Rattle.ell_cards.specs.Inside.{PassFits, PlaceFits}
 use Rattle.ell_cards.specs.Periods.{first_period, period_by, whole_size}
 use Rattle.ell_cards.specs.Shown.{shown}
-use Rattle.ell_cards.specs.Starts.{SlotsFit}
-use Rattle.ell_cards.proofs.lemmas.lifetimes.Openings.{first_fits}
+use Rattle.ell_runs.specs.Starts.{SlotsFit}
+use Rattle.ell_cards.proofs.lemmas.lifetimes.Fits.{first_fits}
 use Rattle.ell_cards.proofs.lemmas.whole.Places.{first_place_fits, size_some}
 use Rattle.ell_cards.proofs.lifetime.CardTable+FixedMemory+A.open.Goals as goal
 

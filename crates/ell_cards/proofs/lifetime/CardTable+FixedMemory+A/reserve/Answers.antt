@@ -8,8 +8,8 @@ use Rattle.ell_word.specs.Node.{greatest_card, greatest_number}
 use Rattle.ell_cards.specs.declared.kind.TreeKind.{TreeKind}
 use Rattle.ell_cards.specs.declared.kind.TreeKind.TheVariants.{Owned, Shared, Flat, Reusing}
 use Rattle.ell_cards.specs.Kinds.{HasRoomForPasses, MayStartWith, is_flat, last_number, shares_others, slots_of}
-use Rattle.ell_cards.specs.Models.{TablePlan}
-use Rattle.ell_cards.specs.Starts.{MayStart, SlotsFit, IsSharedIn}
+use Rattle.ell_runs.specs.Plans.{TablePlan}
+use Rattle.ell_runs.specs.Starts.{MayStart, SlotsFit, IsSharedIn}
 use Rattle.ell_cards.proofs.lifetime.CardTable+FixedMemory+A.reserve.Goals as goal
 
 -- a real key has an owner or is shared, where a plan shares the others

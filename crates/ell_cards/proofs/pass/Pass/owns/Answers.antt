@@ -2,9 +2,9 @@ use Rattle.std.proofs.Common.{◌≡◌, ℕ, IsTrue, true, List, sym, ap, ◌�
 use Rattle.ell_cards.specs.Models.{PassModel}
 use Rattle.std.specs.List.Sorted.{IsStrictlyIncreasing}
 use Rattle.ell_ops.specs.KeySet.{set_of}
-use Rattle.ell_cards.specs.Changes.{ledger_keys}
+use Rattle.ell_runs.specs.Changes.{ledger_keys}
 use Rattle.ell_core.proofs.lemmas.opening.KeyLists.{search_finds}
-use Rattle.ell_cards.proofs.lemmas.words.Keys.{among_owned, owned_among}
+use Rattle.ell_runs.proofs.lemmas.words.Keys.{among_owned, owned_among}
 use Rattle.ell_cards.proofs.pass.Pass.owns.Goals as goal
 
 pub returns : goal.returns

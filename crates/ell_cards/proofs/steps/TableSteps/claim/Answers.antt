@@ -1,5 +1,5 @@
 use Rattle.std.proofs.Common.{◌+◌, ◌-◌, ◌==◌, sym, ap, ◌∙◌, subst, arith}
-use Rattle.ell_cards.specs.Models.{new_node}
+use Rattle.ell_runs.specs.Plans.{new_node}
 use prog.Atomic.{either}
 use Rattle.ell_cards.specs.Skipping.{IsFresh, MayStepOn, after_claimed_row}
 use Rattle.ell_cards.proofs.lemmas.seats.Taken.{steps_by}

@@ -1,5 +1,5 @@
 use Rattle.std.specs.Prelude.{◌-◌}
-use Rattle.ell_cards.specs.Models.{new_node}
+use Rattle.ell_runs.specs.Plans.{new_node}
 use Rattle.ell_cards.proofs.lemmas.whole.Skipping.{RowTells}
 use Rattle.ell_cards.proofs.steps.TableSteps.claim_row.Given as goal
 

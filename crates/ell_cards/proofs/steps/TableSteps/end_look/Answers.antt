@@ -1,7 +1,7 @@
 use Rattle.std.proofs.Common.{refl, subst, sym}
-use Rattle.ell_cards.specs.Changes.{after_rest}
+use Rattle.ell_runs.specs.Changes.{after_rest}
 use Rattle.ell_cards.specs.Models.{PassModel}
-use Rattle.ell_cards.specs.Periods.{IsAtRest}
+use Rattle.ell_runs.specs.Touching.{IsAtRest}
 use Rattle.ell_cards.proofs.lemmas.whole.Rests.{is_at_rest}
 use Rattle.ell_cards.proofs.steps.TableSteps.end_look.Goals as goal
 

@@ -2,7 +2,7 @@ use Rattle.std.proofs.Common.{refl, sym, arith}
 use Rattle.ell_cards.proofs.lemmas.shown.CutWords.{cut_same}
 use Rattle.ell_cards.proofs.lemmas.seats.Taken.{taken_keeps, steps_by}
 use Rattle.ell_cards.proofs.lemmas.whole.Rests.{exchange_is_quiet}
-use Rattle.ell_cards.proofs.lemmas.runs.Reaching.{calls_tell}
+use Rattle.ell_cards.proofs.lemmas.shown.Reaching.{calls_tell}
 use Rattle.ell_cards.proofs.steps.TableSteps.exchange.Goals as goal
 
 pub exchange_as-requires-clause-quiet : goal.exchange_as-requires-clause-quiet

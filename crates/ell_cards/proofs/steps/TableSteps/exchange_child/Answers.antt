@@ -1,9 +1,9 @@
 use Rattle.ell_cards.proofs.lemmas.seats.Taken.{taken_keeps, steps_by}
 use Rattle.ell_cards.proofs.lemmas.whole.Calling.{child_exchanges}
 use Rattle.ell_cards.proofs.lemmas.whole.Rests.{exchange_is_quiet}
-use Rattle.ell_cards.proofs.lemmas.runs.Reaching.{calls_tell}
+use Rattle.ell_cards.proofs.lemmas.shown.Reaching.{calls_tell}
 use Rattle.ell_word.specs.Link.{linked}
-use Rattle.ell_cards.specs.Calls.{next_link}
+use Rattle.ell_runs.specs.Calls.{next_link}
 use Rattle.ell_cards.proofs.steps.TableSteps.exchange_child.Goals as goal
 
 pub exchange_as-requires-clause-quiet : goal.exchange_as-requires-clause-quiet

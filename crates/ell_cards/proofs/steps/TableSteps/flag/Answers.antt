@@ -1,6 +1,6 @@
 use Rattle.ell_cards.proofs.lemmas.seats.Taken.{taken_keeps, steps_by}
 use Rattle.ell_cards.proofs.lemmas.whole.Rests.{exchange_is_quiet, flag_claims_none}
-use Rattle.ell_cards.proofs.lemmas.runs.Reaching.{calls_tell}
+use Rattle.ell_cards.proofs.lemmas.shown.Reaching.{calls_tell}
 use Rattle.ell_cards.proofs.steps.TableSteps.flag.Goals as goal
 
 pub flag_as-requires-clause-quiet : goal.flag_as-requires-clause-quiet

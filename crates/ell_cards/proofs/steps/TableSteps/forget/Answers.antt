@@ -1,8 +1,8 @@
 use Rattle.std.proofs.Common.{ap, ◌∙◌}
 use Rattle.ell_cards.specs.Models.{PassModel, some_more}
-use Rattle.ell_cards.specs.declared.call.Call.TheVariants as call
+use Rattle.ell_runs.specs.declared.call.Call.TheVariants as call
 use Rattle.ell_cards.proofs.lemmas.seats.Taken.{taken_keeps, sees_by}
-use Rattle.ell_cards.proofs.lemmas.runs.Reaching.{tells_known}
+use Rattle.ell_cards.proofs.lemmas.shown.Reaching.{tells_known}
 use Rattle.ell_cards.proofs.steps.TableSteps.forget.Goals as goal
 
 pub load_as-requires-clause-tells : goal.load_as-requires-clause-tells

@@ -1,4 +1,4 @@
-use Rattle.ell_cards.proofs.lemmas.runs.Reaching.{TellsKnown}
+use Rattle.ell_cards.proofs.lemmas.shown.Reaching.{TellsKnown}
 use Rattle.ell_cards.proofs.steps.TableSteps.forget.Given as goal
 
 abbrev pub ghosts-load_as : goal.ghosts-load_as

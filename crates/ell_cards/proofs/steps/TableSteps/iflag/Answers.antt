@@ -1,10 +1,10 @@
 use Rattle.std.proofs.Common.{ap, arith, ◌∙◌}
 use Rattle.ell_core.specs.declared.exchange.Exchange.TheVariants as exchange
 use Rattle.ell_core.specs.declared.fact.Fact.TheVariants.{IFlagged}
-use Rattle.ell_cards.specs.declared.view.View.{View}
+use Rattle.ell_runs.specs.declared.view.View.{View}
 use Rattle.ell_cards.specs.Models.{one_more}
 use Rattle.ell_cards.proofs.lemmas.words.Outcomes.{flagged_so}
-use Rattle.ell_cards.proofs.lemmas.words.Updates.{card_again}
+use Rattle.ell_runs.proofs.lemmas.words.Updates.{card_again}
 use Rattle.ell_cards.proofs.steps.TableSteps.iflag.Goals as goal
 
 pub pack-expected-requires : goal.pack-expected-requires

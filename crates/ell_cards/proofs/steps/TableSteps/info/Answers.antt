@@ -1,5 +1,5 @@
 use Rattle.ell_layout.specs.Cards.{says_by}
-use Rattle.ell_cards.proofs.lemmas.seats.Taken.{known_by}
+use Rattle.ell_runs.proofs.lemmas.seats.Staying.{known_by}
 use Rattle.ell_cards.proofs.steps.TableSteps.info.Goals as goal
 
 pub field_address-requires : goal.field_address-requires

@@ -1,9 +1,9 @@
 use Rattle.std.proofs.Common.{sym, ap, ◌∙◌}
-use Rattle.ell_cards.specs.Calls.{after}
-use Rattle.ell_cards.specs.declared.view.Sight.{Sight}
+use Rattle.ell_runs.specs.Calls.{after}
+use Rattle.ell_runs.specs.declared.view.Sight.{Sight}
 use Rattle.ell_cards.specs.Models.{PassModel, some_more}
 use Rattle.ell_cards.proofs.lemmas.seats.Taken.{taken_keeps, sees_on_by}
-use Rattle.ell_cards.proofs.lemmas.runs.Reaching.{calls_tell}
+use Rattle.ell_cards.proofs.lemmas.shown.Reaching.{calls_tell}
 use Rattle.ell_cards.proofs.lemmas.whole.Rests.{load_claims_none}
 use Rattle.ell_cards.proofs.steps.TableSteps.load_marked.Goals as goal
 

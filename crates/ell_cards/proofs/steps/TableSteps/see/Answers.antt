@@ -1,5 +1,5 @@
 use Rattle.ell_cards.proofs.lemmas.seats.Taken.{taken_keeps, sees_by}
-use Rattle.ell_cards.proofs.lemmas.runs.Reaching.{calls_tell}
+use Rattle.ell_cards.proofs.lemmas.shown.Reaching.{calls_tell}
 use Rattle.ell_cards.proofs.lemmas.whole.Rests.{load_claims_none}
 use Rattle.ell_cards.proofs.steps.TableSteps.see.Goals as goal
 

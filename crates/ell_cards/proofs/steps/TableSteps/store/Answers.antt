@@ -1,6 +1,6 @@
-use Rattle.ell_cards.specs.declared.call.Call.TheVariants as call
+use Rattle.ell_runs.specs.declared.call.Call.TheVariants as call
 use Rattle.ell_cards.proofs.lemmas.seats.Taken.{taken_keeps, steps_by}
-use Rattle.ell_cards.proofs.lemmas.runs.Reaching.{fill_tells}
+use Rattle.ell_cards.proofs.lemmas.shown.Reaching.{fill_tells}
 use Rattle.ell_cards.proofs.steps.TableSteps.store.Goals as goal
 
 pub store_as-requires-clause-tells : goal.store_as-requires-clause-tells

@@ -1,6 +1,6 @@
 use Rattle.std.proofs.Common.{◌∙◌, ◌==◌, refl, ap}
 use prog.Atomic.{either}
-use Rattle.ell_cards.specs.Calls.{Exchange}
+use Rattle.ell_runs.specs.Calls.{Exchange}
 use Rattle.ell_cards.proofs.lemmas.seats.Opened.{owed, stepped}
 use Rattle.ell_cards.proofs.lemmas.whole.Calling.Notes.{nothing}
 use Rattle.ell_cards.proofs.lemmas.whole.Calling.{exchange_calm, none_flags, exchange_does, exchange_stores}

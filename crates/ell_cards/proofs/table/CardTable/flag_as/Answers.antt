@@ -1,6 +1,6 @@
 use Rattle.std.proofs.Common.{◌∙◌, ◌==◌, refl, ap, sym, subst, arith}
 use prog.Atomic.{either}
-use Rattle.ell_cards.specs.Calls.{Exchange}
+use Rattle.ell_runs.specs.Calls.{Exchange}
 use Rattle.ell_cards.specs.Models.{PassModel}
 use Rattle.ell_cards.specs.Shown.{shown}
 use Rattle.ell_cards.proofs.lemmas.seats.Opened.{owed, stepped}
@@ -32,7 +32,7 @@ invariant_of-pass g c =
           c.self.invariant.limit c.pass.invariant.fits (ap (λ i. i.words) freed.leaves.table ∙ words) c.requires.keeps (subst (λ v. g.J.Noting.then c.compare_exchange-found.result (shown v)) (sym freed.leaves.tree) now.2.0);
       bare = freed.leaves.empty;
       stands = still_place c.pass.inside.standing c.pass.inside.seat.table_id.words c.free_aside.new.seat.table_id.words old c.free_aside.new.seat.me.0.period
-          (ap (λ i. i.words) freed.leaves.table ∙ words) (stands_on flagged.0 (record { place = freed.still.stands.place; other = freed.still.stands.other; other_says = freed.still.stands.other_says; announced = freed.still.stands.announced })) (freed.keeps.safe ∙ flagged.1) (freed.still.slot ∙ flagged.2) freed.still.lost c.pass.invariant.stands;
+          (ap (λ i. i.words) freed.leaves.table ∙ words) (stands_on flagged.0 freed.still) (freed.keeps.safe ∙ flagged.1) (freed.still.slot ∙ flagged.2) freed.still.lost c.pass.invariant.stands;
     }
 
 pub free_aside-requires-clause-lost : goal.free_aside-requires-clause-lost

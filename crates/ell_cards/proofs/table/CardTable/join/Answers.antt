@@ -1,12 +1,13 @@
 use Rattle.std.proofs.Common.{if◌then◌else◌, is_some, ap, ◌∙◌, sym, subst, arith}
 use Rattle.atomic_table.specs.Table.{Me}
 use Rattle.ell_cards.specs.declared.view.Known.{Known}
-use Rattle.ell_cards.specs.Models.{PassModel, IsFree}
+use Rattle.ell_cards.specs.Models.{PassModel}
+use Rattle.ell_runs.specs.Views.{IsFree}
 use Rattle.ell_cards.specs.Inside.{PassFits}
-use Rattle.ell_cards.specs.Changes.{joined_view}
+use Rattle.ell_runs.specs.Changes.{joined_view}
 use Rattle.ell_cards.specs.Shown.{shown}
 use Rattle.ell_cards.specs.Periods.{after_give}
-use Rattle.ell_cards.proofs.lemmas.lifetimes.Joins.{joined_fits}
+use Rattle.ell_cards.proofs.lemmas.lifetimes.Fits.{joined_fits}
 use Rattle.ell_cards.proofs.lemmas.seats.Opened.{of_table, own_size}
 use Rattle.ell_cards.proofs.lemmas.whole.Parting.{whole_joins}
 use Rattle.ell_cards.proofs.lemmas.whole.Places.{joined_place_fits, size_some}

@@ -1,6 +1,6 @@
 use Rattle.std.proofs.Common.{◌∙◌, refl, sym, ap, subst}
-use Rattle.ell_cards.specs.Models.{TablePlan}
-use Rattle.ell_cards.specs.Seeing.{HasSeenAll}
+use Rattle.ell_runs.specs.Plans.{TablePlan}
+use Rattle.ell_runs.specs.Seeing.{HasSeenAll}
 use Rattle.ell_cards.specs.Shown.{shown}
 use Rattle.ell_cards.proofs.lemmas.seats.Opened.{stepped}
 use Rattle.ell_cards.proofs.lemmas.whole.Places.{same_place}

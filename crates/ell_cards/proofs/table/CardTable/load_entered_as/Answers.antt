@@ -1,6 +1,6 @@
 use Rattle.std.proofs.Common.{◌∙◌, refl, ap, is_some, sym, subst}
-use Rattle.ell_cards.specs.Calls.{Load}
-use Rattle.ell_cards.specs.Seeing.{Marks}
+use Rattle.ell_runs.specs.Calls.{Load}
+use Rattle.ell_runs.specs.Seeing.{Marks}
 use Rattle.ell_cards.specs.Shown.{shown}
 use Rattle.ell_cards.specs.Inside.{PassFits}
 use Rattle.ell_cards.specs.Models.{PassModel}

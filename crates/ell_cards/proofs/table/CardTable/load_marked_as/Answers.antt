@@ -1,6 +1,6 @@
 use Rattle.std.proofs.Common.{◌∙◌, refl, sym, ap, subst}
-use Rattle.ell_cards.specs.Calls.{Load}
-use Rattle.ell_cards.specs.Seeing.{Marks}
+use Rattle.ell_runs.specs.Calls.{Load}
+use Rattle.ell_runs.specs.Seeing.{Marks}
 use Rattle.ell_cards.specs.Shown.{shown}
 use Rattle.ell_cards.proofs.lemmas.seats.Opened.{owed_marked, stepped}
 use Rattle.ell_cards.proofs.lemmas.whole.Calling.Notes.{nothing}

@@ -1,5 +1,5 @@
 use Rattle.std.specs.Prelude.{◌≡◌, Some}
-use Rattle.ell_cards.specs.declared.view.Slots.{Slots}
+use Rattle.ell_runs.specs.declared.view.Slots.{Slots}
 use Rattle.ell_cards.specs.Periods.{after_look_at}
 use Rattle.ell_cards.proofs.table.CardTable.look_at.Given as goal
 

@@ -1,6 +1,6 @@
 use Rattle.std.proofs.Common.{◌==◌, Some, sym, ap, ◌∙◌, subst}
 use Rattle.ell_cards.specs.declared.view.Period.{Period}
-use Rattle.ell_cards.specs.declared.view.View.{View}
+use Rattle.ell_runs.specs.declared.view.View.{View}
 use Rattle.ell_cards.specs.Noting.{MayNote, MayNoteNext, MayRetire}
 use Rattle.ell_cards.specs.Periods.{after_noting, after_stamp}
 use Rattle.ell_cards.specs.Shown.{shown}

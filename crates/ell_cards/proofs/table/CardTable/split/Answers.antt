@@ -1,9 +1,9 @@
 use Rattle.std.proofs.Common.{ℕ, List, filter, not, ap, ◌∙◌, sym, subst}
 use Rattle.ell_cards.specs.Models.{PassModel}
 use Rattle.ell_ops.specs.KeySet.{set_of}
-use Rattle.ell_cards.specs.Changes.{ledger_keys, left_view, right_view}
+use Rattle.ell_runs.specs.Changes.{ledger_keys, left_view, right_view}
 use Rattle.ell_cards.specs.Stepping.{MayHave}
-use Rattle.ell_cards.proofs.lemmas.lifetimes.Splits.{parts_share, owned_all, left_has, right_has}
+use Rattle.ell_cards.proofs.lemmas.lifetimes.Fits.{parts_share, owned_all, left_has, right_has}
 use Rattle.ell_cards.proofs.table.CardTable.split.Goals as goal
 
 pub parted-requires-clause-among : goal.parted-requires-clause-among

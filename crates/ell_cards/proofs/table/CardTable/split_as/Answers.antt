@@ -3,9 +3,10 @@ use Rattle.std.proofs.lemmas.Bool.{false≢true}
 use Rattle.atomic_table.specs.Table.{Me}
 use Rattle.ell_cards.specs.declared.view.Known.{Known}
 use Rattle.ell_cards.specs.Inside.{HasShare, PassFits, PlaceFits}
-use Rattle.ell_cards.specs.Models.{PassModel, TableModel, given_share}
+use Rattle.ell_cards.specs.Models.{PassModel, TableModel}
+use Rattle.ell_runs.specs.Views.{given_share}
 use Rattle.ell_cards.specs.Periods.{whole_size}
-use Rattle.ell_cards.specs.Changes.{left_view, right_view}
+use Rattle.ell_runs.specs.Changes.{left_view, right_view}
 use Rattle.ell_cards.specs.Shown.{shown}
 use Rattle.ell_cards.specs.Stepping.{MayHave, MaySplit}
 use Rattle.ell_cards.proofs.lemmas.seats.Opened.{of_table, own_size, part_fits}

@@ -1,5 +1,5 @@
-use Rattle.ell_cards.specs.declared.call.Call.TheVariants as call
-use Rattle.ell_cards.proofs.lemmas.runs.Reaching.{calls_tell}
+use Rattle.ell_runs.specs.declared.call.Call.TheVariants as call
+use Rattle.ell_cards.proofs.lemmas.shown.Reaching.{calls_tell}
 use Rattle.ell_cards.proofs.lemmas.seats.Taken.{taken_keeps, sees_on_by}
 use Rattle.ell_cards.proofs.lemmas.whole.Telling.{all_after}
 use Rattle.ell_cards.proofs.table.CardTable.story.Goals as goal

@@ -1,4 +1,4 @@
-use Rattle.ell_cards.specs.declared.call.Call.TheVariants as call
+use Rattle.ell_runs.specs.declared.call.Call.TheVariants as call
 use Rattle.ell_cards.specs.Stepping.{IsTaken}
 use Rattle.ell_cards.proofs.table.CardTable.story.Given as goal
 

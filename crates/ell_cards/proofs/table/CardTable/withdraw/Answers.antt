@@ -1,6 +1,6 @@
 use Rattle.std.proofs.Common.{sym, subst}
 use Rattle.ell_cards.specs.Models.{PassModel}
-use Rattle.ell_cards.specs.Periods.{IsAtRest}
+use Rattle.ell_runs.specs.Touching.{IsAtRest}
 use Rattle.ell_cards.proofs.table.CardTable.withdraw.Goals as goal
 
 pub retract-requires-clause-rest : goal.retract-requires-clause-rest

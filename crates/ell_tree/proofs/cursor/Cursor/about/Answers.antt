@@ -1,10 +1,11 @@
 use Rattle.std.proofs.Common.{◌+◌, ◌%◌, nat_le, refl, ap, sym, ◌∙◌, subst, arith, rules}
 use Rattle.ell_word.specs.Link.{linked}
 use Rattle.ell_word.specs.Node.{IsInternal}
-use Rattle.ell_cards.specs.declared.glance.Glance.{Glance}
-use Rattle.ell_cards.specs.Looking.{KeysAreFixed}
-use Rattle.ell_cards.specs.Models.{flat_from, PassModel}
-use Rattle.ell_cards.specs.declared.view.View.{View}
+use Rattle.ell_runs.specs.declared.glance.Glance.{Glance}
+use Rattle.ell_runs.specs.Looking.{KeysAreFixed}
+use Rattle.ell_runs.specs.Plans.{flat_from}
+use Rattle.ell_cards.specs.Models.{PassModel}
+use Rattle.ell_runs.specs.declared.view.View.{View}
 use Rattle.ell_tree.specs.Cursors.{AreKept, FindsAbout}
 use Rattle.ell_tree.specs.Looks.{stretch_steps}
 use Rattle.ell_tree.proofs.lemmas.Counts.{counted_all, uncounted_looked, uncounted_none, uncounted_one, uncounted_trans}
@@ -13,7 +14,7 @@ use Rattle.ell_tree.proofs.lemmas.LookPlaces.{places_counted}
 use Rattle.ell_tree.proofs.lemmas.Links.{node_same}
 use Rattle.ell_tree.proofs.cursor.Cursor.about.Goals as goal
 use Rattle.ell_tree.proofs.cursor.Cursor.about.Goals.{then-not-right, else-not-right}
-use Rattle.ell_cards.specs.Depths.{deepest, depth_of}
+use Rattle.ell_runs.specs.Depths.{deepest, depth_of}
 
 pub loop-steps-init : goal.loop-steps-init
 loop-steps-init g c =

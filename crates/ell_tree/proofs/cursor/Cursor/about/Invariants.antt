@@ -2,7 +2,7 @@ use Rattle.std.proofs.Common.{◌+◌, ◌-◌}
 use Rattle.ell_tree.specs.Counts.{HasUncounted}
 use Rattle.ell_tree.proofs.lemmas.Cursors.{GoesDown}
 use Rattle.ell_tree.proofs.cursor.Cursor.about.Given as goal
-use Rattle.ell_cards.specs.Depths.{deepest, depth_of}
+use Rattle.ell_runs.specs.Depths.{deepest, depth_of}
 
 abbrev pub invariant-loop-steps : goal.invariant-loop-steps
 invariant-loop-steps g l = record {

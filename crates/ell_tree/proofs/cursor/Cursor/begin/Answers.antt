@@ -2,7 +2,7 @@ use Rattle.std.proofs.Common.{◌+◌, false, refl, sym, ap, subst}
 use Rattle.ell_ops.specs.Meaning.{greatest_key}
 use Rattle.ell_word.specs.Link.{linked}
 use Rattle.ell_cards.specs.Models.{PassModel}
-use Rattle.ell_cards.specs.declared.view.View.{View}
+use Rattle.ell_runs.specs.declared.view.View.{View}
 use Rattle.ell_tree.specs.Cursors.{MayGoOnFrom}
 use Rattle.ell_tree.proofs.lemmas.Cursors.{begins_look, begin_kept, first_kept}
 use Rattle.ell_tree.proofs.lemmas.Links.{node_same}

@@ -1,5 +1,5 @@
 use Rattle.std.proofs.Common.{◌%◌, ◌-◌, false, inr, ap, arith, slice_index_or}
-use Rattle.ell_cards.specs.declared.glance.Glance.{Glance}
+use Rattle.ell_runs.specs.declared.glance.Glance.{Glance}
 use Rattle.ell_tree.proofs.cursor.Cursor.start.Goals as goal
 
 pub returns-then-key-kept-clause-among : goal.returns-then-key-kept-clause-among

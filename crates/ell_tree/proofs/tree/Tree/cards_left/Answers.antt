@@ -1,8 +1,8 @@
 -- What was read of the claim word is past in every run.
 use Rattle.std.proofs.Common.{ℕ, Option, slice_index, ap, subst, arith}
-use Rattle.ell_cards.specs.Readings.{IsRead}
+use Rattle.ell_runs.specs.Readings.{IsRead}
 use Rattle.ell_cards.specs.Models.{PassModel, TableModel}
-use Rattle.ell_cards.proofs.lemmas.runs.Readings.{readings_are_past}
+use Rattle.ell_runs.proofs.lemmas.runs.Readings.{readings_are_past}
 use Rattle.ell_tree.specs.Ledgers.{TreeModel}
 use Rattle.ell_tree.proofs.tree.Tree.cards_left.Goals as goal
 

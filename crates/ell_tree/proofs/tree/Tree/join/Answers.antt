@@ -1,7 +1,7 @@
 use Rattle.std.proofs.Common.{◌≡◌, max}
 use Rattle.ell_cards.specs.Models.{PassModel, one_more}
-use Rattle.ell_cards.specs.Changes.{joined_view}
-use Rattle.ell_cards.specs.Sights.{joined_sight}
+use Rattle.ell_runs.specs.Changes.{joined_view}
+use Rattle.ell_runs.specs.Sights.{joined_sight}
 use Rattle.ell_tree.specs.PassParts.{IsUnion}
 use Rattle.ell_tree.proofs.lemmas.PassParts.{if_ok, union}
 use Rattle.ell_tree.proofs.tree.Tree.join.Goals as goal

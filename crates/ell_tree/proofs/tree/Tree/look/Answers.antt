@@ -1,5 +1,5 @@
 -- What a look has found was so in one state since it began.
-use Rattle.ell_cards.proofs.lemmas.runs.Beginnings.{looks_are_of_one_state}
+use Rattle.ell_cards.proofs.lemmas.shown.InRuns.{looks_are_of_one_state}
 use Rattle.std.proofs.Common.{◌∙◌, subst}
 use Rattle.ell_tree.specs.Ledgers.{TreeModel}
 use Rattle.ell_tree.specs.LookPlaces.{SeesThere}

@@ -1,6 +1,6 @@
 -- What a look has found about a key was so in one state since it began.
 use Rattle.std.proofs.Common.{◌∙◌, subst}
-use Rattle.ell_cards.proofs.lemmas.runs.Beginnings.{stretches_are_of_one_state}
+use Rattle.ell_cards.proofs.lemmas.shown.InRuns.{stretches_are_of_one_state}
 use Rattle.ell_tree.specs.Ledgers.{TreeModel}
 use Rattle.ell_tree.specs.Scans.{IsFoundAboutIn}
 use Rattle.ell_tree.specs.LookPlaces.{SeesAround}

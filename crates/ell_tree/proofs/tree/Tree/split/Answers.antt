@@ -1,5 +1,5 @@
 use Rattle.ell_cards.specs.Models.{PassModel, Steps, StepsOut}
-use Rattle.ell_cards.specs.Changes.{left_view, right_view}
+use Rattle.ell_runs.specs.Changes.{left_view, right_view}
 use Rattle.ell_tree.specs.PassParts.{IsLeftPart, IsRightPart}
 use Rattle.ell_tree.proofs.lemmas.PassParts.{if_ok, left_part, right_part}
 use Rattle.ell_tree.proofs.tree.Tree.split.Goals as goal

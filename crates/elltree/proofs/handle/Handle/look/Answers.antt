@@ -1,6 +1,6 @@
 use Rattle.std.proofs.Common.{subst, rules}
 use Rattle.ell_ops.specs.Contents.{contents_of}
-use Rattle.ell_cards.specs.LookPlaces.{IsThere, SeesFound}
+use Rattle.ell_runs.specs.LookPlaces.{IsThere, SeesFound}
 use Rattle.elltree.specs.Handles.{tree_of}
 use Rattle.ell_tree.specs.LookPlaces.{SeesThere}
 use Rattle.elltree.proofs.lemmas.Looking.{sees_ended}

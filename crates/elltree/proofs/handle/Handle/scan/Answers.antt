@@ -2,7 +2,7 @@ use Rattle.std.proofs.Common.{◌≡◌, ◌≤◌, ◌<◌, IfSome, length, sub
 use Rattle.ell_ops.specs.Contents.{contents_of}
 use Rattle.ell_tree.specs.Ledgers.{TreeModel}
 use Rattle.ell_tree.specs.Scans.{AreFoundIn, AreInOrder, end_of, written}
-use Rattle.ell_cards.specs.LookPlaces.{SeesEachFound}
+use Rattle.ell_runs.specs.LookPlaces.{SeesEachFound}
 use Rattle.ell_tree.specs.LookPlaces.{SeesScan}
 use Rattle.elltree.specs.Calls.{real_end}
 use Rattle.elltree.specs.Handles.{tree_of}

@@ -1,6 +1,0 @@
--- The place of a look is that of the state which it is of.
-use Rattle.ell_cards.proofs.lemmas.runs.Placing as of_runs
-use Rattle.ell_cards.proofs.laws.looks_have_places.Goals as goal
-
-pub returns : goal.returns
-returns c = of_runs.looks_have_places

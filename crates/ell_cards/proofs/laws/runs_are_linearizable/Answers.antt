@@ -1,7 +1,0 @@
--- The sequence has the calls in the order of their points.
-use Rattle.ell_cards.proofs.lemmas.runs.Linearizing as by_points
-use Rattle.ell_cards.proofs.lemmas.runs.LinearizingAnswers.{last_answers_are_of_calls}
-use Rattle.ell_cards.proofs.laws.runs_are_linearizable.Goals as goal
-
-pub returns : goal.returns
-returns c = record { runs = by_points.runs_are_linearizable; last = last_answers_are_of_calls }

@@ -1,6 +1,0 @@
--- Turn by turn, and nothing was won before.
-use Rattle.ell_cards.proofs.lemmas.runs.Starting.{runs_from_starts}
-use Rattle.ell_cards.proofs.laws.runs_from_starts_are_lawful.Goals as goal
-
-pub returns : goal.returns
-returns c = runs_from_starts

@@ -1,6 +1,0 @@
--- Nodes of the machine go on so, and those that came into the tree have the table's own words.
-use Rattle.ell_cards.proofs.lemmas.runs.OfReached.{table_nodes_go_on}
-use Rattle.ell_cards.proofs.laws.table_nodes_go_on.Goals as goal
-
-pub returns : goal.returns
-returns c = table_nodes_go_on

@@ -1,6 +1,0 @@
--- The wins of a card up to any stage are in order.
-use Rattle.ell_cards.proofs.lemmas.runs.WinsOfRuns.{table_wins_are_in_order}
-use Rattle.ell_cards.proofs.laws.table_wins_are_in_order.Goals as goal
-
-pub returns : goal.returns
-returns c = table_wins_are_in_order
