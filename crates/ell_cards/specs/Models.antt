@@ -8,6 +8,7 @@ use Rattle.ell_cards.specs.declared.fault.SplitFault.{SplitFault}
 use Rattle.ell_cards.specs.declared.fault.SplitFault.TheVariants.{TooManyPasses}
 use Rattle.ell_cards.specs.declared.fault.SplitFault.TheVariants as split_fault
 use Rattle.ell_runs.specs.declared.view.View.{View}
+use Rattle.ell_cards.specs.declared.view.Period.{Period}
 use Rattle.ell_cards.specs.declared.view.Retired.{Retired}
 use Rattle.ell_runs.specs.declared.view.Sight.{Sight}
 use Rattle.ell_cards.specs.declared.view.Survey.{Survey}
@@ -32,21 +33,49 @@ pub record TableModel : Type 0 where
   pub id : TableId
   pub plan : TablePlan
 
--- the table that a pass belongs to, what is shown of what it knows, the atomic steps made through it, its label,
--- its safe number: every pass that is in a period began it when the clock was that at least; and, if the table has
--- places, whether it is in a period itself, what it saw when it looked at all places last, the card whose slot it has
--- taken last, and what it has noted for it of dead nodes; and what it knows of the table's history
-pub record PassModel : Type 0 where
-  pub table : TableId
-  pub view : View
-  pub steps : ℕ
-  pub label : ℕ
+-- the safe number of a pass: every pass in a period began it when the clock was that at least; and with places, whether
+-- it is in a period, what it saw last at all places, the card whose slot it took last, and the dead nodes noted for it
+pub record PassMemory : Type 0 where
   pub safe : ℕ
   pub inside : Bool
   pub surveyed : Survey
   pub slot : Option ℕ
   pub retired : Retired
+
+-- a pass's table, what is shown of what it knows, its atomic steps, its label, its memory, and the history it knows
+pub record PassModel : Type 0 where
+  pub table : TableId
+  pub view : View
+  pub steps : ℕ
+  pub label : ℕ
+  pub memory : PassMemory
   pub sight : Sight
+
+-- a pass that has not looked at the places has seen nothing: the clock is never less than 0
+abbrev pub no_survey : Survey
+no_survey = record { clock = 0; least = 0 }
+
+-- so it is at first: it is in no period, has looked at no place, and has taken no slot
+abbrev pub no_memory : PassMemory
+no_memory = record { safe = 0; inside = false; surveyed = no_survey; slot = None; retired = none_retired }
+
+-- the memory of a pass whose seat knows this of periods
+abbrev pub memory_of : Period → PassMemory
+memory_of p = record {
+  safe = p.safe;
+  inside = is_some p.announced;
+  surveyed = p.surveyed;
+  slot = p.slot;
+  retired = p.retired;
+}
+
+-- the same memory, of a pass that is in a period if there are places, and in none if there are not
+abbrev pub in_period : Option Slots → PassMemory → PassMemory
+in_period slots m = record m { inside = is_some slots }
+
+-- or of one that is in no period
+abbrev pub in_no_period : PassMemory → PassMemory
+in_no_period m = record m { inside = false }
 
 -- the ledger of a pass: each key of its own with whether it is present, and with which value
 abbrev pub ledger : PassModel → Ledger
@@ -88,24 +117,37 @@ StepsOn old new v = new ≡ record old { view = v; steps = one_more old.steps; s
 -- places, it is in a period
 abbrev pub BeginsBy : Option Slots → PassModel → PassModel → View → Type 0
 BeginsBy slots old new v =
-    new ≡ record old { view = v; steps = one_more old.steps; inside = is_some slots; sight = new.sight }
+    new ≡ record old { view = v; steps = one_more old.steps; memory = in_period slots old.memory; sight = new.sight }
 
 -- or by which it began a look, and did not count the step: it knows more of the history
 abbrev pub LooksBy : Option Slots → PassModel → PassModel → View → Type 0
-LooksBy slots old new v = new ≡ record old { view = v; inside = is_some slots; sight = new.sight }
+LooksBy slots old new v = new ≡ record old { view = v; memory = in_period slots old.memory; sight = new.sight }
 
 -- or by which it ended what it had begun: it is in no period
 abbrev pub EndsBy : PassModel → PassModel → View → Type 0
-EndsBy old new v = new ≡ record old { view = v; steps = one_more old.steps; inside = false }
+EndsBy old new v = new ≡ record old { view = v; steps = one_more old.steps; memory = in_no_period old.memory }
 
 -- and by which it answered an operation: it knows more of the history
 abbrev pub AnswersBy : PassModel → PassModel → View → Type 0
 AnswersBy old new v =
-    new ≡ record old { view = v; steps = one_more old.steps; inside = false; sight = new.sight }
+    new ≡ record old { view = v; steps = one_more old.steps; memory = in_no_period old.memory; sight = new.sight }
 
--- a pass that has not looked at the places has seen nothing: the clock is never less than 0
-abbrev pub no_survey : Survey
-no_survey = record { clock = 0; least = 0 }
+-- all that contracts see of the pass is as it was, but its safe number and what it saw at all places
+abbrev pub LooksAround : PassModel → PassModel → Type 0
+LooksAround old new =
+    new ≡ record old { memory = record (old.memory) { safe = new.memory.safe; surveyed = new.memory.surveyed } }
+
+-- or the slot that it took last and what it noted for it, too
+abbrev pub LooksForSlot : PassModel → PassModel → Type 0
+LooksForSlot old new =
+    new ≡ record old {
+      memory = record (old.memory) {
+        safe = new.memory.safe;
+        surveyed = new.memory.surveyed;
+        slot = new.memory.slot;
+        retired = new.memory.retired;
+      };
+    }
 
 -- the pass came from another one by a step that both count, and knows this; it is in no period, has looked at no place
 -- yet, has taken no slot, and has seen of the history what the other one has
@@ -116,11 +158,7 @@ StepsOut old new v =
       view = v;
       steps = one_more old.steps;
       label = old.label;
-      safe = 0;
-      inside = false;
-      surveyed = no_survey;
-      slot = None;
-      retired = none_retired;
+      memory = no_memory;
       sight = given_sight old.sight;
     }
 
@@ -149,11 +187,7 @@ pub record OpensBy (plan : TablePlan) (made : TableModel × PassModel) : Type 0 
         view = first_of plan;
         steps = 0;
         label = 0;
-        safe = 0;
-        inside = false;
-        surveyed = no_survey;
-        slot = None;
-        retired = none_retired;
+        memory = no_memory;
         sight = no_sight;
       }
 

@@ -59,4 +59,4 @@ retires_in s taken_out c nodes r = if has_slot_in s.last c then with_retired tak
 
 -- all that contracts see of a pass is as it was, but what it has noted for its card in hand
 abbrev pub HasNoted : PassModel → PassModel → Type 0
-HasNoted old new = new ≡ record old { retired = new.retired }
+HasNoted old new = new ≡ record old { memory = record (old.memory) { retired = new.memory.retired } }

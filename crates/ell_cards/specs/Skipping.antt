@@ -84,7 +84,7 @@ pub record IsAfterRow (first last : ℕ) (node : NewNode) (old new : View) : Typ
 -- pass knows of the tree after, and what it knows of periods and of the history is as it was.
 abbrev pub MayStepOn : TablePlan → PassModel → ℕ → (ℕ → ℕ) → (ℕ → View → Type 0) → Type 0
 MayStepOn plan p i f told =
-    (k : Known) → shown k.tree ≡ p.view → k.period.slot ≡ p.slot → k.period.lost ≡ None
+    (k : Known) → shown k.tree ≡ p.view → k.period.slot ≡ p.memory.slot → k.period.lost ≡ None
     → (id : ℕ) → Allows (IsWhole plan) 0 id (k, []) i f
     (λ n me. told n (shown me.0.tree) × (me.0.period ≡ k.period) × (me.1 ≡ []) × (me.0.sight ≡ k.sight))
 

@@ -1,4 +1,4 @@
-use Rattle.std.specs.Prelude.{◌≡◌, ℕ, Bool, Option, None, Some, is_some, List, [], ◌-◌}
+use Rattle.std.specs.Prelude.{◌≡◌, ℕ, Bool, Option, None, Some, List, [], ◌-◌}
 use mathlib.Core.Option.{some}
 use lib.ListN.{get_elem?}
 use Rattle.std.specs.List.Sorted.{IsStrictlyIncreasing}
@@ -10,7 +10,7 @@ use Rattle.ell_cards.specs.declared.view.Known.{Known}
 use Rattle.ell_cards.specs.declared.view.Period.{Period}
 use Rattle.ell_runs.specs.declared.view.Slots.{Slots}
 use Rattle.ell_runs.specs.declared.view.View.{View}
-use Rattle.ell_cards.specs.Models.{Steps, last_slot, PassModel, one_more}
+use Rattle.ell_cards.specs.Models.{Steps, in_period, last_slot, PassModel, one_more}
 use Rattle.ell_runs.specs.Plans.{flat_from, TablePlan}
 use Rattle.ell_runs.specs.Views.{IsFree, MayPart, given_share}
 use Rattle.ell_runs.specs.Changes.{ledger_keys}
@@ -85,15 +85,15 @@ IsInside plan v = IsNamed plan.last_card v × IsPlaced (last_slot plan) v
 
 -- a pass has taken the slot of a card, and has stored each word of it that is said
 abbrev pub IsWholeIn : PassModel → ℕ → (Field → Bool) → Type 0
-IsWholeIn p c said = (p.slot ≡ Some c) × HasStoredAll p.view said
+IsWholeIn p c said = (p.memory.slot ≡ Some c) × HasStoredAll p.view said
 
 -- a call asks this of the slots, if the table has places
 abbrev pub MayInTable : TablePlan → PassModel → Call → Type 0
-MayInTable plan p c = (s : Slots) → plan.slots ≡ Some s → MayInMemory s p.slot p.retired p.view c
+MayInTable plan p c = (s : Slots) → plan.slots ≡ Some s → MayInMemory s p.memory.slot p.memory.retired p.view c
 
 -- so it does of one by which the pass lets its card in hand go
 abbrev pub LetsGo : TablePlan → PassModel → Type 0
-LetsGo plan p = (s : Slots) → plan.slots ≡ Some s → MayLetGo s p.slot p.retired p.view
+LetsGo plan p = (s : Slots) → plan.slots ≡ Some s → MayLetGo s p.memory.slot p.memory.retired p.view
 
 -- what a step tells says that the pass owns the keys and has the share that it did, and names what is in the table
 abbrev pub KeepsPass : TablePlan → View → (ℕ → View → Type 0) → Type 0
@@ -101,17 +101,13 @@ KeepsPass plan v then =
     (n : ℕ) (w : View) → then n w → (ledger_keys w.worker.ledger ≡ ledger_keys v.worker.ledger) × SameShare v w
     × IsInside plan w
 
--- a pass made one step that it has not counted yet: its table, its label, its safe number, whether it is in a period,
--- what it saw at the places, its slot and what it has noted are as they were, and so is what it knows of the history
+-- a pass made one step that it has not counted yet: its table, its label and its memory are as they were, and so is
+-- what it knows of the history
 pub record SeesBy (old new : PassModel) : Type 0 where
   pub table : new.table ≡ old.table
   pub steps : new.steps ≡ old.steps
   pub label : new.label ≡ old.label
-  pub safe : new.safe ≡ old.safe
-  pub inside : new.inside ≡ old.inside
-  pub surveyed : new.surveyed ≡ old.surveyed
-  pub slot : new.slot ≡ old.slot
-  pub retired : new.retired ≡ old.retired
+  pub memory : new.memory ≡ old.memory
   pub sight : new.sight ≡ old.sight
 
 -- so it is after one by which it may know more of the history, but for that
@@ -119,11 +115,7 @@ pub record SeesOnBy (old new : PassModel) : Type 0 where
   pub table : new.table ≡ old.table
   pub steps : new.steps ≡ old.steps
   pub label : new.label ≡ old.label
-  pub safe : new.safe ≡ old.safe
-  pub inside : new.inside ≡ old.inside
-  pub surveyed : new.surveyed ≡ old.surveyed
-  pub slot : new.slot ≡ old.slot
-  pub retired : new.retired ≡ old.retired
+  pub memory : new.memory ≡ old.memory
 
 -- and after one that begins an operation or a look, but that it is in a period if there are places, and knows more of
 -- the history if it begins an operation
@@ -131,28 +123,19 @@ pub record EntersBy (slots : Option Slots) (c : Call) (old new : PassModel) : Ty
   pub table : new.table ≡ old.table
   pub steps : new.steps ≡ old.steps
   pub label : new.label ≡ old.label
-  pub safe : new.safe ≡ old.safe
-  pub inside : new.inside ≡ is_some slots
-  pub surveyed : new.surveyed ≡ old.surveyed
-  pub slot : new.slot ≡ old.slot
-  pub retired : new.retired ≡ old.retired
+  pub memory : new.memory ≡ in_period slots old.memory
   pub marks : Marks c old.view old.sight new.sight
 
 -- the pass made one step that it has not counted yet, by a call that begins an operation or a look, and knows this now
 abbrev pub Enters : Option Slots → PassModel → PassModel → View → Type 0
-Enters slots old new v = new ≡ record old { view = v; inside = is_some slots; sight = new.sight }
+Enters slots old new v = new ≡ record old { view = v; memory = in_period slots old.memory; sight = new.sight }
 
--- a pass made one step: its table, its label, its safe number, whether it is in a period, what it saw at the places,
--- its slot and what it has noted are as they were, and so is what it knows of the history
+-- a pass made one step: its table, its label and its memory are as they were, and so is what it knows of the history
 pub record StepsBy (old new : PassModel) : Type 0 where
   pub table : new.table ≡ old.table
   pub steps : new.steps ≡ one_more old.steps
   pub label : new.label ≡ old.label
-  pub safe : new.safe ≡ old.safe
-  pub inside : new.inside ≡ old.inside
-  pub surveyed : new.surveyed ≡ old.surveyed
-  pub slot : new.slot ≡ old.slot
-  pub retired : new.retired ≡ old.retired
+  pub memory : new.memory ≡ old.memory
   pub sight : new.sight ≡ old.sight
 
 -- a pass made one step by a call, and knows what the call tells by some word that it found

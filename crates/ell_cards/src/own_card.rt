@@ -41,7 +41,7 @@ impl<M: Memory, G: StepGate> TableSteps<'_, M, G> {
         ensures step { Steps pass.old pass.new
             (after_claimed_row result card card (new_node self.entry.table.now.plan node_key) pass.old.view) }
         // If it took the card, it has not taken that one's slot yet.
-        ensures fresh { IsFresh self.entry.table.now.plan pass.old.slot result card }
+        ensures fresh { IsFresh self.entry.table.now.plan pass.old.memory.slot result card }
     {
         self.table.names(pass);
         self.table
@@ -67,7 +67,7 @@ impl<M: Memory, G: StepGate> TableSteps<'_, M, G> {
         ensures step { Steps pass.old pass.new
             (after_claimed_row result first last (new_node self.entry.table.now.plan node_key) pass.old.view) }
         // If it took the cards, it has not taken the last one's slot yet.
-        ensures fresh { IsFresh self.entry.table.now.plan pass.old.slot result last }
+        ensures fresh { IsFresh self.entry.table.now.plan pass.old.memory.slot result last }
     {
         self.table.names(pass);
         self.table.places_are_in_flat_trees();
@@ -82,7 +82,7 @@ impl<M: Memory, G: StepGate> TableSteps<'_, M, G> {
     pub fn fill(self, pass: &mut Pass<M>, card: u64, field: Field, value: u64)
         requires own { pass.old.table ≡ self.table.now.id }
         requires may { MayFill pass.old.view card }
-        requires slot { self.table.now.plan.slots ≢ None → pass.old.slot ≡ Some card }
+        requires slot { self.table.now.plan.slots ≢ None → pass.old.memory.slot ≡ Some card }
         requires fits { shown_word field value ≡ value }
         // It makes one step and counts it. The pass then knows exactly what this call tells.
         ensures step { Steps pass.old pass.new (after_fill field value pass.old.view) }

@@ -78,8 +78,7 @@ pub(crate) fn one_more(steps: u64) -> u64
 }
 
 impl<M: Memory> Model for Pass<M> {
-    ghost use Rattle.std.specs.Prelude.{is_some};
-    ghost use Rattle.ell_cards.specs.Models.{PassModel};
+    ghost use Rattle.ell_cards.specs.Models.{PassModel, memory_of};
     ghost use Rattle.ell_cards.specs.Inside.{IsPass};
     ghost use Rattle.ell_cards.specs.Shown.{shown};
 
@@ -90,11 +89,7 @@ impl<M: Memory> Model for Pass<M> {
       view = shown p.seat.me.0.tree;
       steps = p.steps;
       label = p.label;
-      safe = p.seat.me.0.period.safe;
-      inside = is_some p.seat.me.0.period.announced;
-      surveyed = p.seat.me.0.period.surveyed;
-      slot = p.seat.me.0.period.slot;
-      retired = p.seat.me.0.period.retired;
+      memory = memory_of p.seat.me.0.period;
       sight = p.seat.me.0.sight;
     } };
 

@@ -5,7 +5,7 @@ ghost use Rattle.std.specs.Prelude.{◌≡◌, ℕ, ◌≢◌, ◌⊎◌, ◌≤
 ghost use prog.Atomic.{either};
 ghost use Rattle.ell_word.specs.Node.{greatest_card};
 ghost use Rattle.ell_grace.specs.epochs.Grace.{least_with};
-ghost use Rattle.ell_cards.specs.Models.{last_slot_of};
+ghost use Rattle.ell_cards.specs.Models.{LooksAround, in_no_period, last_slot_of};
 ghost use Rattle.ell_cards.specs.Frames.{IsSeatOf, IsSeatWithSlots, KeepsSafe, LeavesTree, StandsStill};
 ghost use Rattle.ell_cards.specs.Inside.{PlaceFits};
 ghost use Rattle.ell_runs.specs.Touching.{IsAtRest};
@@ -86,7 +86,7 @@ impl<M: Memory> CardTable<M> {
     pub fn periods_have_places(&self, pass: &Pass<M>)
         requires own { pass.now.table ≡ self.now.id }
         // Without places, the pass is in no period.
-        ensures { self.now.plan.slots ≡ None → pass.now.inside ≡ false }
+        ensures { self.now.plan.slots ≡ None → pass.now.memory.inside ≡ false }
     {
         let _ = &self.table;
         let _ = &pass.seat;
@@ -224,7 +224,7 @@ impl<M: Memory> CardTable<M> {
         requires own { pass.old.table ≡ self.now.id }
         requires rest { IsAtRest pass.old.view }
         // The pass is in no period. What it knows of the tree is as it was, and it has made no step that is counted.
-        ensures { pass.new ≡ record (pass.old) { inside = false } }
+        ensures { pass.new ≡ record (pass.old) { memory = in_no_period pass.old.memory } }
     {
         if !pass.standing.announces {
             return;
@@ -363,14 +363,14 @@ impl<M: Memory> CardTable<M> {
         requires own { pass.old.table ≡ self.now.id }
         // The pass has this safe number, and has looked at the places; it is otherwise unchanged, and has made no step
         // that is counted.
-        ensures safe { pass.new ≡ record (pass.old) { safe = result; surveyed = pass.new.surveyed } }
+        ensures safe { LooksAround pass.old pass.new × (pass.new.memory.safe ≡ result) }
         // It is no less than the last one.
-        ensures more { pass.old.safe ≤ result }
+        ensures more { pass.old.memory.safe ≤ result }
         // It is the least that the pass has seen at the places, unless the last one is greater.
-        ensures least { self.now.plan.slots ≢ None → result ≡ max pass.new.surveyed.least pass.old.safe }
+        ensures least { self.now.plan.slots ≢ None → result ≡ max pass.new.memory.surveyed.least pass.old.memory.safe }
         // It has looked at them in this call.
-        ensures anew { self.now.plan.slots ≢ None → LooksAnew pass.old.surveyed pass.new.surveyed }
-        ensures later { pass.old.surveyed.clock ≤ pass.new.surveyed.clock }
+        ensures anew { self.now.plan.slots ≢ None → LooksAnew pass.old.memory.surveyed pass.new.memory.surveyed }
+        ensures later { pass.old.memory.surveyed.clock ≤ pass.new.memory.surveyed.clock }
         // A table without places has no safe number but 0.
         ensures none { self.now.plan.slots ≡ None → (result ≡ 0) × (pass.new ≡ pass.old) }
     {
@@ -389,9 +389,9 @@ impl<M: Memory> CardTable<M> {
     /// number 0.
     pub(crate) fn look_first(&self, pass: &mut Pass<M>)
         requires own { pass.old.table ≡ self.now.id }
-        ensures same { pass.new ≡ record (pass.old) { safe = pass.new.safe; surveyed = pass.new.surveyed } }
-        ensures more { pass.old.safe ≤ pass.new.safe }
-        ensures later { pass.old.surveyed.clock ≤ pass.new.surveyed.clock }
+        ensures same { LooksAround pass.old pass.new }
+        ensures more { pass.old.memory.safe ≤ pass.new.memory.safe }
+        ensures later { pass.old.memory.surveyed.clock ≤ pass.new.memory.surveyed.clock }
     {
         if pass.standing.safe == 0 {
             self.safe_number(pass);

@@ -12,6 +12,7 @@ ghost use Rattle.ell_cards.specs.Frames.{IsSeatOf, IsSeatWithSlots, KeepsSafe, L
 ghost use Rattle.ell_runs.specs.Guards.{MayFill};
 ghost use Rattle.ell_cards.specs.Periods.{clock_word, LostIs, after_freeing, after_noting, after_noting_read, after_read, after_stamp, after_taking, has_slot, last_reading, slot_word};
 ghost use Rattle.ell_cards.specs.Retiring.{is_done, none_retired, retires_if, with_retired};
+ghost use Rattle.ell_cards.specs.Models.{LooksAround, LooksForSlot};
 ghost use Rattle.ell_cards.specs.Noting.{AreTakenOut, HasNoted, MayNote, MayNoteNext, MayRetire, NeverCome, retires_in};
 ghost use Rattle.ell_cards.specs.SlotWords.{card_by, has_slot_in, is_noted, slot_of, stamp_in, turn_of};
 ghost use Rattle.ell_cards.specs.Stepping.{MayGoOn};
@@ -316,8 +317,8 @@ impl<M: Memory> CardTable<M> {
         // What the pass knows of the tree is as it was, and it has made no step that is counted.
         ensures same { HasNoted pass.old pass.new }
         // The node is noted, as what the card has taken out: its parent if it is an internal node, else its leaf.
-        ensures noted { IfSome self.now.plan.slots (λ s. pass.new.retired ≡
-            retires_in s true (card node) (node_alone (node % 4)) pass.old.retired) }
+        ensures noted { IfSome self.now.plan.slots (λ s. pass.new.memory.retired ≡
+            retires_in s true (card node) (node_alone (node % 4)) pass.old.memory.retired) }
         // A table without places has no slots that become free.
         ensures none { self.now.plan.slots ≡ None → (result ≡ false) × (pass.new ≡ pass.old) }
     {
@@ -336,8 +337,8 @@ impl<M: Memory> CardTable<M> {
         ensures same { HasNoted pass.old pass.new }
         // They are noted, as what the card in hand has taken out: an internal node as its parent, another one as its
         // leaf.
-        ensures noted { IfSome self.now.plan.slots (λ s. pass.new.retired ≡
-            retires_in s true card nodes pass.old.retired) }
+        ensures noted { IfSome self.now.plan.slots (λ s. pass.new.memory.retired ≡
+            retires_in s true card nodes pass.old.memory.retired) }
         // A table without places has no slots that become free.
         ensures none { self.now.plan.slots ≡ None → (result ≡ false) × (pass.new ≡ pass.old) }
     {
@@ -361,8 +362,8 @@ impl<M: Memory> CardTable<M> {
         // What the pass knows of the tree is as it was, and it has made no step that is counted.
         ensures same { HasNoted pass.old pass.new }
         // They are noted, as nodes of that card.
-        ensures noted { IfSome self.now.plan.slots (λ s. pass.new.retired ≡
-            retires_in s false card nodes pass.old.retired) }
+        ensures noted { IfSome self.now.plan.slots (λ s. pass.new.memory.retired ≡
+            retires_in s false card nodes pass.old.memory.retired) }
         // A table without places has no slots that become free.
         ensures none { self.now.plan.slots ≡ None → (result ≡ false) × (pass.new ≡ pass.old) }
     {
@@ -400,8 +401,8 @@ impl<M: Memory> CardTable<M> {
     // have different stamps, of which the next change can take the oldest.
     fn look_now_and_then(&self, pass: &mut Pass<M>, slots: Slots, card: u64)
         requires own { pass.old.table ≡ self.now.id }
-        ensures same { pass.new ≡ record (pass.old) { safe = pass.new.safe; surveyed = pass.new.surveyed } }
-        ensures more { pass.old.safe ≤ pass.new.safe }
+        ensures same { LooksAround pass.old pass.new }
+        ensures more { pass.old.memory.safe ≤ pass.new.memory.safe }
     {
         let numbers = pass.standing.numbers.saturating_add(1);
         let per_look = numbers_per_look(slots);
@@ -465,7 +466,7 @@ impl<M: Memory> CardTable<M> {
         requires own { pass.old.table ≡ self.now.id }
         requires room { card ≤ self.now.plan.last_card }
         // What the pass knows of the tree is as it was, and it has made no step that is counted.
-        ensures same { pass.new ≡ record (pass.old) { safe = pass.new.safe; surveyed = pass.new.surveyed } }
+        ensures same { LooksAround pass.old pass.new }
         // It is a card of the table that has a slot, and none before the one from which it was sought.
         ensures found { IfSome result (λ c. (card ≤ c) × (c ≤ self.now.plan.last_card) × (has_slot self.now.plan.slots c ≡ true)) }
         // A table without places has no slots to be read.
@@ -493,15 +494,13 @@ impl<M: Memory> CardTable<M> {
         requires own { pass.old.table ≡ self.now.id }
         requires may { MayFill pass.old.view card }
         // The pass has taken the slot of its card, if the table has places.
-        ensures took { result ≡ true → self.now.plan.slots ≢ None → pass.new.slot ≡ Some card }
+        ensures took { result ≡ true → self.now.plan.slots ≢ None → pass.new.memory.slot ≡ Some card }
         // What the pass knows of the tree is as it was, and it has made no step that is counted.
-        ensures same { pass.new ≡
-            record (pass.old) { slot = pass.new.slot; safe = pass.new.safe; surveyed = pass.new.surveyed; retired = pass.new.retired } }
+        ensures same { LooksForSlot pass.old pass.new }
         // If it did not take the slot, it has the slot that it had.
-        ensures kept { result ≡ false →
-            pass.new ≡ record (pass.old) { safe = pass.new.safe; surveyed = pass.new.surveyed } }
+        ensures kept { result ≡ false → LooksAround pass.old pass.new }
         // If it did, it has noted nothing for the card yet.
-        ensures anew { result ≡ true → self.now.plan.slots ≢ None → pass.new.retired ≡ none_retired }
+        ensures anew { result ≡ true → self.now.plan.slots ≢ None → pass.new.memory.retired ≡ none_retired }
         // A table without places has no slots to be taken.
         ensures none { self.now.plan.slots ≡ None → (result ≡ true) × (pass.new ≡ pass.old) }
     {

@@ -149,7 +149,7 @@ impl<M: Memory, G: StepGate> TableSteps<'_, M, G> {
     pub(crate) fn store(self, pass: &mut Pass<M>, card: u64, field: Field, word: usize, value: u64)
         requires own { pass.old.table ≡ self.table.now.id }
         requires may { MayFill pass.old.view card }
-        requires slot { self.table.now.plan.slots ≢ None → pass.old.slot ≡ Some card }
+        requires slot { self.table.now.plan.slots ≢ None → pass.old.memory.slot ≡ Some card }
         requires fits { shown_word field value ≡ value }
         requires word { word ≡ slot_address card field }
         ensures step { Steps pass.old pass.new (after_fill field value pass.old.view) }

@@ -99,7 +99,7 @@ impl<M: Memory> CardTable<M> {
         ensures named { IsNamed self.now.plan.last_card pass.now.view }
         ensures placed { IsPlaced greatest_card pass.now.view }
         ensures short { NamesLowBits pass.now.view }
-        ensures slot { (c : ℕ) → pass.now.slot ≡ Some c → slot_of c ≤ greatest_card }
+        ensures slot { (c : ℕ) → pass.now.memory.slot ≡ Some c → slot_of c ≤ greatest_card }
         ensures tags { (c tag : ℕ) → IsTold pass.now.view (Expects c tag) → tag ≤ greatest_tag }
         ensures room { self.now.plan.last_card ≤ greatest_number }
         ensures deep { deepest self.now.plan ≤ greatest_number + 64 }

@@ -31,7 +31,7 @@ pub record IsUntouched (old new : PassModel) : Type 0 where
   pub answered : answers old ≤ answers new
   pub share : SameShare old.view new.view
   pub idle : IsIdle new
-  pub outside : old.inside ≡ false → new.inside ≡ false
+  pub outside : old.memory.inside ≡ false → new.memory.inside ≡ false
   pub sees : SeesNoChange old.sight new.sight
 
 -- a call that is made of several operations has ended by this one, which was answered so, and those before it have
@@ -50,7 +50,7 @@ pub record Concludes (t : TreeModel) (op : Op) (said : Reply) (old new : PassMod
   pub answered : answers old < answers new
   pub share : SameShare old.view new.view
   pub idle : IsIdle new
-  pub outside : new.inside ≡ false
+  pub outside : new.memory.inside ≡ false
   pub sees : ByItsTake op (λ took. SeesLast op said took old.sight new.sight)
 
 -- the key had this value, or none, at the point of a find, or of a swap of another value, which changes nothing

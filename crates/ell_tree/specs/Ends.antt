@@ -36,7 +36,7 @@ pub record AnswersAs (Sees : Op → Reply → Option ℕ → Sight → Sight →
   pub answered : answers new ≡ answers old + 1
   pub share : SameShare old.view new.view
   pub idle : IsIdle new
-  pub outside : new.inside ≡ false
+  pub outside : new.memory.inside ≡ false
   pub sees : ByItsTake op (λ took. Sees op said took old.sight new.sight)
 
 -- an operation that the pass began, too: it is a call of the tree's history, as the pass has seen it
@@ -55,7 +55,7 @@ pub record LaidDown (t : TreeModel) (op : Op) (old new : PassModel) : Type 0 whe
   pub would : Owns old (key_of op) → reply_of op (present_in old) ≡ reply_of_change op
   pub nothing : IsLaidDownInRuns t.plan new.view op
   pub idle : IsIdle new
-  pub outside : new.inside ≡ false
+  pub outside : new.memory.inside ≡ false
   pub no_card : new.view.worker.card ≡ None
   pub sees : HasSeenMore old.sight new.sight
 

@@ -34,7 +34,7 @@ pub record LosesNothing (v w : View) : Type 0 where
 pub record Keeps (old new : PassModel) (n : ℕ) : Type 0 where
   pub table : new.table ≡ old.table
   pub label : new.label ≡ old.label
-  pub slot : new.slot ≡ old.slot
+  pub slot : new.memory.slot ≡ old.memory.slot
   pub sight : new.sight ≡ old.sight
   pub view : LosesNothing old.view new.view
   pub took : Took old new n

@@ -26,12 +26,12 @@ pub record IsFirst (t : TreeModel) (p : PassModel) : Type 0 where
   pub steps : p.steps ≡ 0
   pub made : p.view.made ≡ 0
   pub label : p.label ≡ 0
-  pub safe : p.safe ≡ 0
+  pub safe : p.memory.safe ≡ 0
   pub milestones : (last : ℕ) → milestones_known last p.view ≡ 0
   pub share : p.view.share ≡ whole_share
   pub ownable : p.view.worker.shared ≡ ownable_if t.plan.shared t.plan.keys
   pub idle : IsIdle p
-  pub outside : p.inside ≡ false
+  pub outside : p.memory.inside ≡ false
   pub sight : p.sight ≡ no_sight
 
 -- the left part of a pass: it has these keys as the pass had them, and keeps the counts, the safe number, and what the
@@ -46,12 +46,12 @@ pub record IsLeftPart (keys : List ℕ) (p part : PassModel) : Type 0 where
   pub steps : part.steps ≡ one_more p.steps
   pub made : part.view.made ≡ p.view.made + 1
   pub label : part.label ≡ p.label
-  pub safe : part.safe ≡ p.safe
+  pub safe : part.memory.safe ≡ p.memory.safe
   pub milestones : (last : ℕ) → milestones_known last part.view ≡ milestones_known last p.view
   pub share : part.view.share ≡ p.view.share - given_share p.view.share
   pub ownable : part.view.worker.shared ≡ p.view.worker.shared
   pub idle : IsIdle part
-  pub inside : part.inside ≡ p.inside
+  pub inside : part.memory.inside ≡ p.memory.inside
   pub sight : part.sight ≡ p.sight
 
 -- the right part: it has the other keys, and counts anew; it is in no period, has looked at no place yet, and has seen of
@@ -66,12 +66,12 @@ pub record IsRightPart (keys : List ℕ) (p part : PassModel) : Type 0 where
   pub steps : part.steps ≡ one_more p.steps
   pub made : part.view.made ≡ 0
   pub label : part.label ≡ p.label
-  pub safe : part.safe ≡ 0
+  pub safe : part.memory.safe ≡ 0
   pub milestones : (last : ℕ) → milestones_known last part.view ≡ milestones_known last p.view
   pub share : part.view.share ≡ given_share p.view.share
   pub ownable : part.view.worker.shared ≡ p.view.worker.shared
   pub idle : IsIdle part
-  pub outside : part.inside ≡ false
+  pub outside : part.memory.inside ≡ false
   pub sight : part.sight ≡ given_sight p.sight
 
 -- two passes in one: it has the keys and the calls of both, adds the counts, and has the later reading of the claim word,
@@ -87,11 +87,11 @@ pub record IsUnion (left right both : PassModel) : Type 0 where
   pub steps : both.steps ≡ one_more (max left.steps right.steps)
   pub made : both.view.made ≡ left.view.made + right.view.made + 1
   pub label : both.label ≡ left.label
-  pub safe : both.safe ≡ left.safe
+  pub safe : both.memory.safe ≡ left.memory.safe
   pub milestones : (last : ℕ) → (milestones_known last left.view ≤ milestones_known last both.view)
       × (milestones_known last right.view ≤ milestones_known last both.view)
   pub share : both.view.share ≡ (left.view.share + right.view.share) % 2 ^ 64
   pub ownable : both.view.worker.shared ≡ option_or left.view.worker.shared right.view.worker.shared
   pub idle : IsIdle both
-  pub inside : both.inside ≡ left.inside
+  pub inside : both.memory.inside ≡ left.memory.inside
   pub sight : both.sight ≡ joined_sight left.sight right.sight

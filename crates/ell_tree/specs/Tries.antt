@@ -87,7 +87,7 @@ pub record Lays (op : Op) (old new : PassModel) : Type 0 where
   pub facts : new.view.worker.knows ≡ old.view.worker.knows
   pub least : new.view.next_at_least ≡ old.view.next_at_least
   pub idle : IsIdle new
-  pub outside : new.inside ≡ false
+  pub outside : new.memory.inside ≡ false
   pub no_card : new.view.worker.card ≡ None
   pub taken : TakesNoCard old new
   pub took : Took old new 1
@@ -178,7 +178,7 @@ pub record HasNone (old new : PassModel) : Type 0 where
 
 -- a pass may store the words of a card: where cards lie in slots, it has taken the card's one
 abbrev pub HasSlotOf : TablePlan → ℕ → PassModel → Type 0
-HasSlotOf plan c p = plan.slots ≢ None → p.slot ≡ Some c
+HasSlotOf plan c p = plan.slots ≢ None → p.memory.slot ≡ Some c
 
 -- what comes of asking for a card, whose node gets this key
 abbrev pub Claims : TablePlan → Op → Place → ℕ → PassModel → PassModel → Claimed → Type 0
@@ -196,7 +196,7 @@ Claims plan op place node_key old new claimed.Lost =
 pub record HoldsAside (plan : TablePlan) (p : PassModel) : Type 0 where
   pub ready : MayTake (flat_from plan) p.view.worker
   pub below : (c : ℕ) → p.view.worker.card ≡ Some c → c < p.view.next_at_least
-  pub aside : plan.slots ≢ None → (c : ℕ) → p.view.worker.card ≡ Some c → p.slot ≢ Some c
+  pub aside : plan.slots ≢ None → (c : ℕ) → p.view.worker.card ≡ Some c → p.memory.slot ≢ Some c
 
 -- a card was claimed in vain, whose slot could not be taken: the pass stands where it stood, and would fill a card with
 -- what it would have filled it
@@ -220,7 +220,7 @@ pub record Fills (old new : PassModel) (n : ℕ) : Type 0 where
   pub table : new.table ≡ old.table
   pub label : new.label ≡ old.label
   pub sight : new.sight ≡ old.sight
-  pub slot : new.slot ≡ old.slot
+  pub slot : new.memory.slot ≡ old.memory.slot
   pub took : Took old new n
   pub view : new.view ≡ with_stores new.view.stores old.view
   pub filled : IsFilled new.view

@@ -34,7 +34,7 @@ pub(crate) fn retire_put<M: Memory>(
     ensures same { HasNoted pass.old pass.new }
     // It has noted what the card made dead, where there are places.
     ensures retired { (s : Slots) → table.now.plan.slots ≡ Some s →
-        PutIsRetired s pass.new.view pass.new.retired card }
+        PutIsRetired s pass.new.view pass.new.memory.retired card }
 {
     if place.key != what.key {
         let unused = if what.key < place.key {
@@ -72,8 +72,8 @@ pub(crate) fn retire_deleted<M: Memory>(
     ensures same { HasNoted pass.old pass.new }
     // It has noted the parent, the leaf and the card's own nodes, where there are places.
     ensures cut { (s : Slots) → table.now.plan.slots ≡ Some s →
-        CutIsRetired s pass.new.view pass.new.retired card }
-    ensures own { (s : Slots) → table.now.plan.slots ≡ Some s → OwnAreRetired s pass.new.retired card }
+        CutIsRetired s pass.new.view pass.new.memory.retired card }
+    ensures own { (s : Slots) → table.now.plan.slots ≡ Some s → OwnAreRetired s pass.new.memory.retired card }
 {
     retire_both(table, pass, parent, leaf);
     retire_own(table, pass, card);
@@ -88,7 +88,7 @@ fn retire_both<M: Memory>(table: &CardTable<M>, pass: &mut Pass<M>, one: u64, ot
     requires outer { IsLeaf other }
     ensures same { HasNoted pass.old pass.new }
     ensures noted { (s : Slots) → table.now.plan.slots ≡ Some s →
-        BothAreNoted s one other pass.new.retired }
+        BothAreNoted s one other pass.new.memory.retired }
 {
     let card = card_of(one);
     if card_of(other) == card {
@@ -107,9 +107,9 @@ pub(crate) fn retire_own<M: Memory>(table: &CardTable<M>, pass: &mut Pass<M>, ca
     requires ended { KnowsDeleteEnded pass.old.view card }
     ensures same { HasNoted pass.old pass.new }
     // It has noted all of them, where there are places, and what it had noted beside them stays noted.
-    ensures own { (s : Slots) → table.now.plan.slots ≡ Some s → OwnAreRetired s pass.new.retired card }
+    ensures own { (s : Slots) → table.now.plan.slots ≡ Some s → OwnAreRetired s pass.new.memory.retired card }
     ensures kept { (s : Slots) → table.now.plan.slots ≡ Some s →
-        KeepsTakenOut pass.old.retired pass.new.retired }
+        KeepsTakenOut pass.old.memory.retired pass.new.memory.retired }
 {
     table.retire_nodes(pass, card, CardNodes::all());
 }

@@ -147,7 +147,7 @@ impl<M: Memory> Tree<M> {
         // The pass knows no node any more that a look has told it; or, where no card comes back, it is as it was.
         ensures ends { EndsLooks self.now.plan.slots pass.old pass.new }
         // It is in no period: no card is held back for it.
-        ensures outside { pass.new.inside ≡ false }
+        ensures outside { pass.new.memory.inside ≡ false }
         // What the pass knew before is what a run of the tree led to.
         ensures known { self.now.plan.slots ≢ None → IsKnownInRun self.now.plan pass.old.view }
     {

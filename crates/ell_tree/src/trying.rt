@@ -153,7 +153,7 @@ fn claim_up_to<M: Memory, G: StepGate>(
         (call.Claim first (new_node steps.table.now.plan node_key)) }
     ensures step { Steps pass.old pass.new
         (after_claimed_row result first card (new_node steps.entry.table.now.plan node_key) pass.old.view) }
-    ensures fresh { IsFresh steps.entry.table.now.plan pass.old.slot result card }
+    ensures fresh { IsFresh steps.entry.table.now.plan pass.old.memory.slot result card }
 {
     if card == first {
         steps.claim(pass, first, node_key)

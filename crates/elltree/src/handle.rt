@@ -63,7 +63,7 @@ pub struct Handle {
     pub pass: Pass<Global>,
     ghost own: { pass.table ≡ (arc_value tree).id },
     ghost idle: { IsIdle pass },
-    ghost outside: { pass.inside ≡ false },
+    ghost outside: { pass.memory.inside ≡ false },
     ghost shared: { (arc_value tree).plan.shared ≡ true },
     ghost alone: { (arc_value tree).plan.keys ≡ [] },
     ghost knows: { pass.view.worker.shared ≡ ownable_if true [] },

@@ -12,7 +12,7 @@ use Rattle.ell_runs.specs.declared.view.Hindrance.TheVariants.{Claim}
 use Rattle.ell_runs.specs.declared.view.Slots.{Slots}
 use Rattle.ell_runs.specs.declared.view.View.{View}
 use Rattle.ell_runs.specs.Plans.{TablePlan, flat_from, new_node}
-use Rattle.ell_cards.specs.Models.{PassModel, Steps}
+use Rattle.ell_cards.specs.Models.{LooksAround, LooksForSlot, PassModel, Steps}
 use Rattle.ell_runs.specs.Views.{latest, earlier, Does}
 use Rattle.ell_runs.specs.Changes.{expected_tag, filling_for, filling_of, tag_of_claim, value_told}
 use Rattle.ell_runs.specs.Guards.{MayClaim, MayFill, Wants}
@@ -69,7 +69,7 @@ may_claim_at plan old new c node op place s busy hand low at calm wants shape =
     (ap (λ (r : Search). r.node) at.search) at.told (ap (λ (r : Search). r.parent) at.search) (clean_word place.parent.update.state place.parent.update.card calm) wants shape
 
 -- a pass that takes a slot after its steps, or finds it in use, keeps what it kept
-pub keeps_slot : (plan : TablePlan) (a d e : PassModel) (n : ℕ) → KeepsIn plan a d n → e ≡ record d { slot = e.slot; safe = e.safe; surveyed = e.surveyed; retired = e.retired } → KeepsIn plan a e n
+pub keeps_slot : (plan : TablePlan) (a d e : PassModel) (n : ℕ) → KeepsIn plan a d n → LooksForSlot d e → KeepsIn plan a e n
 keeps_slot plan a d e n k same = record {
   table = ap (λ (p : PassModel). p.table) same ∙ k.table;
   label = ap (λ (p : PassModel). p.label) same ∙ k.label;
@@ -81,7 +81,7 @@ keeps_slot plan a d e n k same = record {
 }
 
 -- A pass read the claim word, and then perhaps found another safe number. It may claim the next card then.
-module _ (a b e : PassModel) (first : ℕ) (node : NewNode) (read : Steps a b (after_next first a.view)) (same : e ≡ record b { safe = e.safe; surveyed = e.surveyed }) (low : a.view.next_at_least ≤ first) where
+module _ (a b e : PassModel) (first : ℕ) (node : NewNode) (read : Steps a b (after_next first a.view)) (same : LooksAround b e) (low : a.view.next_at_least ≤ first) where
   pub may_claim_there : (plan : TablePlan) (op : Op) (place : Place) → Does a.view op → HoldsAside plan a → IsAt a.view place → place.parent.update.state ≡ state.Clean
       → Wants (flat_from plan) a.view op place.parent.node place.node place.key node.key → node.flat ≡ nat_lt 0 (flat_from plan) → MayClaim (flat_from plan) e.view first node
   may_claim_there plan op place busy hand at calm wants shape =
@@ -94,8 +94,8 @@ module _ (a b e : PassModel) (first : ℕ) (node : NewNode) (read : Steps a b (a
   same_flagged : e.view.worker.flagged ≡ a.view.worker.flagged
   same_flagged = ap (λ (p : PassModel). p.view.worker.flagged) same ∙ ap (λ (p : PassModel). p.view.worker.flagged) read
 
-  same_slot : e.slot ≡ a.slot
-  same_slot = ap (λ (p : PassModel). p.slot) same ∙ ap (λ (p : PassModel). p.slot) read
+  same_slot : e.memory.slot ≡ a.memory.slot
+  same_slot = ap (λ (p : PassModel). p.memory.slot) same ∙ ap (λ (p : PassModel). p.memory.slot) read
 
   -- so it may lay that card aside, or let it go
   pub may_lay_aside : (plan : TablePlan) → HoldsAside plan a → MayInTable plan e (call.Claim first node)
@@ -161,7 +161,7 @@ module _ (a b e : PassModel) (first : ℕ) (node : NewNode) (read : Steps a b (a
 
     -- also once its slot is taken, and nothing was in the way
     pub taken_claims : (plan : TablePlan) (op : Op) (place : Place) (f : PassModel) → ClaimsAll true → Does a.view op → IsAt a.view place
-        → 1 ≤ first → last ≤ plan.last_card → f ≡ record d { slot = f.slot; safe = f.safe; surveyed = f.surveyed; retired = f.retired } → HasSlotOf plan last f → node ≡ new_node plan node.key → Claims plan op place node.key a f (claimed.Card last)
+        → 1 ≤ first → last ≤ plan.last_card → LooksForSlot d f → HasSlotOf plan last f → node ≡ new_node plan node.key → Claims plan op place node.key a f (claimed.Card last)
     taken_claims plan op place f s busy at some room took slot same_node =
         let view = ap (λ (p : PassModel). p.view) took in (
           subst (λ (k : NewNode). HasCard op place (expected_tag a.view) (filling_of last k a.view) f.view last) same_node
@@ -173,11 +173,11 @@ module _ (a b e : PassModel) (first : ℕ) (node : NewNode) (read : Steps a b (a
         )
 
     -- or it may be laid aside
-    pub in_vain : (plan : TablePlan) (f : PassModel) → plan.slots ≢ None → plan.flat ≡ true → ClaimsAll true → IsFresh plan e.slot true last
-        → f ≡ record d { safe = f.safe; surveyed = f.surveyed } → ClaimsInVain plan a f
+    pub in_vain : (plan : TablePlan) (f : PassModel) → plan.slots ≢ None → plan.flat ≡ true → ClaimsAll true → IsFresh plan e.memory.slot true last
+        → LooksAround d f → ClaimsInVain plan a f
     in_vain plan f places flat s fresh kept =
         let view = ap (λ (p : PassModel). p.view) kept in
-        let slot = ap (λ (p : PassModel). p.slot) kept ∙ ap (λ (p : PassModel). p.slot) s in
+        let slot = ap (λ (p : PassModel). p.memory.slot) kept ∙ ap (λ (p : PassModel). p.memory.slot) s in
         let r = subst (IsAfterRow first last node (after_next first a.view)) (sym view) (row s) in
         record {
           slots = places;
@@ -207,7 +207,7 @@ module _ (a b e : PassModel) (first : ℕ) (node : NewNode) (read : Steps a b (a
           meets.1,
           given_out false plan.last_card s some (omega arith),
           lets_aside_go plan a d (ap (λ (w : View). w.worker.card) view) (ap (λ (w : View). w.worker.flagged) view)
-              (ap (λ (p : PassModel). p.slot) s ∙ same_slot) hand,
+              (ap (λ (p : PassModel). p.memory.slot) s ∙ same_slot) hand,
         )
 
 -- so many cards were claimed in vain, one after the other: where any was, cards lie in slots; and the pass stands where it

@@ -60,7 +60,7 @@ untouched_by t op said p q leaves other h = let last = its_take op (λ took. See
 
 -- so is one whose ledger is as it was
 pub untouched_still : (p q : PassModel) → q.table ≡ p.table → q.label ≡ p.label → q.view.worker.ledger ≡ p.view.worker.ledger → SameShare p.view q.view
-    → IsIdle q → q.inside ≡ false → HasSeenMore p.sight q.sight → IsUntouched p q
+    → IsIdle q → q.memory.inside ≡ false → HasSeenMore p.sight q.sight → IsUntouched p q
 untouched_still p q table label ledgers share idle outside sees = let same : ledger q ≡ ledger p = ap ledger_of ledgers in record {
   table = table;
   label = label;

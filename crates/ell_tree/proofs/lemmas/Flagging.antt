@@ -116,7 +116,7 @@ module _ (k : Exchange) (flag : ℕ → Fact) (c x : ℕ) (from : Update) where
       table = ap (λ (p : PassModel). p.table) step ∙ fills.table;
       label = ap (λ (p : PassModel). p.label) step ∙ fills.label;
       sight = ap (λ (p : PassModel). p.sight) step ∙ fills.sight;
-      slot = ap (λ (p : PassModel). p.slot) step ∙ fills.slot;
+      slot = ap (λ (p : PassModel). p.memory.slot) step ∙ fills.slot;
       view = subst (LosesNothing a.view) (sym flagged_view) (flagging_keeps b.view.stores r a.view);
       took = took_trans a b d n 1 (n + 1) fills.took
           (subst (λ (p : PassModel). Took b p 1) (sym step) (took_one b (flagging r b.view) (flagging_made r b.view))) (omega arith);

@@ -24,7 +24,7 @@ aside_unflagged plan p c hand holds = elim hand.ready [
 ]
 
 -- so it may be let go, as long as the pass has taken no other slot
-pub lets_aside_go : (plan : TablePlan) (p q : PassModel) → q.view.worker.card ≡ p.view.worker.card → q.view.worker.flagged ≡ p.view.worker.flagged → q.slot ≡ p.slot
+pub lets_aside_go : (plan : TablePlan) (p q : PassModel) → q.view.worker.card ≡ p.view.worker.card → q.view.worker.flagged ≡ p.view.worker.flagged → q.memory.slot ≡ p.memory.slot
     → HoldsAside plan p → LetsGo plan q
 lets_aside_go plan p q card flagged slot hand s is = record {
   waiting = λ c h took. hand.aside (λ none. some_not_none is none) c (sym card ∙ h.0) (sym slot ∙ took);
@@ -34,9 +34,9 @@ lets_aside_go plan p q card flagged slot hand s is = record {
 
 -- and so may a flagged one whose slot the pass took last, once that has noted all that the card made dead
 pub lets_flagged_go : (plan : TablePlan) (p : PassModel) (c : ℕ) → p.view.worker.card ≡ Some c → p.view.worker.flagged ≡ true → HasSlotOf plan c p
-    → ((s : Slots) → plan.slots ≡ Some s → IsRetired s p.view p.retired c) → LetsGo plan p
+    → ((s : Slots) → plan.slots ≡ Some s → IsRetired s p.view p.memory.retired c) → LetsGo plan p
 lets_flagged_go plan p c card flagged slot retired s is = record {
   waiting = λ d h took. true≢false (sym flagged ∙ h.1);
   taken = λ d h. slot (λ none. some_not_none is none) ∙ (sym card ∙ h.holds);
-  retired = λ d h. subst (IsRetired s p.view p.retired) (same_Some c d (sym card ∙ h.holds)) (retired s is);
+  retired = λ d h. subst (IsRetired s p.view p.memory.retired) (same_Some c d (sym card ∙ h.holds)) (retired s is);
 }

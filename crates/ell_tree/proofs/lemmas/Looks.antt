@@ -12,7 +12,7 @@ use Rattle.ell_runs.specs.declared.glance.Stretch.{Stretch}
 use Rattle.ell_runs.specs.declared.view.View.{View}
 use Rattle.ell_runs.specs.declared.view.Slots.{Slots}
 use Rattle.ell_runs.specs.Plans.{TablePlan, flat_from}
-use Rattle.ell_cards.specs.Models.{PassModel, Counts, Sees, some_more, LooksBy}
+use Rattle.ell_cards.specs.Models.{PassMemory, PassModel, Counts, Sees, some_more, LooksBy}
 use Rattle.ell_runs.specs.Views.{HasCome, HasComeWhole, latest, earlier, IsTold, InTable}
 use Rattle.ell_runs.proofs.lemmas.views.Afters.{after_look, after_look_down, after_key_of, after_value_of}
 use Rattle.ell_runs.specs.Guards.{GoOnBy, MayLookDown}
@@ -80,7 +80,7 @@ only_none_yet a = record {
 
 -- a step that moves no more than the look
 only_step : (old new : PassModel) (told : List Told) (here : Option ℕ) (glances : List Glance) (looks : ℕ)
-    → {inside : Bool} → new ≡ record old { view = record (old.view) { told = told; here = here; glances = glances; looks = looks; made = old.view.made + 1 }; inside = inside; sight = new.sight }
+    → {memory : PassMemory} → new ≡ record old { view = record (old.view) { told = told; here = here; glances = glances; looks = looks; made = old.view.made + 1 }; memory = memory; sight = new.sight }
     → HasSeenMore old.sight new.sight → OnlyLooks old new 1
 only_step old new told here glances looks s more = subst (λ (m : PassModel). OnlyLooks old m 1) (sym s) (record {
   table = refl;

@@ -5,11 +5,10 @@ use Rattle.ell_ops.specs.KeySet.{set_of}
 use Rattle.ell_core.specs.state.Machine.{ledger_of}
 use Rattle.ell_tree.proofs.lemmas.Milestones.{milestones_more, milestones_none, known_left, known_right}
 use Rattle.ell_runs.specs.Plans.{TablePlan}
-use Rattle.ell_cards.specs.Models.{PassModel, TableModel, Steps, StepsOut, no_survey, one_more}
+use Rattle.ell_cards.specs.Models.{PassModel, TableModel, Steps, StepsOut, no_memory, one_more}
 use Rattle.ell_runs.specs.Changes.{first_of, left_view, right_view, united_ledgers, joined_view}
 use Rattle.ell_runs.proofs.lemmas.lifetimes.Parts.{part_on, part_off}
 use Rattle.ell_core.specs.state.Machine.{entry_of}
-use Rattle.ell_cards.specs.Retiring.{none_retired}
 use Rattle.ell_runs.specs.Sights.{joined_sight, no_sight}
 use Rattle.ell_cards.specs.Models.{OpensBy}
 use Rattle.ell_runs.proofs.lemmas.words.Keys.{ledger_at_start, present_at_start}
@@ -46,7 +45,7 @@ start_value_is None = refl
 -- a first pass has all keys, the start keys present with their values
 pub first_pass : (plan : TablePlan) (made : TableModel × PassModel) → (plan.shared ≡ false → All (λ k. set_of plan.keys k ≡ true) (keys_of plan.start))
     → OpensBy plan made → IsFirst made.0 made.1
-first_pass plan made given opens = subst (IsFirst made.0) (sym opens.pass) (subst (λ p. IsFirst (record { id = made.0.id; plan = p }) (record { table = made.0.id; view = first_of plan; steps = 0; label = 0; safe = 0; inside = false; surveyed = no_survey; slot = None; retired = none_retired; sight = no_sight })) (sym opens.table) (record {
+first_pass plan made given opens = subst (IsFirst made.0) (sym opens.pass) (subst (λ p. IsFirst (record { id = made.0.id; plan = p }) (record { table = made.0.id; view = first_of plan; steps = 0; label = 0; memory = no_memory; sight = no_sight })) (sym opens.table) (record {
   own = refl;
   ledger = λ k. ledger_at_start plan.keys plan.start k;
   each = λ k among. ap value_in (ledger_at_start plan.keys plan.start k ∙ ap (λ b. if b then Some (start_entry plan.start k) else None) among)

@@ -32,7 +32,7 @@ use Rattle.ell_tree.specs.Retiring.{HasPut}
 use Rattle.ell_tree.specs.Searches.{node_with}
 
 -- what a pass kept it has kept once it has noted nodes
-keeps_noted : (a m : PassModel) (retired : Retired) (n : ℕ) → Keeps a m n → Keeps a (record m { retired = retired }) n
+keeps_noted : (a m : PassModel) (retired : Retired) (n : ℕ) → Keeps a m n → Keeps a (record m { memory = record (m.memory) { retired = retired } }) n
 keeps_noted a m retired n h = record { table = h.table; label = h.label; sight = h.sight; slot = h.slot; view = h.view; took = record { steps = h.took.steps; made = h.took.made } }
 
 pub keeps_all_noted : (a m m' : PassModel) (n : ℕ) → KeepsAll a m n → HasNoted m m' → KeepsAll a m' n
@@ -144,13 +144,13 @@ leaf_in x old outer node = grind (arith, nat_tests)
 
 -- so what a swap made dead is noted: the leaf that it took out, and of its card what never came
 pub swap_retired : (s : Slots) (what : Put) (place : Place) (c : ℕ) (a b d : PassModel) → HasPut what place a.view c → place.key ≡ what.key → HasNoted a b → HasNoted b d
-    → b.retired ≡ retires_in s true (card place.node) (node_alone (place.node % 4)) a.retired
-    → d.retired ≡ retires_in s false c (record { internal = true; left = true; right = false }) b.retired
-    → PutIsRetired s d.view d.retired c
+    → b.memory.retired ≡ retires_in s true (card place.node) (node_alone (place.node % 4)) a.memory.retired
+    → d.memory.retired ≡ retires_in s false c (record { internal = true; left = true; right = false }) b.memory.retired
+    → PutIsRetired s d.view d.memory.retired c
 swap_retired s what place c a b d h one first second took own =
     let lesser : min what.key place.key ≡ what.key = omega (arith, one) in
     let greater : max what.key place.key ≡ what.key = omega (arith, one) in
-    subst (λ (w : View). PutIsRetired s w d.retired c) (sym (ap (λ (p : PassModel). p.view) second ∙ ap (λ (p : PassModel). p.view) first)) (record {
+    subst (λ (w : View). PutIsRetired s w d.memory.retired c) (sym (ap (λ (p : PassModel). p.view) second ∙ ap (λ (p : PassModel). p.view) first)) (record {
       op = h.op;
       below = place.node;
       left = min what.key place.key;
@@ -161,17 +161,17 @@ swap_retired s what place c a b d h one first second took own =
       right_key = h.right_key;
       leaf = λ same node slot.
           ap (λ (r : Retired). r.leaf) own
-          ∙ (leaf_stays (has_slot_in s.last c) (record { internal = true; left = true; right = false }) b.retired
+          ∙ (leaf_stays (has_slot_in s.last c) (record { internal = true; left = true; right = false }) b.memory.retired
           ∙ (ap (λ (r : Retired). r.leaf) took
-          ∙ (ap (λ t. (if t then with_retired true (node_alone (place.node % 4)) a.retired else a.retired).leaf) slot
-          ∙ leaf_in place.node a.retired.leaf (h.outer one) node)));
+          ∙ (ap (λ t. (if t then with_retired true (node_alone (place.node % 4)) a.memory.retired else a.memory.retired).leaf) slot
+          ∙ leaf_in place.node a.memory.retired.leaf (h.outer one) node)));
       replaced = λ same slot. (
         ap (λ (r : Retired). r.own.internal) own
-            ∙ (ap (λ t. (if t then with_retired false (record { internal = true; left = true; right = false }) b.retired else b.retired).own.internal) slot
-            ∙ or_so b.retired.own.internal),
+            ∙ (ap (λ t. (if t then with_retired false (record { internal = true; left = true; right = false }) b.memory.retired else b.memory.retired).own.internal) slot
+            ∙ or_so b.memory.retired.own.internal),
         ap (λ (r : Retired). r.own.left) own
-            ∙ (ap (λ t. (if t then with_retired false (record { internal = true; left = true; right = false }) b.retired else b.retired).own.left) slot
-            ∙ or_so b.retired.own.left),
+            ∙ (ap (λ t. (if t then with_retired false (record { internal = true; left = true; right = false }) b.memory.retired else b.memory.retired).own.left) slot
+            ∙ or_so b.memory.retired.own.left),
       );
       unused_left = λ apart. absurd (apart (lesser ∙ sym greater));
       unused_right = λ apart. absurd (apart (lesser ∙ sym greater));

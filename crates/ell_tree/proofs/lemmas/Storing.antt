@@ -21,7 +21,7 @@ pub record Stores (old new : PassModel) (stores : List (Field × ℕ)) (n : ℕ)
   pub table : new.table ≡ old.table
   pub label : new.label ≡ old.label
   pub sight : new.sight ≡ old.sight
-  pub slot : new.slot ≡ old.slot
+  pub slot : new.memory.slot ≡ old.memory.slot
   pub took : Took old new n
   pub view : new.view ≡ with_stores stores old.view
 
@@ -43,13 +43,13 @@ stores_more a b d stores n f x h s = record {
   table = ap (λ (p : PassModel). p.table) s ∙ h.table;
   label = ap (λ (p : PassModel). p.label) s ∙ h.label;
   sight = ap (λ (p : PassModel). p.sight) s ∙ h.sight;
-  slot = ap (λ (p : PassModel). p.slot) s ∙ h.slot;
+  slot = ap (λ (p : PassModel). p.memory.slot) s ∙ h.slot;
   took = took_trans a b d n 1 (n + 1) h.took (subst (λ (p : PassModel). Took b p 1) (sym s) (took_one b (after_fill f x b.view) refl)) (omega arith);
   view = view_after b d (after_fill f x b.view) s ∙ ap (after_fill f x) h.view;
 }
 
 -- what was stored of a card of which each field that is said was
-stores_whole : (a b : PassModel) (c n : ℕ) (stores : List (Field × ℕ)) (said : Field → Bool) → a.slot ≡ Some c → Stores a b stores n
+stores_whole : (a b : PassModel) (c n : ℕ) (stores : List (Field × ℕ)) (said : Field → Bool) → a.memory.slot ≡ Some c → Stores a b stores n
     → ((f : Field) → said f ≡ true → (x : ℕ) × Has stores (f, x)) → IsWholeIn b c said
 stores_whole a b c n stores said slot h each =
     (h.slot ∙ slot, λ f is. subst (λ (es : List (Field × ℕ)). (x : ℕ) × Has es (f, x)) (sym (ap (λ (v : View). v.stores) h.view)) (each f is))
@@ -136,7 +136,7 @@ module _ (a b : PassModel) (parent word node_key lesser greater left right updat
       ∙ stored_of_insert flat c k value node_key parent below tag below_key below_value small link f)
 
   -- and then it is whole
-  pub whole_insert : (c : ℕ) → a.slot ≡ Some c → IsWholeIn b c put_says
+  pub whole_insert : (c : ℕ) → a.memory.slot ≡ Some c → IsWholeIn b c put_says
   whole_insert c slot = stores_whole a b c 10 _ put_says slot h (said_of_insert parent word node_key lesser greater left right update left_value right_value)
 
 -- what is stored of a delete's card is what it is to say
@@ -184,5 +184,5 @@ module _ (a b : PassModel) (grandparent parent word was : ℕ) (h : Stores a b (
       (λ f. (λ t. stored_at (delete_words grandparent parent (w t) (r t)) f) ∙ stored_of_delete grandparent parent leaf tag read high small link f)
 
   -- and then it is whole
-  pub whole_delete : (c : ℕ) → a.slot ≡ Some c → IsWholeIn b c delete_says
+  pub whole_delete : (c : ℕ) → a.memory.slot ≡ Some c → IsWholeIn b c delete_says
   whole_delete c slot = stores_whole a b c 4 _ delete_says slot h (said_of_delete grandparent parent word was)

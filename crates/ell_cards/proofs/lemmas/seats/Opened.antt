@@ -126,9 +126,9 @@ module _ (t u : TableModel) (p q : PassModel) (same_table : t ≡ u) (same_pass 
       subst (λ (m : PassModel). IsPlaced greatest_card m.view) same_pass (placed_more fits.inside.last greatest_card fits.inside.low p.view fits.inside.placed)
 
   -- so does the card whose slot it has taken
-  pub slot_there : (standing : Standing) (period : Period) → period.slot ≡ p.slot → PlaceFits standing p.table.words period → (c : ℕ) → q.slot ≡ Some c → slot_of c ≤ greatest_card
+  pub slot_there : (standing : Standing) (period : Period) → period.slot ≡ p.memory.slot → PlaceFits standing p.table.words period → (c : ℕ) → q.memory.slot ≡ Some c → slot_of c ≤ greatest_card
   slot_there standing period is fits c taken =
-      let has = fits.slot c (is ∙ (ap (λ (m : PassModel). m.slot) same_pass ∙ taken)) in
+      let has = fits.slot c (is ∙ (ap (λ (m : PassModel). m.memory.slot) same_pass ∙ taken)) in
       let low = has.low in
       let inside = has.inside in
       omega arith
@@ -146,7 +146,7 @@ module _ (t u : TableModel) (p q : PassModel) (same_table : t ≡ u) (same_pass 
   FillFits (call.Fill e f value) = HasSlotThere p.table.words e
   FillFits _ = Unit {0}
 
-  fill_fits : (keys : List ℕ) (share : Share) (standing : Standing) (period : Period) → period.slot ≡ p.slot → PassFits keys share p.table.words p.view → PlaceFits standing p.table.words period
+  fill_fits : (keys : List ℕ) (share : Share) (standing : Standing) (period : Period) → period.slot ≡ p.memory.slot → PassFits keys share p.table.words p.view → PlaceFits standing p.table.words period
       → (c : Call) → May u.plan c q.view → MayInTable u.plan q c → FillFits c
   fill_fits keys share standing period is fits placed (call.Fill e f value) may kept = by u.plan.slots refl
     where
@@ -156,7 +156,7 @@ module _ (t u : TableModel) (p q : PassModel) (same_table : t ≡ u) (same_pass 
           let few = few_there none in
           let all = own_size ∙ (λ i. size_by (ap (λ (m : TableModel). m.plan.slots) same_table i) (ap (λ (m : TableModel). m.plan.last_card) same_table i)) ∙ ap (λ o. size_by o u.plan.last_card) none in
           record { last = u.plan.last_card; low = few; few = omega arith; inside = omega arith }
-      by (Some s) some = placed.slot e (is ∙ (ap (λ (m : PassModel). m.slot) same_pass ∙ kept s some))
+      by (Some s) some = placed.slot e (is ∙ (ap (λ (m : PassModel). m.memory.slot) same_pass ∙ kept s some))
   fill_fits keys share standing period is fits placed _ may kept = tt
 
   -- the word of a step call is one of the table
@@ -173,17 +173,17 @@ module _ (t u : TableModel) (p q : PassModel) (same_table : t ≡ u) (same_pass 
       omega arith
 
   -- what a step call asks of the slots, of what the seat of the pass knows
-  pub asks_there : (k : Known) → shown k.tree ≡ p.view → k.period.slot ≡ p.slot → k.period.retired ≡ p.retired → (c : Call) → MayInTable u.plan q c
+  pub asks_there : (k : Known) → shown k.tree ≡ p.view → k.period.slot ≡ p.memory.slot → k.period.retired ≡ p.memory.retired → (c : Call) → MayInTable u.plan q c
       → (s : Slots) → u.plan.slots ≡ Some s → MayInMemory s k.period.slot k.period.retired (shown k.tree) c
   asks_there k shows slotted retires c kept s some =
       let is : q.view ≡ shown k.tree = ap (λ (m : PassModel). m.view) (sym same_pass) ∙ sym shows in
-      let taken : q.slot ≡ k.period.slot = ap (λ (m : PassModel). m.slot) (sym same_pass) ∙ sym slotted in
-      let same : q.retired ≡ k.period.retired = ap (λ (m : PassModel). m.retired) (sym same_pass) ∙ sym retires in
+      let taken : q.memory.slot ≡ k.period.slot = ap (λ (m : PassModel). m.memory.slot) (sym same_pass) ∙ sym slotted in
+      let same : q.memory.retired ≡ k.period.retired = ap (λ (m : PassModel). m.memory.retired) (sym same_pass) ∙ sym retires in
       subst (λ v. MayInMemory s k.period.slot k.period.retired v c) is
-      (subst (λ (r : Retired). MayInMemory s k.period.slot r q.view c) same (subst (λ o. MayInMemory s o q.retired q.view c) taken (kept s some)))
+      (subst (λ (r : Retired). MayInMemory s k.period.slot r q.view c) same (subst (λ o. MayInMemory s o q.memory.retired q.view c) taken (kept s some)))
 
   -- what a step call owes that the rule of its table allows, by what its caller says of the table and the pass
-  pub owed_by : (k : Known) (seat : ℕ) → k.period.slot ≡ p.slot → (held : List (ℕ × Unit {0})) (keys : List ℕ) (share : Share) (standing : Standing) (word : ℕ) (f : ℕ → ℕ)
+  pub owed_by : (k : Known) (seat : ℕ) → k.period.slot ≡ p.memory.slot → (held : List (ℕ × Unit {0})) (keys : List ℕ) (share : Share) (standing : Standing) (word : ℕ) (f : ℕ → ℕ)
       (told : ℕ → Me (Unit {0}) Known → List (ℕ × Unit {0}) → Type 0) (c : Call) → t.id.slots ≡ 0 → held ≡ [] → PassFits keys share p.table.words p.view → PlaceFits standing p.table.words k.period
       → word ≡ place_of c → May u.plan c q.view → MayInTable u.plan q c → ((id : ℕ) → Allows (IsWhole u.plan) 0 id (k, []) (place_of c) f (λ n x. told n x []))
       → (p.table ≡ t.id) × (word < t.id.words) × Allows (IsWhole t.plan) t.id.slots seat (k, held) word f (λ n x. told n x held)
@@ -197,7 +197,7 @@ module _ (t u : TableModel) (p q : PassModel) (same_table : t ≡ u) (same_pass 
       )
 
   -- what one owes that may begin an operation or answer one, by a pass that is shown of what its seat knows
-  pub owed_marked : (k : Known) → shown k.tree ≡ p.view → (seat : ℕ) → k.period.slot ≡ p.slot → k.period.retired ≡ p.retired → (held : List (ℕ × Unit {0})) (keys : List ℕ) (share : Share) (standing : Standing) (word : ℕ) (f : ℕ → ℕ)
+  pub owed_marked : (k : Known) → shown k.tree ≡ p.view → (seat : ℕ) → k.period.slot ≡ p.memory.slot → k.period.retired ≡ p.memory.retired → (held : List (ℕ × Unit {0})) (keys : List ℕ) (share : Share) (standing : Standing) (word : ℕ) (f : ℕ → ℕ)
       (told : ℕ → View → Type 0) (notes : ℕ → Period) (c : Call) → t.id.slots ≡ 0 → held ≡ [] → PassFits keys share p.table.words p.view → PlaceFits standing p.table.words k.period
       → StoresWord c → word ≡ place_of c → May u.plan c q.view → MayInTable u.plan q c → Does u.plan c f
       → (u.plan.slots ≢ None → k.period.announced ≡ None → IsQuiet c) → (IsFill c → (n m : ℕ) (w : View) → told n w → told m w) → MayTell u.plan c q.view told
@@ -210,7 +210,7 @@ module _ (t u : TableModel) (p q : PassModel) (same_table : t ≡ u) (same_pass 
       (tree_step_marked u.plan k c f told notes stores (subst (May u.plan c) is may) (asks_there k shows slotted retires c kept) (λ some. placed.lost) does quiet same (subst (λ v. MayTell u.plan c v told) is tells) noted)
 
   -- what a step call owes that neither begins an operation nor answers one, by what its caller says of the table and the pass, which is shown of what its seat knows
-  pub owed : (k : Known) → shown k.tree ≡ p.view → (seat : ℕ) → k.period.slot ≡ p.slot → k.period.retired ≡ p.retired → (held : List (ℕ × Unit {0})) (keys : List ℕ) (share : Share) (standing : Standing) (word : ℕ) (f : ℕ → ℕ)
+  pub owed : (k : Known) → shown k.tree ≡ p.view → (seat : ℕ) → k.period.slot ≡ p.memory.slot → k.period.retired ≡ p.memory.retired → (held : List (ℕ × Unit {0})) (keys : List ℕ) (share : Share) (standing : Standing) (word : ℕ) (f : ℕ → ℕ)
       (told : ℕ → View → Type 0) (notes : ℕ → Period) (c : Call) → t.id.slots ≡ 0 → held ≡ [] → PassFits keys share p.table.words p.view → PlaceFits standing p.table.words k.period
       → StoresWord c → word ≡ place_of c → May u.plan c q.view → MayInTable u.plan q c → Does u.plan c f
       → (u.plan.slots ≢ None → k.period.announced ≡ None → IsQuiet c) → (IsFill c → (n m : ℕ) (w : View) → told n w → told m w) → MayTell u.plan c q.view told

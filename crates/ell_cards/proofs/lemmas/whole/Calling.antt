@@ -663,14 +663,14 @@ flag_notes c d expected value n old new is flags o notes = by o (n == expected) 
     by (Some s) false unwon notes = loses d notes flags (ap (λ a. is_won a n) is ∙ unwon)
 
 -- a card that a pass is to flag is one whose slot it has taken, if there are places
-pub flag_taken : (plan : TablePlan) (p : PassModel) (c : Call) (d : ℕ) → May plan c p.view → MayInTable plan p c → FlagsCard c d → plan.slots ≢ None → p.slot ≡ Some d
+pub flag_taken : (plan : TablePlan) (p : PassModel) (c : Call) (d : ℕ) → May plan c p.view → MayInTable plan p c → FlagsCard c d → plan.slots ≢ None → p.memory.slot ≡ Some d
 flag_taken plan p c d may kept flags there = by plan.slots refl
   where
-    at : (s : Slots) (c : Call) → MayInMemory s p.slot p.retired p.view c → FlagsCard c d → p.slot ≡ Some d
+    at : (s : Slots) (c : Call) → MayInMemory s p.memory.slot p.memory.retired p.view c → FlagsCard c d → p.memory.slot ≡ Some d
     at s (call.IFlag e q from) mem flags = mem.0 ∙ ap Some (sym flags)
     at s (call.DFlag e q from) mem flags = mem.0 ∙ ap Some (sym flags)
     at s _ mem flags = absurd flags
 
-    by : (o : Option Slots) → plan.slots ≡ o → p.slot ≡ Some d
+    by : (o : Option Slots) → plan.slots ≡ o → p.memory.slot ≡ Some d
     by None none = absurd (there none)
     by (Some s) placed = at s c (kept s placed) flags

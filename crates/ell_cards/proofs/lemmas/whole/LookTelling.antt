@@ -81,7 +81,7 @@ look_goes plan k c told may asks unlost load quiet calm tells id s h homes here 
 
 -- what the load owes, by what its caller says of the table and the pass
 module _ (t u : TableModel) (p q : PassModel) (same_table : t ≡ u) (same_pass : p ≡ q) (own : q.table ≡ u.id) (size : t.id.words ≡ whole_size t.plan) (fit : SlotsFit t.plan t.plan.slots) where
-  pub owed_looked : (k : Known) → shown k.tree ≡ p.view → (seat : ℕ) → k.period.slot ≡ p.slot → k.period.retired ≡ p.retired → (held : List (ℕ × Unit {0})) (keys : List ℕ) (share : Share) (standing : Standing) (word : ℕ)
+  pub owed_looked : (k : Known) → shown k.tree ≡ p.view → (seat : ℕ) → k.period.slot ≡ p.memory.slot → k.period.retired ≡ p.memory.retired → (held : List (ℕ × Unit {0})) (keys : List ℕ) (share : Share) (standing : Standing) (word : ℕ)
       (told : ℕ → View → Type 0) (c : Call) → t.id.slots ≡ 0 → held ≡ [] → PassFits keys share p.table.words p.view → PlaceFits standing p.table.words k.period
       → word ≡ place_of c → May u.plan c q.view → MayInTable u.plan q c → atomic_of c ≡ Load → IsQuiet c → IsCalm c → MayTell u.plan c q.view told
       → (p.table ≡ t.id) × (word < t.id.words)

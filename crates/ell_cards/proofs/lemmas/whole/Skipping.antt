@@ -50,7 +50,7 @@ use Rattle.ell_cards.proofs.lemmas.words.Slotted.{slot_inside}
 abbrev pub RowTells : TablePlan → ℕ → ℕ → NewNode → PassModel → ℕ → View → Type 0
 RowTells plan first last node p n w =
     (w ≡ after_claimed_row (n == first) first last node p.view) × IsInside plan w
-    × IsFresh plan p.slot (n == first) last
+    × IsFresh plan p.memory.slot (n == first) last
 
 -- a flat tree is flat from some card on
 pub from_some : (plan : TablePlan) → plan.flat ≡ true → 0 < flat_from plan
@@ -196,17 +196,17 @@ module _ (plan : TablePlan) (s : Slots) (placed : plan.slots ≡ Some s) (flat :
 
 -- a pass takes all numbers from its next one to a last one, or loses the claim
 module _ (plan : TablePlan) (s : Slots) (placed : plan.slots ≡ Some s) (flat : plan.flat ≡ true) (p : PassModel) (first last : ℕ) (node : NewNode) (order : first ≤ last) (room : last ≤ plan.last_card) (may : MayClaim (flat_from plan) p.view first node)
-    (lays : (d : ℕ) → HoldsWaiting p.view d → p.slot ≢ Some d) where
+    (lays : (d : ℕ) → HoldsWaiting p.view d → p.memory.slot ≢ Some d) where
   abbrev v : View
   v = p.view
 
-  module _ (k : Known) (is : shown k.tree ≡ p.view) (slotted : k.period.slot ≡ p.slot) (unlost : k.period.lost ≡ None) (id : ℕ) (t : WholeState) (h : IsWhole plan t) (here : get_elem? t.views id ≡ some k) (small : IsWord (get_or t.words 0 0)) where
+  module _ (k : Known) (is : shown k.tree ≡ p.view) (slotted : k.period.slot ≡ p.memory.slot) (unlost : k.period.lost ≡ None) (id : ℕ) (t : WholeState) (h : IsWhole plan t) (here : get_elem? t.views id ≡ some k) (small : IsWord (get_or t.words 0 0)) where
     abbrev n : ℕ
     n = get_or t.words 0 0
 
     abbrev Goes : Bool → Type 0
     Goes b = (w : Known) × (a : Act (Unit {0})) × Valid t.homes [] a × IsWhole plan (stepped t 0 (either b (last + 1) n) id [] w a)
-        × (((shown w.tree ≡ after_claimed_row b first last node v) × IsInside plan (shown w.tree) × IsFresh plan p.slot b last) × (w.period ≡ k.period) × (carried_after {S = Unit {0}} [] a ≡ []) × (w.sight ≡ k.sight))
+        × (((shown w.tree ≡ after_claimed_row b first last node v) × IsInside plan (shown w.tree) × IsFresh plan p.memory.slot b last) × (w.period ≡ k.period) × (carried_after {S = Unit {0}} [] a ≡ []) × (w.sight ≡ k.sight))
 
     by_tree : May plan (call.Claim first node) k.tree
     by_tree = (claim_whole plan k.tree (whole_apart plan s placed t h id k here) first node (subst (λ u. MayClaim (flat_from plan) u first node) (sym is) may), omega arith)
@@ -217,7 +217,7 @@ module _ (plan : TablePlan) (s : Slots) (placed : plan.slots ≡ Some s) (flat :
     before : n ≡ first → SlotIsBefore k first
     before won d at = subst (λ m. d < m) won ((has_periods plan s placed t h).tied.past id d k here at)
 
-    goes : (b : Bool) (w : View) → IsWhole plan (claimed_to t id k w (either b (last + 1) n)) → shown w ≡ after_claimed_row b first last node v → IsFresh plan p.slot b last → Goes b
+    goes : (b : Bool) (w : View) → IsWhole plan (claimed_to t id k w (either b (last + 1) n)) → shown w ≡ after_claimed_row b first last node v → IsFresh plan p.memory.slot b last → Goes b
     goes b w whole shows fresh =
         let now : Known = record k { tree = w } in
         let names = whole_inside plan s placed (claimed_to t id k w (either b (last + 1) n)) whole id now (set_there t.views id now k here) in
@@ -305,7 +305,7 @@ claim_goes plan p c node may low lays k is slotted unlost id t h homes here smal
     (λ n word. nothing refl (λ some d flags. absurd flags)) tt id t h homes here small in
     (x.0, x.1, x.2, x.3, ((x.4.0.0, x.4.0.1, fresh), x.4.1, x.4.2, x.4.3))
   where
-    by : (o : Option Slots) → plan.slots ≡ o → (get_or t.words 0 0 == c) ≡ true → o ≢ None → p.slot ≢ Some c
+    by : (o : Option Slots) → plan.slots ≡ o → (get_or t.words 0 0 == c) ≡ true → o ≢ None → p.memory.slot ≢ Some c
     by None none won there at = there refl
     by (Some s) placed won there at =
         let past = (has_periods plan s placed t h).tied.past id c k here (slotted ∙ at) in
@@ -315,18 +315,18 @@ claim_goes plan p c node may low lays k is slotted unlost id t h homes here smal
         low_not : c < get_or t.words 0 0 → get_or t.words 0 0 ≡ c → ⊥
         low_not past same = omega (arith, past, same)
 
-    fresh : IsFresh plan p.slot (get_or t.words 0 0 == c) c
+    fresh : IsFresh plan p.memory.slot (get_or t.words 0 0 == c) c
     fresh there won at = by plan.slots refl won there at
 
 -- what a step on the claim word owes that the rule allows, by what its caller says of the table and the pass
 module _ (t u : TableModel) (p q : PassModel) (same_table : t ≡ u) (same_pass : p ≡ q) (own : q.table ≡ u.id) (size : t.id.words ≡ whole_size t.plan) (fit : SlotsFit t.plan t.plan.slots) where
   pub claim_owed : (k : Known) → shown k.tree ≡ p.view → (seat : ℕ) (held : List (ℕ × Unit {0})) (f : ℕ → ℕ) (told : ℕ → View → Type 0)
-      → k.period.slot ≡ p.slot → k.period.lost ≡ None → t.id.slots ≡ 0 → held ≡ [] → MayStepOn u.plan q 0 f told
+      → k.period.slot ≡ p.memory.slot → k.period.lost ≡ None → t.id.slots ≡ 0 → held ≡ [] → MayStepOn u.plan q 0 f told
       → (p.table ≡ t.id) × (0 < t.id.words)
       × Allows (IsWhole t.plan) t.id.slots seat (k, held) 0 f (λ n x. told n (shown x.0.tree) × (x.0.period ≡ k.period) × (x.1 ≡ held) × (x.0.sight ≡ k.sight))
   claim_owed k shows seat held f told slotted unlost none empty rule =
       let step = subst (λ (m : TableModel). MayStepOn m.plan q 0 f told) (sym same_table) rule k
-      (shows ∙ ap (λ (m : PassModel). m.view) same_pass) (slotted ∙ ap (λ (m : PassModel). m.slot) same_pass) unlost in
+      (shows ∙ ap (λ (m : PassModel). m.view) same_pass) (slotted ∙ ap (λ (m : PassModel). m.memory.slot) same_pass) unlost in
       let some = size_some t.plan in (
         of_table t u p q same_table same_pass own size fit,
         omega arith,

@@ -26,5 +26,5 @@ retire_nodes-requires-clause-never g c =
 pub returns-clause-retired : goal.returns-clause-retired
 returns-clause-retired g c = λ s is.
     swap_retired s c.args.what c.args.place c.args.card c.args.pass.now c.retire.new.pass c.retire_nodes-2.new.pass c.requires.put (search rules) c.retire.ensures.same c.retire_nodes-2.ensures.same
-    (subst (λ o. IfSome o (λ s. c.retire.new.pass.retired ≡ retires_in s true (card c.args.place.node) (node_alone (c.args.place.node % 4)) c.args.pass.now.retired)) is c.retire.ensures.noted)
-    (subst (λ o. IfSome o (λ s. c.retire_nodes-2.new.pass.retired ≡ retires_in s false c.args.card (record { internal = true; left = true; right = false }) c.retire.new.pass.retired)) is c.retire_nodes-2.ensures.noted)
+    (subst (λ o. IfSome o (λ s. c.retire.new.pass.memory.retired ≡ retires_in s true (card c.args.place.node) (node_alone (c.args.place.node % 4)) c.args.pass.now.memory.retired)) is c.retire.ensures.noted)
+    (subst (λ o. IfSome o (λ s. c.retire_nodes-2.new.pass.memory.retired ≡ retires_in s false c.args.card (record { internal = true; left = true; right = false }) c.retire.new.pass.memory.retired)) is c.retire_nodes-2.ensures.noted)

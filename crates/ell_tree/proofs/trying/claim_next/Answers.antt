@@ -63,7 +63,7 @@ returns-then-first-last_card-clause-claims g c =
       λ empty. ap (λ (p : PassModel). p.view.next) c.next-first.ensures.step ∙ ap (λ n. Some n) (omega (arith, past, c.last_card.ensures.cards, c.next-first.ensures.room)),
       search rules,
       lets_aside_go c.args.steps.table.now.plan c.args.pass.now c.next-first.new.pass (ap (λ (p : PassModel). p.view.worker.card) c.next-first.ensures.step)
-          (ap (λ (p : PassModel). p.view.worker.flagged) c.next-first.ensures.step) (ap (λ (p : PassModel). p.slot) c.next-first.ensures.step) c.requires.hand,
+          (ap (λ (p : PassModel). p.view.worker.flagged) c.next-first.ensures.step) (ap (λ (p : PassModel). p.memory.slot) c.next-first.ensures.step) c.requires.hand,
     )
 
 -- no slot could be taken
@@ -77,5 +77,5 @@ returns-in_default-clause-claims g c =
       search rules,
       lets_aside_go c.args.steps.table.now.plan c.args.pass.now c.next_takeable.new.pass (ap (λ (p : PassModel). p.view.worker.card) same ∙ ap (λ (p : PassModel). p.view.worker.card) first)
           (ap (λ (p : PassModel). p.view.worker.flagged) same ∙ ap (λ (p : PassModel). p.view.worker.flagged) first)
-          (ap (λ (p : PassModel). p.slot) same ∙ ap (λ (p : PassModel). p.slot) first) c.requires.hand,
+          (ap (λ (p : PassModel). p.memory.slot) same ∙ ap (λ (p : PassModel). p.memory.slot) first) c.requires.hand,
     )

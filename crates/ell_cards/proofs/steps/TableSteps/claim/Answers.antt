@@ -22,5 +22,5 @@ returns g c =
     let told = c.exchange_claim.ensures.told.0 ∙ ap (λ last. after_claimed_row won c.args.card last (new_node c.args.self.table.now.plan c.args.node_key) c.args.pass.now.view) (one_back c.args.card) in
     record {
       step = steps_by c.args.pass.now c.exchange_claim.new.pass _ c.exchange_claim.ensures.step told;
-      fresh = subst (IsFresh c.args.self.table.now.plan c.args.pass.now.slot won) (one_back c.args.card) c.exchange_claim.ensures.told.2;
+      fresh = subst (IsFresh c.args.self.table.now.plan c.args.pass.now.memory.slot won) (one_back c.args.card) c.exchange_claim.ensures.told.2;
     }

@@ -41,4 +41,4 @@ free_aside-requires-clause-lost g c =
     let taken = flag_taken c.args.self.now.plan c.args.pass.now c.args.call c.args.card c.requires.may c.requires.kept c.requires.flags in
     flagging_lost c.args.self.now.plan.slots c.compare_exchange-found.result c.args.expected c.args.card old c.compare_exchange-found.new.seat.me.0.period
     (c.compare_exchange-found.ensures.2.1 ∙ c.requires.notes c.compare_exchange-found.result old) c.pass.invariant.stands.lost
-    (λ some. ap (λ (m : PassModel). m.slot) c.pass.view_is ∙ taken some)
+    (λ some. ap (λ (m : PassModel). m.memory.slot) c.pass.view_is ∙ taken some)

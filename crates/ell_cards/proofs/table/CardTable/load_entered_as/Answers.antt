@@ -3,7 +3,7 @@ use Rattle.ell_runs.specs.Calls.{Load}
 use Rattle.ell_runs.specs.Seeing.{Marks}
 use Rattle.ell_cards.specs.Shown.{shown}
 use Rattle.ell_cards.specs.Inside.{PassFits}
-use Rattle.ell_cards.specs.Models.{PassModel}
+use Rattle.ell_cards.specs.Models.{PassModel, memory_of}
 use Rattle.ell_cards.proofs.lemmas.seats.Opened.{owed_marked, stepped}
 use Rattle.ell_cards.proofs.lemmas.whole.Calling.{load_flags, load_does, load_stores}
 use Rattle.ell_cards.proofs.lemmas.whole.Calling.Notes.{nothing}
@@ -16,10 +16,10 @@ load-requires g c =
     let seat = c.enter.new.seat in
     let inside = c.pass.inside in
     let is = c.enter.ensures in
-    let old : PassModel = record { table = inside.seat.table_id; view = shown inside.seat.me.0.tree; steps = inside.steps; label = inside.label; safe = inside.seat.me.0.period.safe; inside = is_some inside.seat.me.0.period.announced; surveyed = inside.seat.me.0.period.surveyed; slot = inside.seat.me.0.period.slot; retired = inside.seat.me.0.period.retired; sight = inside.seat.me.0.sight } in
-    let now : PassModel = record { table = seat.table_id; view = shown seat.me.0.tree; steps = inside.steps; label = inside.label; safe = seat.me.0.period.safe; inside = is_some inside.seat.me.0.period.announced; surveyed = seat.me.0.period.surveyed; slot = seat.me.0.period.slot; retired = seat.me.0.period.retired; sight = seat.me.0.sight } in
-    let same = (λ t. record { table = is.leaves.table t; view = shown (is.leaves.tree t); steps = inside.steps; label = inside.label; safe = is.keeps.safe t; inside = is_some inside.seat.me.0.period.announced; surveyed = is.keeps.surveyed t; slot = is.slot t; retired = is.retired t; sight = is.leaves.sight t }) ∙ c.pass.view_is in
-    let fits = subst (λ (m : PassModel). PassFits inside.keys.items inside.share m.table.words m.view) (sym (λ t. record { table = is.leaves.table t; view = shown (is.leaves.tree t); steps = inside.steps; label = inside.label; safe = is.keeps.safe t; inside = is_some inside.seat.me.0.period.announced; surveyed = is.keeps.surveyed t; slot = is.slot t; retired = is.retired t; sight = is.leaves.sight t })) c.pass.invariant.fits in
+    let old : PassModel = record { table = inside.seat.table_id; view = shown inside.seat.me.0.tree; steps = inside.steps; label = inside.label; memory = memory_of inside.seat.me.0.period; sight = inside.seat.me.0.sight } in
+    let now : PassModel = record { table = seat.table_id; view = shown seat.me.0.tree; steps = inside.steps; label = inside.label; memory = record (memory_of seat.me.0.period) { inside = is_some inside.seat.me.0.period.announced }; sight = seat.me.0.sight } in
+    let same = (λ t. record { table = is.leaves.table t; view = shown (is.leaves.tree t); steps = inside.steps; label = inside.label; memory = record { safe = is.keeps.safe t; inside = is_some inside.seat.me.0.period.announced; surveyed = is.keeps.surveyed t; slot = is.slot t; retired = is.retired t }; sight = is.leaves.sight t }) ∙ c.pass.view_is in
+    let fits = subst (λ (m : PassModel). PassFits inside.keys.items inside.share m.table.words m.view) (sym (λ t. record { table = is.leaves.table t; view = shown (is.leaves.tree t); steps = inside.steps; label = inside.label; memory = record { safe = is.keeps.safe t; inside = is_some inside.seat.me.0.period.announced; surveyed = is.keeps.surveyed t; slot = is.slot t; retired = is.retired t }; sight = is.leaves.sight t })) c.pass.invariant.fits in
     let x = owed_marked _ _ now _ c.self.view_is same c.requires.own c.self.invariant.words c.self.invariant.fit seat.me.0 refl seat.id refl refl seat.me.1 inside.keys.items inside.share c.enter.new.standing c.args.word
     (λ n. n) g.J.Marking.then (λ n. seat.me.0.period) c.args.call c.self.invariant.bare is.leaves.empty fits is.fits (stores_word c.args.call Load c.requires.atomic tt (plain_shown c.args.call (load_stores c.args.call c.requires.atomic))) c.requires.word c.requires.may
     c.requires.kept (load_does c.args.self.now.plan c.args.call c.requires.atomic)
@@ -36,9 +36,9 @@ invariant_of-pass g c =
     let inside = c.pass.inside in
     let is = c.enter.ensures in
     let now = c.load.ensures in
-    let model : PassModel = record { table = seat.table_id; view = shown seat.me.0.tree; steps = inside.steps; label = inside.label; safe = seat.me.0.period.safe; inside = is_some inside.seat.me.0.period.announced; surveyed = seat.me.0.period.surveyed; slot = seat.me.0.period.slot; retired = seat.me.0.period.retired; sight = seat.me.0.sight } in
-    let same = (λ t. record { table = is.leaves.table t; view = shown (is.leaves.tree t); steps = inside.steps; label = inside.label; safe = is.keeps.safe t; inside = is_some inside.seat.me.0.period.announced; surveyed = is.keeps.surveyed t; slot = is.slot t; retired = is.retired t; sight = is.leaves.sight t }) ∙ c.pass.view_is in
-    let fits = subst (λ (m : PassModel). PassFits inside.keys.items inside.share m.table.words m.view) (sym (λ t. record { table = is.leaves.table t; view = shown (is.leaves.tree t); steps = inside.steps; label = inside.label; safe = is.keeps.safe t; inside = is_some inside.seat.me.0.period.announced; surveyed = is.keeps.surveyed t; slot = is.slot t; retired = is.retired t; sight = is.leaves.sight t })) c.pass.invariant.fits in record {
+    let model : PassModel = record { table = seat.table_id; view = shown seat.me.0.tree; steps = inside.steps; label = inside.label; memory = record (memory_of seat.me.0.period) { inside = is_some inside.seat.me.0.period.announced }; sight = seat.me.0.sight } in
+    let same = (λ t. record { table = is.leaves.table t; view = shown (is.leaves.tree t); steps = inside.steps; label = inside.label; memory = record { safe = is.keeps.safe t; inside = is_some inside.seat.me.0.period.announced; surveyed = is.keeps.surveyed t; slot = is.slot t; retired = is.retired t }; sight = is.leaves.sight t }) ∙ c.pass.view_is in
+    let fits = subst (λ (m : PassModel). PassFits inside.keys.items inside.share m.table.words m.view) (sym (λ t. record { table = is.leaves.table t; view = shown (is.leaves.tree t); steps = inside.steps; label = inside.label; memory = record { safe = is.keeps.safe t; inside = is_some inside.seat.me.0.period.announced; surveyed = is.keeps.surveyed t; slot = is.slot t; retired = is.retired t }; sight = is.leaves.sight t })) c.pass.invariant.fits in record {
       fits = stepped _ _ model _ c.self.view_is same c.requires.own c.self.invariant.words c.self.invariant.fit inside.keys.items inside.share _ _ _ g.J.Marking.then
           c.self.invariant.limit fits (ap (λ i. i.words) now.0) c.requires.keeps now.2.0;
       bare = now.2.2 ∙ is.leaves.empty;

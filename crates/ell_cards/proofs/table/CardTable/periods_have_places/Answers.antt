@@ -7,5 +7,5 @@ use Rattle.ell_cards.proofs.table.CardTable.periods_have_places.Goals as goal
 pub returns : goal.returns
 returns g c none =
     let size = own_size _ _ _ _ c.self.view_is c.pass.view_is c.requires.own c.self.invariant.words c.self.invariant.fit in
-    ap (λ (m : PassModel). m.inside) (sym c.pass.view_is)
+    ap (λ (m : PassModel). m.memory.inside) (sym c.pass.view_is)
     ∙ outside_by (g.M.Memory.key c.self.inside.table) c.pass.inside.standing _ _ size c.pass.invariant.stands (ap (λ (m : TableModel). m.plan.slots) c.self.view_is ∙ none)
