@@ -1,5 +1,6 @@
 /* Trees whose cards come back. One handle changes keys long after each card was taken, and is answered as a map, and never refused, also where a tree
-   of few slots has given out numbers of cards above 2^36, of which words of children have not all bits. Deletes can empty a tree that inserts have
+   of few slots has given out numbers of cards above 2^36, of which words of children have not all bits. Nor are handles that change keys one after
+   the other, where as many cards were asked for as docs/REFERENCE.md says. Deletes can empty a tree that inserts have
    filled, and where no other call is under way each of them is refused once at most. Four threads change keys of their own, and add to one that all
    share, which loses nothing; a call is made again where each card was in use. A thread is stopped in the middle of changes, by a signal whose
    handler waits: meanwhile calls that read are answered, and changes until the cards run out, and once it goes on so are all. A handle that has
@@ -28,6 +29,7 @@ enum {
     EXCHANGE_IN = 16,
     PLACES = 200,
     SOME = 70,
+    ENOUGH = 20000,
     TRIES = 1000
 };
 #define COUNTER UINT64_C(1000000)
@@ -132,6 +134,30 @@ static long all_filled_and_emptied(void) {
             wrong += filled_and_emptied(cards, kept);
     for (uint64_t i = 0; i < 20000; i++)
         wrong += changed_and_emptied(1 + i % 40, i / 40 % 4, &seed);
+    return wrong;
+}
+
+/* Of a tree that was asked for 2 n + 3 h + 5 cards, n keys and h handles, no change is refused where no other call is under way. */
+static long never_refused(uint64_t keys, uint64_t handles, uint64_t *seed) {
+    struct elltree_handle its[4] = {ELLTREE_EMPTY, ELLTREE_EMPTY, ELLTREE_EMPTY, ELLTREE_EMPTY};
+    long wrong = elltree_open_reusing(&its[0], NULL, 0, 2 * keys + 3 * handles + 5, handles) != ELLTREE_YES;
+    for (uint64_t i = 1; i < handles; i++)
+        wrong += elltree_another(&its[0], &its[i]) != ELLTREE_YES;
+    for (uint64_t i = 0; i < ENOUGH; i++) {
+        const uint64_t random = next(seed);
+        wrong += change(&its[(random >> 40) % handles], (random >> 20) % keys, i, random) < 0;
+    }
+    for (uint64_t i = 0; i < handles; i++)
+        wrong += elltree_free(&its[i]) != ELLTREE_YES;
+    return wrong;
+}
+
+static long enough_are_asked_for(void) {
+    uint64_t seed = 88172645463325252u;
+    long wrong = 0;
+    for (uint64_t keys = 1; keys <= SOME; keys += keys < 12 ? 1 : 29)
+        for (uint64_t handles = 1; handles <= 4; handles++)
+            wrong += never_refused(keys, handles, &seed);
     return wrong;
 }
 
@@ -425,8 +451,9 @@ static long made_and_freed(uint64_t cards) {
 int main(void) {
     long wrong = as_many_as_asked_for() + many_in_a_row();
     if (!wrong) /* else threads would wait for room for a handle for ever */
-        wrong = all_filled_and_emptied() + alone(30, KEYS, CHANGES) + alone(1000, KEYS, CHANGES) + alone(9, 2, CHANGES_BEYOND) + together(64) +
-                together(1000) + none_is_lost() + made_and_freed(64) + beside_one_that_is_stopped(100) + beside_one_that_rests();
+        wrong = all_filled_and_emptied() + enough_are_asked_for() + alone(30, KEYS, CHANGES) + alone(1000, KEYS, CHANGES) +
+                alone(9, 2, CHANGES_BEYOND) + together(64) + together(1000) + none_is_lost() + made_and_freed(64) + beside_one_that_is_stopped(100) +
+                beside_one_that_rests();
     printf("%ld wrong\n", wrong);
     return wrong != 0;
 }
