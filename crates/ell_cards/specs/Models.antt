@@ -51,6 +51,11 @@ pub record PassModel : Type 0 where
   pub memory : PassMemory
   pub sight : Sight
 
+-- a pass steps on the table that it stepped on, with its label
+pub record KeepsItsOwn (old new : PassModel) : Type 0 where
+  pub table : new.table ≡ old.table
+  pub label : new.label ≡ old.label
+
 -- a pass that has not looked at the places has seen nothing: the clock is never less than 0
 abbrev pub no_survey : Survey
 no_survey = record { clock = 0; least = 0 }

@@ -10,7 +10,7 @@ use Rattle.ell_cards.specs.declared.view.Known.{Known}
 use Rattle.ell_cards.specs.declared.view.Period.{Period}
 use Rattle.ell_runs.specs.declared.view.Slots.{Slots}
 use Rattle.ell_runs.specs.declared.view.View.{View}
-use Rattle.ell_cards.specs.Models.{Steps, in_period, last_slot, PassModel, one_more}
+use Rattle.ell_cards.specs.Models.{Steps, in_period, KeepsItsOwn, last_slot, PassModel, one_more}
 use Rattle.ell_runs.specs.Plans.{flat_from, TablePlan}
 use Rattle.ell_runs.specs.Views.{IsFree, MayPart, given_share}
 use Rattle.ell_runs.specs.Changes.{ledger_keys}
@@ -104,25 +104,22 @@ KeepsPass plan v then =
 -- a pass made one step that it has not counted yet: its table, its label and its memory are as they were, and so is
 -- what it knows of the history
 pub record SeesBy (old new : PassModel) : Type 0 where
-  pub table : new.table ≡ old.table
+  pub own : KeepsItsOwn old new
   pub steps : new.steps ≡ old.steps
-  pub label : new.label ≡ old.label
   pub memory : new.memory ≡ old.memory
   pub sight : new.sight ≡ old.sight
 
 -- so it is after one by which it may know more of the history, but for that
 pub record SeesOnBy (old new : PassModel) : Type 0 where
-  pub table : new.table ≡ old.table
+  pub own : KeepsItsOwn old new
   pub steps : new.steps ≡ old.steps
-  pub label : new.label ≡ old.label
   pub memory : new.memory ≡ old.memory
 
 -- and after one that begins an operation or a look, but that it is in a period if there are places, and knows more of
 -- the history if it begins an operation
 pub record EntersBy (slots : Option Slots) (c : Call) (old new : PassModel) : Type 0 where
-  pub table : new.table ≡ old.table
+  pub own : KeepsItsOwn old new
   pub steps : new.steps ≡ old.steps
-  pub label : new.label ≡ old.label
   pub memory : new.memory ≡ in_period slots old.memory
   pub marks : Marks c old.view old.sight new.sight
 
@@ -132,9 +129,8 @@ Enters slots old new v = new ≡ record old { view = v; memory = in_period slots
 
 -- a pass made one step: its table, its label and its memory are as they were, and so is what it knows of the history
 pub record StepsBy (old new : PassModel) : Type 0 where
-  pub table : new.table ≡ old.table
+  pub own : KeepsItsOwn old new
   pub steps : new.steps ≡ one_more old.steps
-  pub label : new.label ≡ old.label
   pub memory : new.memory ≡ old.memory
   pub sight : new.sight ≡ old.sight
 

@@ -5,6 +5,7 @@ use Rattle.ell_ops.specs.declared.op.Op.{Op}
 use Rattle.ell_ops.specs.KeySet.{KeySet, Lists}
 use Rattle.ell_ops.specs.Meaning.{key_of, final}
 use Rattle.ell_parts.specs.PartedOps.{PartedOps, IsLawful, part, keys_of_part}
+use Rattle.ell_cards.specs.Models.{KeepsItsOwn}
 use Rattle.ell_tree.specs.Ledgers.{PassModel, TreeModel, Owns, IsIdle, answers, hindrances, present_in}
 use Rattle.ell_tree.specs.PassParts.{IsLeftPart, IsRightPart}
 use Rattle.ell_run.specs.ByParts.{ops_in}
@@ -59,8 +60,7 @@ AreNotDone plan tries count before after =
 -- one, was not done
 pub record IsWorkedOff (plan : TablePlan) (tries : ℕ) (items : List (ℕ × Op)) (before after : PassModel)
     (piece : List (ℕ × Reply)) : Type 0 where
-  pub table : after.table ≡ before.table
-  pub label : after.label ≡ before.label
+  pub own : KeepsItsOwn before after
   pub idle : IsIdle after
   pub told : IsPiece (present_in before) items piece
   pub map : present_in after ≡ final (present_in before) (ops_in (front items piece))

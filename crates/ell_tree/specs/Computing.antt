@@ -9,7 +9,7 @@ use Rattle.ell_cards.specs.InRuns.{IsAnsweredInRuns}
 use Rattle.ell_cards.specs.InRuns.{IsLaidDownInRuns}
 use Rattle.ell_runs.specs.declared.view.View.{View}
 use Rattle.ell_runs.specs.Depths.{deepest}
-use Rattle.ell_cards.specs.Models.{PassModel}
+use Rattle.ell_cards.specs.Models.{KeepsItsOwn, PassModel}
 use Rattle.ell_runs.specs.Plans.{TablePlan}
 use Rattle.ell_runs.specs.Views.{SameShare}
 use Rattle.ell_tree.specs.declared.computing.Computed.{Computed}
@@ -24,8 +24,7 @@ use Rattle.ell_tree.specs.Ledgers.{TreeModel, present_in, Owns, answers, IsIdle}
 -- a pass has the keys that it had, present with their values or absent as they were, and nothing in hand; and it is in no
 -- period if it was in none
 pub record IsUntouched (old new : PassModel) : Type 0 where
-  pub table : new.table ≡ old.table
-  pub label : new.label ≡ old.label
+  pub own : KeepsItsOwn old new
   pub map : (key : ℕ) → present_in new key ≡ present_in old key
   pub owned : (key : ℕ) → Owns new key ↔ Owns old key
   pub answered : answers old ≤ answers new
@@ -40,8 +39,7 @@ pub record IsUntouched (old new : PassModel) : Type 0 where
 -- point: in every run of the tree in which the pass now knows this, its answer is that of one thread that made all
 -- operations by which the tree was changed till then
 pub record Concludes (t : TreeModel) (op : Op) (said : Reply) (old new : PassModel) : Type 0 where
-  pub table : new.table ≡ old.table
-  pub label : new.label ≡ old.label
+  pub own : KeepsItsOwn old new
   pub says : Owns old (key_of op) → said ≡ reply_of op (present_in old)
   pub map : Owns old (key_of op) → (key : ℕ) → present_in new key ≡ after op (present_in old) key
   pub stays : ¬ Owns old (key_of op) → (key : ℕ) → present_in new key ≡ present_in old key

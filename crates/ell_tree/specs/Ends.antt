@@ -10,7 +10,7 @@ use Rattle.ell_cards.specs.InRuns.{IsTakenInRuns}
 use Rattle.ell_runs.specs.declared.view.Sight.{Sight}
 use Rattle.ell_runs.specs.declared.view.Slots.{Slots}
 use Rattle.ell_runs.specs.Depths.{deepest}
-use Rattle.ell_cards.specs.Models.{PassModel}
+use Rattle.ell_cards.specs.Models.{KeepsItsOwn, PassModel}
 use Rattle.ell_runs.specs.Plans.{TablePlan}
 use Rattle.ell_runs.specs.Seeing.{HasSeenMore, SeesCall}
 use Rattle.ell_runs.specs.Views.{SameShare}
@@ -26,8 +26,7 @@ use Rattle.ell_tree.specs.Ledgers.{TreeModel, present_in, ledger, Owns, answers,
 -- all operations by which the tree was changed till then
 pub record AnswersAs (Sees : Op → Reply → Option ℕ → Sight → Sight → Type 0) (t : TreeModel) (op : Op) (said : Reply)
     (old new : PassModel) : Type 0 where
-  pub table : new.table ≡ old.table
-  pub label : new.label ≡ old.label
+  pub own : KeepsItsOwn old new
   pub says : Owns old (key_of op) → said ≡ reply_of op (present_in old)
   pub map : Owns old (key_of op) → (key : ℕ) → present_in new key ≡ after op (present_in old) key
   pub stays : ¬ Owns old (key_of op) → ledger new ≡ ledger old
@@ -47,8 +46,7 @@ Answers = AnswersAs SeesCall
 -- and of an own key it would change the map. Whoever may change the key, in every run of the tree in which the pass now knows this, the call
 -- changes nothing, neither before nor later
 pub record LaidDown (t : TreeModel) (op : Op) (old new : PassModel) : Type 0 where
-  pub table : new.table ≡ old.table
-  pub label : new.label ≡ old.label
+  pub own : KeepsItsOwn old new
   pub ledger : new.view.worker.ledger ≡ old.view.worker.ledger
   pub answered : answers new ≡ answers old
   pub share : SameShare old.view new.view

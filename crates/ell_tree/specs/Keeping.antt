@@ -11,7 +11,7 @@ use Rattle.ell_runs.specs.declared.view.Told.TheVariants.{Met, Info}
 use Rattle.ell_runs.specs.declared.view.Hindrance.{Hindrance}
 use Rattle.ell_runs.specs.declared.view.View.{View}
 use Rattle.ell_runs.specs.Plans.{TablePlan}
-use Rattle.ell_cards.specs.Models.{PassModel}
+use Rattle.ell_cards.specs.Models.{KeepsItsOwn, PassModel}
 use Rattle.ell_runs.specs.Views.{InTable, IsTold, Knows}
 use Rattle.ell_runs.specs.Views.{SameShare}
 use Rattle.ell_tree.specs.Counts.{Took, TookIn}
@@ -32,8 +32,7 @@ pub record LosesNothing (v w : View) : Type 0 where
 
 -- a pass made at most so many steps, and kept these, the slot that it took last, and what it knows of the history
 pub record Keeps (old new : PassModel) (n : ℕ) : Type 0 where
-  pub table : new.table ≡ old.table
-  pub label : new.label ≡ old.label
+  pub own : KeepsItsOwn old new
   pub slot : new.memory.slot ≡ old.memory.slot
   pub sight : new.sight ≡ old.sight
   pub view : LosesNothing old.view new.view
@@ -41,8 +40,7 @@ pub record Keeps (old new : PassModel) (n : ℕ) : Type 0 where
 
 -- the same in a table, but for the slot
 pub record KeepsIn (plan : TablePlan) (old new : PassModel) (n : ℕ) : Type 0 where
-  pub table : new.table ≡ old.table
-  pub label : new.label ≡ old.label
+  pub own : KeepsItsOwn old new
   pub sight : new.sight ≡ old.sight
   pub view : LosesNothing old.view new.view
   pub took : TookIn plan old new n

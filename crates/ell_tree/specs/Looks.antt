@@ -5,7 +5,7 @@ use Rattle.ell_runs.specs.Changes.{after_rest}
 use Rattle.ell_runs.specs.Depths.{deepest}
 use Rattle.ell_runs.specs.Looking.{HasThere}
 use Rattle.ell_cards.specs.InRuns.{IsFoundInRuns}
-use Rattle.ell_cards.specs.Models.{EndsBy, PassModel}
+use Rattle.ell_cards.specs.Models.{EndsBy, KeepsItsOwn, PassModel}
 use Rattle.ell_runs.specs.Seeing.{HasSeenMore}
 use Rattle.ell_tree.specs.Ledgers.{TreeModel}
 
@@ -14,8 +14,7 @@ use Rattle.ell_tree.specs.Ledgers.{TreeModel}
 -- which would add to one of these. And it owns what it owned, with the same values, and has nothing in hand if it had
 -- nothing
 pub record OnlyLooks (old new : PassModel) (n : ℕ) : Type 0 where
-  pub table : new.table ≡ old.table
-  pub label : new.label ≡ old.label
+  pub own : KeepsItsOwn old new
   pub sight : HasSeenMore old.sight new.sight
   pub worker : new.view.worker ≡ old.view.worker
   pub answered : new.view.answered ≡ old.view.answered

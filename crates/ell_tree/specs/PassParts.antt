@@ -1,7 +1,7 @@
 use Rattle.std.specs.Prelude.{◌≡◌, ℕ, ◌+◌, ◌-◌, ◌%◌, ◌^◌, ◌≤◌, true, if◌then◌else◌, Some, None, List, max, false}
 use Rattle.ell_ops.specs.KeySet.{set_of}
 use Rattle.ell_ops.specs.Contents.{contents_of}
-use Rattle.ell_cards.specs.Models.{PassModel, one_more}
+use Rattle.ell_cards.specs.Models.{KeepsItsOwn, PassModel, one_more}
 use Rattle.ell_runs.specs.Views.{given_share, whole_share}
 use Rattle.ell_runs.specs.Sights.{given_sight, joined_sight, no_sight}
 pub use Rattle.ell_runs.specs.Changes.{later_reading, ownable_if}
@@ -37,7 +37,7 @@ pub record IsFirst (t : TreeModel) (p : PassModel) : Type 0 where
 -- the left part of a pass: it has these keys as the pass had them, and keeps the counts, the safe number, and what the
 -- pass knows of the history; of the steps made, the split is its own
 pub record IsLeftPart (keys : List ℕ) (p part : PassModel) : Type 0 where
-  pub own : part.table ≡ p.table
+  pub own : KeepsItsOwn p part
   pub ledger : (k : ℕ) → ledger part k ≡ (if set_of keys k then ledger p k else None)
   pub answers : answers part ≡ answers p
   pub hindrances : hindrances part ≡ hindrances p
@@ -45,7 +45,6 @@ pub record IsLeftPart (keys : List ℕ) (p part : PassModel) : Type 0 where
   pub taken : cards_taken part ≡ cards_taken p
   pub steps : part.steps ≡ one_more p.steps
   pub made : part.view.made ≡ p.view.made + 1
-  pub label : part.label ≡ p.label
   pub safe : part.memory.safe ≡ p.memory.safe
   pub milestones : (last : ℕ) → milestones_known last part.view ≡ milestones_known last p.view
   pub share : part.view.share ≡ p.view.share - given_share p.view.share
@@ -57,7 +56,7 @@ pub record IsLeftPart (keys : List ℕ) (p part : PassModel) : Type 0 where
 -- the right part: it has the other keys, and counts anew; it is in no period, has looked at no place yet, and has seen of
 -- the history what the pass has, with no calls of its own
 pub record IsRightPart (keys : List ℕ) (p part : PassModel) : Type 0 where
-  pub own : part.table ≡ p.table
+  pub own : KeepsItsOwn p part
   pub ledger : (k : ℕ) → ledger part k ≡ (if set_of keys k then None else ledger p k)
   pub answers : answers part ≡ 0
   pub hindrances : hindrances part ≡ 0
@@ -65,7 +64,6 @@ pub record IsRightPart (keys : List ℕ) (p part : PassModel) : Type 0 where
   pub taken : cards_taken part ≡ 0
   pub steps : part.steps ≡ one_more p.steps
   pub made : part.view.made ≡ 0
-  pub label : part.label ≡ p.label
   pub safe : part.memory.safe ≡ 0
   pub milestones : (last : ℕ) → milestones_known last part.view ≡ milestones_known last p.view
   pub share : part.view.share ≡ given_share p.view.share
@@ -77,7 +75,7 @@ pub record IsRightPart (keys : List ℕ) (p part : PassModel) : Type 0 where
 -- two passes in one: it has the keys and the calls of both, adds the counts, and has the later reading of the claim word,
 -- the left one's safe number, and the longer one of the beginnings of the history that they have seen
 pub record IsUnion (left right both : PassModel) : Type 0 where
-  pub own : both.table ≡ left.table
+  pub own : KeepsItsOwn left both
   pub ledger : (k : ℕ) → ledger both k ≡ entry_or (ledger left k) (ledger right k)
   pub answers : answers both ≡ answers left + answers right
   pub hindrances : hindrances both ≡ hindrances left + hindrances right
@@ -86,7 +84,6 @@ pub record IsUnion (left right both : PassModel) : Type 0 where
   pub next : both.view.next ≡ later_reading left.view.next right.view.next
   pub steps : both.steps ≡ one_more (max left.steps right.steps)
   pub made : both.view.made ≡ left.view.made + right.view.made + 1
-  pub label : both.label ≡ left.label
   pub safe : both.memory.safe ≡ left.memory.safe
   pub milestones : (last : ℕ) → (milestones_known last left.view ≤ milestones_known last both.view)
       × (milestones_known last right.view ≤ milestones_known last both.view)

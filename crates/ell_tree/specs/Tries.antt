@@ -19,7 +19,7 @@ use Rattle.ell_runs.specs.declared.view.Hindrance.{Hindrance}
 use Rattle.ell_runs.specs.declared.view.Hindrance.TheVariants.{Found}
 use Rattle.ell_runs.specs.declared.view.View.{View}
 use Rattle.ell_runs.specs.Plans.{flat_from, TablePlan, new_node}
-use Rattle.ell_cards.specs.Models.{PassModel}
+use Rattle.ell_cards.specs.Models.{KeepsItsOwn, PassModel}
 use Rattle.ell_runs.specs.Views.{Has, IsTold, Knows, Does, StandsAt}
 use Rattle.ell_runs.specs.Changes.{value_told, expected_tag, told_filling, filling_of, tagged, with_stores, tries_hindered}
 use Rattle.ell_runs.specs.Guards.{IsFilled, MayFill}
@@ -53,8 +53,7 @@ IsChange (Swap key was value) = Unit {0}
 
 -- an operation starts, or starts anew, at the root; what came to be in its way before, and how many tries were hindered
 pub record Begins (op : Op) (met : List Hindrance) (tries : ℕ) (old new : PassModel) : Type 0 where
-  pub table : new.table ≡ old.table
-  pub label : new.label ≡ old.label
+  pub own : KeepsItsOwn old new
   pub ledger : new.view.worker.ledger ≡ old.view.worker.ledger
   pub calls : new.sight.mine ≡ old.sight.mine
   pub share : SameShare old.view new.view
@@ -75,8 +74,7 @@ pub record Stops (op : Op) (v : View) : Type 0 where
 -- an operation is laid down: nothing is in hand any more
 pub record Lays (op : Op) (old new : PassModel) : Type 0 where
   pub laid : new.view.laid_down ≡ Some op
-  pub table : new.table ≡ old.table
-  pub label : new.label ≡ old.label
+  pub own : KeepsItsOwn old new
   pub sight : new.sight ≡ old.sight
   pub ledger : new.view.worker.ledger ≡ old.view.worker.ledger
   pub share : SameShare old.view new.view
@@ -95,8 +93,7 @@ pub record Lays (op : Op) (old new : PassModel) : Type 0 where
 -- a try ended without an answer, though the operation would change the map; nothing of it is under way, and whatever
 -- was in its way is over, what its search has read too; it met all that came to be in the way meanwhile
 pub record Halts (op : Op) (old new : PassModel) : Type 0 where
-  pub table : new.table ≡ old.table
-  pub label : new.label ≡ old.label
+  pub own : KeepsItsOwn old new
   pub sight : new.sight ≡ old.sight
   pub ledger : new.view.worker.ledger ≡ old.view.worker.ledger
   pub share : SameShare old.view new.view
@@ -217,8 +214,7 @@ ClaimsNext plan op place node_key old new next.InUse = ClaimsInVain plan old new
 
 -- the card in hand was filled in so many steps, and nothing else was done
 pub record Fills (old new : PassModel) (n : ℕ) : Type 0 where
-  pub table : new.table ≡ old.table
-  pub label : new.label ≡ old.label
+  pub own : KeepsItsOwn old new
   pub sight : new.sight ≡ old.sight
   pub slot : new.memory.slot ≡ old.memory.slot
   pub took : Took old new n

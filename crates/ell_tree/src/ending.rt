@@ -3,6 +3,7 @@ ghost use Rattle.std.specs.Prelude.{◌≡◌, ◌≤◌, [], true, IfOk, IfErr,
 ghost use Rattle.std.specs.List.{All};
 ghost use Rattle.ell_ops.specs.Contents.{contents_of};
 ghost use Rattle.ell_cards.specs.Closed.{EndsHistory};
+ghost use Rattle.ell_cards.specs.Models.{KeepsItsOwn};
 ghost use Rattle.ell_runs.specs.Views.{whole_share};
 ghost use Rattle.ell_runs.specs.Seeing.{HasSeenAll, HasSeenMore};
 ghost use Rattle.ell_tree.specs.CardsTaken.{TakesNoCard};
@@ -28,8 +29,7 @@ impl<M: Memory> Tree<M> {
         ensures all { HasSeenAll self.now.plan pass.new.view pass.new.sight }
         ensures more { HasSeenMore pass.old.sight pass.new.sight }
         // It makes one step. The pass keeps its tree, its label, its keys and what it has in hand, and its share.
-        ensures table { pass.new.table ≡ pass.old.table }
-        ensures label { pass.new.label ≡ pass.old.label }
+        ensures own { KeepsItsOwn pass.old pass.new }
         ensures worker { pass.new.view.worker ≡ pass.old.view.worker }
         ensures share { pass.new.view.share ≡ pass.old.view.share }
         ensures steps { Took pass.old pass.new 1 }

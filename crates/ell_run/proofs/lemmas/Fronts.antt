@@ -8,6 +8,8 @@ use Rattle.ell_ops.specs.declared.op.Op.{Op}
 use Rattle.ell_ops.specs.Contents.{Contents}
 use Rattle.ell_ops.specs.Meaning.{key_of, reply_of, final}
 use Rattle.ell_runs.specs.Plans.{TablePlan}
+use Rattle.ell_cards.proofs.lemmas.views.Steps.{own_trans}
+use Rattle.ell_cards.specs.Models.{KeepsItsOwn}
 use Rattle.ell_tree.specs.Effects.{reply_of_change}
 use Rattle.ell_ops.specs.Meaning.{after as after_op}
 use Rattle.ell_tree.specs.declared.operations.NotDone.{NotDone}
@@ -24,8 +26,7 @@ use Rattle.ell_ops.specs.declared.reply.Reply.{Reply}
 
 -- so many operations of a part were done with a pass
 pub record IsFrontDone (items : List (ℕ × Op)) (i : ℕ) (before after : PassModel) (piece : List (ℕ × Reply)) : Type 0 where
-  pub table : after.table ≡ before.table
-  pub label : after.label ≡ before.label
+  pub own : KeepsItsOwn before after
   pub idle : IsIdle after
   pub few : i ≤ length items
   pub count : length piece ≡ i
@@ -56,8 +57,7 @@ front_more tree items i d before mid after piece reply below owned h a meets =
     let others = h.answered in
     let same : present_in after ≡ after_op item.1 (present_in mid) = λ j key. a.map own key j in
     record {
-      table = a.table ∙ h.table;
-      label = a.label ∙ h.label;
+      own = own_trans before mid after h.own a.own;
       idle = a.idle;
       few = omega arith;
       count = length_push piece (item.0, reply) ∙ ap (λ n. n + 1) h.count;
@@ -80,8 +80,7 @@ front_all plan tries items i before after piece all h =
     let answered = h.answered in
     let same : take i items ≡ take (length piece) items = ap (λ n. take n items) (sym count) in
     record {
-      table = h.table;
-      label = h.label;
+      own = h.own;
       idle = h.idle;
       told = record {
         few = omega arith;
@@ -109,8 +108,7 @@ front_not_done tree tries items i d before mid after piece why below owned h l n
     let same : take i items ≡ take (length piece) items = ap (λ n. take n items) (sym count) in
     let kept : present_in after ≡ present_in mid = rw l.ledger refl in
     record {
-      table = l.table ∙ h.table;
-      label = l.label ∙ h.label;
+      own = own_trans before mid after h.own l.own;
       idle = l.idle;
       told = record {
         few = omega arith;
@@ -143,7 +141,7 @@ one_worked plan tries parting (w ∷ []) d label before told after items piece p
     subst (λ all. IsWorkedOff plan tries all (record before { label = label }) after piece) own
     (subst (λ p. IsWorkedOff plan tries items p after piece) same h) in
     subst (IsWorked plan tries parting (w ∷ []) before after) (sym is) (record {
-      table = off.table;
+      table = off.own.table;
       idle = off.idle;
       told = (off.told, tt);
       map = off.map ∙ ap (final (present_in before)) (sym (append-nil (ops_in (front (part parting w) piece))));

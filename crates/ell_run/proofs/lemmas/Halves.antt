@@ -169,7 +169,7 @@ module _ (tree : TreeModel) (parting : PartedOps) (low high : List ℕ) (pass le
         let first = get_or_first low high k 0 (omega arith) in
         let second = get_or_first low high (k + 1) 0 below in
         omega arith;
-    own = h.on_left.own ∙ ready.own;
+    own = h.on_left.own.table ∙ ready.own;
     idle = h.on_left.idle;
     owned = λ j d below k e within.
         let owned : All (λ item. Owns pass (key_of item.1)) (part parting (get_or low j d)) =
@@ -187,7 +187,7 @@ module _ (tree : TreeModel) (parting : PartedOps) (low high : List ℕ) (pass le
         let first = get_or-append-add low high k 0 in
         let second = ap (λ n. get_or (low ++ high) n 0) far ∙ get_or-append-add low high (k + 1) 0 in
         omega arith;
-    own = h.on_right.own ∙ ready.own;
+    own = h.on_right.own.table ∙ ready.own;
     idle = h.on_right.idle;
     owned = λ j d below k e within.
         let owned : All (λ item. Owns pass (key_of item.1)) (part parting (get_or high j d)) =
@@ -252,7 +252,7 @@ module _ (tree : TreeModel) (parting : PartedOps) (low high : List ℕ) (pass le
         let kept = h.on_left.answers in
         let anew = h.on_right.answers in
         record {
-          table = union.own ∙ did.table ∙ h.on_left.own;
+          table = union.own.table ∙ did.table ∙ h.on_left.own.table;
           idle = union.idle;
           told = pieces-append (present_in pass) parting low high ps qs first_told second_told;
           map = (λ i key. set_at key i) ∙ ap (final (present_in pass)) (sym (done-append (present_in pass) parting low high ps qs first_told));

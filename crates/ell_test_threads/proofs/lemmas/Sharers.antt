@@ -35,16 +35,16 @@ may_share owned t p key h real other = record {
 -- after an answer it is a member still
 pub member_answered : (owned : List ℕ) (t : TreeModel) (op : Op) (said : Reply) (p q : PassModel) → IsMember owned t p → Answers t op said p q
     → IsMember owned t q
-member_answered owned t op said p q h a = record { own = a.table ∙ h.own; idle = a.idle; ownable = a.share.ownable ∙ h.ownable }
+member_answered owned t op said p q h a = record { own = a.own.table ∙ h.own; idle = a.idle; ownable = a.share.ownable ∙ h.ownable }
 
 -- and without one
 pub member_laid_down : (owned : List ℕ) (t : TreeModel) (op : Op) (p q : PassModel) → IsMember owned t p → LaidDown t op p q → IsMember owned t q
-member_laid_down owned t op p q h l = record { own = l.table ∙ h.own; idle = l.idle; ownable = l.share.ownable ∙ h.ownable }
+member_laid_down owned t op p q h l = record { own = l.own.table ∙ h.own; idle = l.idle; ownable = l.share.ownable ∙ h.ownable }
 
 -- and after a call of several operations, of which the last one was answered
 member_concluded : (owned : List ℕ) (t : TreeModel) (op : Op) (said : Reply) (p q : PassModel) → IsMember owned t p → Concludes t op said p q
     → IsMember owned t q
-member_concluded owned t op said p q h a = record { own = a.table ∙ h.own; idle = a.idle; ownable = a.share.ownable ∙ h.ownable }
+member_concluded owned t op said p q h a = record { own = a.own.table ∙ h.own; idle = a.idle; ownable = a.share.ownable ∙ h.ownable }
 
 pub member_put : (owned : List ℕ) (t : TreeModel) (key value : ℕ) (p q : PassModel) (was : Option ℕ) → IsMember owned t p
     → PutsValue t key value p q was → IsMember owned t q
@@ -67,7 +67,7 @@ member_removed owned t key was p q there h r = elim (that_or_other was there) [
 pub member_not_done : (owned : List ℕ) (t : TreeModel) (key : ℕ) (p q : PassModel) (why : NotDone) → IsMember owned t p
     → IsNotDone t key p q why → IsMember owned t q
 member_not_done owned t key p q why h b = record {
-  own = b.untouched.table ∙ h.own;
+  own = b.untouched.own.table ∙ h.own;
   idle = b.untouched.idle;
   ownable = b.untouched.share.ownable ∙ h.ownable;
 }
@@ -75,7 +75,7 @@ member_not_done owned t key p q why h b = record {
 -- and after a look
 pub member_looking : (owned : List ℕ) (t : TreeModel) (n : ℕ) (p q : PassModel) → IsMember owned t p → OnlyLooks p q n → IsMember owned t q
 member_looking owned t n p q h l = record {
-  own = l.table ∙ h.own;
+  own = l.own.table ∙ h.own;
   idle = ap (λ (w : WorkerView). w.operation) l.worker ∙ h.idle;
   ownable = ap (λ (w : WorkerView). w.shared) l.worker ∙ h.ownable;
 }
@@ -95,17 +95,17 @@ member_resting owned t p q = member_ended owned t t.plan.slots p q
 -- so are the parts of one
 pub member_left : (owned : List ℕ) (t : TreeModel) (keys : List ℕ) (p q : PassModel) → IsMember owned t p → IsLeftPart keys p q
     → IsMember owned t q
-member_left owned t keys p q h l = record { own = l.own ∙ h.own; idle = l.idle; ownable = l.ownable ∙ h.ownable }
+member_left owned t keys p q h l = record { own = l.own.table ∙ h.own; idle = l.idle; ownable = l.ownable ∙ h.ownable }
 
 pub member_right : (owned : List ℕ) (t : TreeModel) (keys : List ℕ) (p q : PassModel) → IsMember owned t p → IsRightPart keys p q
     → IsMember owned t q
-member_right owned t keys p q h r = record { own = r.own ∙ h.own; idle = r.idle; ownable = r.ownable ∙ h.ownable }
+member_right owned t keys p q h r = record { own = r.own.table ∙ h.own; idle = r.idle; ownable = r.ownable ∙ h.ownable }
 
 -- and two that are, in one
 pub member_joined : (owned : List ℕ) (t : TreeModel) (p q r : PassModel) → IsMember owned t p → IsMember owned t q → IsUnion p q r
     → IsMember owned t r
 member_joined owned t p q r h k u = record {
-  own = u.own ∙ h.own;
+  own = u.own.table ∙ h.own;
   idle = u.idle;
   ownable = u.ownable ∙ ap (λ (o : Option (List ℕ)). option_or o q.view.worker.shared) h.ownable;
 }

@@ -8,14 +8,14 @@ use Rattle.ell_runs.specs.Changes.{after_begin, after_again, after_leave, in_the
 use Rattle.ell_runs.specs.Seeing.{SeesBegin}
 use Rattle.ell_tree.specs.Hindrances.{way_of}
 use Rattle.ell_tree.specs.Tries.{Begins, Lays}
+use Rattle.ell_cards.proofs.lemmas.views.Steps.{own_same}
 use Rattle.ell_tree.proofs.lemmas.Counts.{took_one}
 
 -- an operation that was taken in hand stands at the root
 pub begins : (slots : Option Slots) (old new : PassModel) (op : Op) → BeginsBy slots old new (after_begin (Some op) old.view) → SeesBegin op old.sight new.sight
     → Begins op [] old.view.hindered old new
 begins slots old new op s sees = subst (λ (m : PassModel). Begins op [] old.view.hindered old m) (sym s) (record {
-  table = refl;
-  label = refl;
+  own = own_same old;
   ledger = refl;
   calls = sees.mine;
   share = record { share = refl; ownable = refl };
@@ -40,8 +40,7 @@ pub begins_anew : (old new : PassModel) (op : Op) → Steps old new (after_again
 begins_anew old new op s busy =
     let again = subst (λ (o : Option Op). Steps old new (anew o old.view)) busy s in
     subst (λ (m : PassModel). Begins op (way_of op old.view) (tries_hindered old.view) old m) (sym again) (record {
-      table = refl;
-      label = refl;
+      own = own_same old;
       ledger = refl;
       calls = refl;
       share = record { share = refl; ownable = refl };
@@ -59,8 +58,7 @@ begins_anew old new op s busy =
 pub lays : (old new : PassModel) (op : Op) → EndsBy old new (after_leave old.view) → Does old.view op → Lays op old new
 lays old new op s busy = subst (λ (m : PassModel). Lays op old m) (sym s) (record {
   laid = busy;
-  table = refl;
-  label = refl;
+  own = own_same old;
   sight = refl;
   ledger = refl;
   share = record { share = refl; ownable = refl };

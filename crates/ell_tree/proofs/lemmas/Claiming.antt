@@ -25,7 +25,7 @@ use Rattle.ell_runs.specs.declared.call.NewNode.{NewNode}
 use Rattle.ell_runs.proofs.lemmas.views.Afters.{after_next}
 use Rattle.ell_cards.proofs.lemmas.views.Rows.{rows_keep, wants_same}
 use Rattle.ell_cards.proofs.lemmas.views.Searches.{may_claim}
-use Rattle.ell_cards.proofs.lemmas.views.Steps.{view_after}
+use Rattle.ell_cards.proofs.lemmas.views.Steps.{own_step, own_trans, view_after}
 use Rattle.ell_cards.proofs.lemmas.whole.Skipping.{from_some}
 use Rattle.ell_runs.proofs.lemmas.words.Updates.{clean_word}
 use Rattle.ell_tree.specs.declared.searching.Place.{Place}
@@ -71,8 +71,7 @@ may_claim_at plan old new c node op place s busy hand low at calm wants shape =
 -- a pass that takes a slot after its steps, or finds it in use, keeps what it kept
 pub keeps_slot : (plan : TablePlan) (a d e : PassModel) (n : ℕ) → KeepsIn plan a d n → LooksForSlot d e → KeepsIn plan a e n
 keeps_slot plan a d e n k same = record {
-  table = ap (λ (p : PassModel). p.table) same ∙ k.table;
-  label = ap (λ (p : PassModel). p.label) same ∙ k.label;
+  own = own_trans a d e k.own (own_step d e same);
   sight = ap (λ (p : PassModel). p.sight) same ∙ k.sight;
   view = subst (LosesNothing a.view) (sym (ap (λ (p : PassModel). p.view) same)) k.view;
   took = (let steps = ap (λ (p : PassModel). p.steps) same in
@@ -131,8 +130,7 @@ module _ (a b e : PassModel) (first : ℕ) (node : NewNode) (read : Steps a b (a
         let there = ap (λ (p : PassModel). p.steps) same in
         let made = (row s).made in
         record {
-          table = ap (λ (p : PassModel). p.table) s ∙ (ap (λ (p : PassModel). p.table) same ∙ before.table);
-          label = ap (λ (p : PassModel). p.label) s ∙ (ap (λ (p : PassModel). p.label) same ∙ before.label);
+          own = own_trans a e d (own_trans a b e before.own (own_step b e same)) (own_step e d s);
           sight = ap (λ (p : PassModel). p.sight) s ∙ (ap (λ (p : PassModel). p.sight) same ∙ before.sight);
           view = loses_trans a.view (after_next first a.view) d.view (next_keeps first a.view) keeps;
           took = record { steps = omega (arith, before.took.steps, steps, there); made = λ none. (let only = one none in omega (arith, only, made)) };
@@ -242,8 +240,7 @@ asked_none plan p none = record {
 -- the same within more steps
 keeps_in_within : (plan : TablePlan) (a b : PassModel) (m n : ℕ) → KeepsIn plan a b m → m ≤ n → KeepsIn plan a b n
 keeps_in_within plan a b m n h le = record {
-  table = h.table;
-  label = h.label;
+  own = h.own;
   sight = h.sight;
   view = h.view;
   took = record { steps = omega (arith, h.took.steps, le); made = λ empty. omega (arith, h.took.made empty, le) };

@@ -13,7 +13,7 @@ use Rattle.ell_core.specs.statements.Effects.{contents_in, reply_of_change}
 use Rattle.ell_core.proofs.lemmas.outcomes.Decide.{cases_option, some_not_none}
 use Rattle.ell_core.proofs.lemmas.following.AnswerMeaning.{key_kept, swap_lacked, swap_other}
 use Rattle.ell_runs.specs.declared.view.Act.{Act}
-use Rattle.ell_cards.specs.Models.{PassModel, ledger}
+use Rattle.ell_cards.specs.Models.{KeepsItsOwn, PassModel, ledger}
 use Rattle.ell_runs.specs.Seeing.{HasSeenMore, SeesCall}
 use Rattle.ell_runs.specs.Views.{SameShare}
 use Rattle.ell_tree.specs.Ledgers.{TreeModel, present_in, Owns, IsIdle}
@@ -21,6 +21,7 @@ use Rattle.ell_tree.specs.Ends.{Answers, LaidDown}
 use Rattle.ell_tree.specs.Called.{SeesLast, SeesPut, SeesRead, SeesUpdate, put_by}
 use Rattle.ell_tree.specs.Computing.{IsUntouched, Concludes, LastChangesNothing, PutsValue, ReadsValue, UpdatesValue}
 use Rattle.ell_tree.specs.Promises.{MayDo}
+use Rattle.ell_cards.proofs.lemmas.views.Steps.{own_same, own_trans}
 use Rattle.ell_tree.proofs.lemmas.Called.{its_take, by_take}
 use Rattle.ell_tree.proofs.lemmas.Keeping.{share_trans}
 use Rattle.ell_tree.proofs.lemmas.Sights.{no_change_call, no_change_more, no_change_self, no_change_trans, sees_last, sees_last_after}
@@ -44,8 +45,7 @@ found_not_yes (Some v) e = absurd cc
 -- a pass that answers such an operation is left as it was
 pub untouched_by : (t : TreeModel) (op : Op) (said : Reply) (p q : PassModel) → LeavesOwn op p → said ≢ reply_of_change op → Answers t op said p q → IsUntouched p q
 untouched_by t op said p q leaves other h = let last = its_take op (λ took. SeesCall op said took p.sight q.sight) h.sees in record {
-  table = h.table;
-  label = h.label;
+  own = h.own;
   map = λ key. elim (cases_option (ledger p (key_of op))) [
     | inl is ↦ (let owns : Owns p (key_of op) = λ none. some_not_none is.1 none in h.map owns key ∙ leaves owns key)
     | inr none ↦ ap (λ f. contents_in f key) (h.stays (λ owns. owns none))
@@ -59,11 +59,10 @@ untouched_by t op said p q leaves other h = let last = its_take op (λ took. See
 }
 
 -- so is one whose ledger is as it was
-pub untouched_still : (p q : PassModel) → q.table ≡ p.table → q.label ≡ p.label → q.view.worker.ledger ≡ p.view.worker.ledger → SameShare p.view q.view
+pub untouched_still : (p q : PassModel) → KeepsItsOwn p q → q.view.worker.ledger ≡ p.view.worker.ledger → SameShare p.view q.view
     → IsIdle q → q.memory.inside ≡ false → HasSeenMore p.sight q.sight → IsUntouched p q
-untouched_still p q table label ledgers share idle outside sees = let same : ledger q ≡ ledger p = ap ledger_of ledgers in record {
-  table = table;
-  label = label;
+untouched_still p q own ledgers share idle outside sees = let same : ledger q ≡ ledger p = ap ledger_of ledgers in record {
+  own = own;
   map = λ key. ap (λ f. contents_in f key) same;
   owned = λ key. (λ owns none. owns (ap (λ f. f key) same ∙ none), λ owns none. owns (sym (ap (λ f. f key) same) ∙ none));
   answered = let count = ap (λ (l : List Act). length l) sees.mine in omega (arith, count);
@@ -75,12 +74,11 @@ untouched_still p q table label ledgers share idle outside sees = let same : led
 
 -- and one that lays an operation down
 pub untouched_laid : (t : TreeModel) (op : Op) (p q : PassModel) → LaidDown t op p q → IsUntouched p q
-untouched_laid t op p q h = untouched_still p q h.table h.label h.ledger h.share h.idle h.outside h.sees
+untouched_laid t op p q h = untouched_still p q h.own h.ledger h.share h.idle h.outside h.sees
 
 pub untouched_trans : (p q r : PassModel) → IsUntouched p q → IsUntouched q r → IsUntouched p r
 untouched_trans p q r g h = record {
-  table = h.table ∙ g.table;
-  label = h.label ∙ g.label;
+  own = own_trans p q r g.own h.own;
   map = λ key. h.map key ∙ g.map key;
   owned = λ key. (λ owns. (g.owned key).0 ((h.owned key).0 owns), λ owns. (h.owned key).1 ((g.owned key).1 owns));
   answered = let one = g.answered in let more = h.answered in omega arith;
@@ -94,8 +92,7 @@ untouched_trans p q r g h = record {
 pub concludes : (t : TreeModel) (op : Op) (said : Reply) (p q r : PassModel) → IsUntouched p q → Answers t op said q r → Concludes t op said p r
 concludes t op said p q r g h =
     let there : present_in q ≡ present_in p = λ i key. g.map key i in record {
-      table = h.table ∙ g.table;
-      label = h.label ∙ g.label;
+      own = own_trans p q r g.own h.own;
       says = λ owns. h.says ((g.owned (key_of op)).1 owns) ∙ ap (reply_of op) there;
       map = λ owns key. h.map ((g.owned (key_of op)).1 owns) key ∙ ap (λ m. after op m key) there;
       stays = λ other key. ap (λ f. contents_in f key) (h.stays (λ owns. other ((g.owned (key_of op)).0 owns))) ∙ g.map key;
@@ -113,8 +110,7 @@ concludes t op said p q r g h =
 pub concludes_after : (t : TreeModel) (op : Op) (said : Reply) (p q r : PassModel) → IsUntouched p q → Concludes t op said q r → Concludes t op said p r
 concludes_after t op said p q r g h =
     let there : present_in q ≡ present_in p = λ i key. g.map key i in record {
-      table = h.table ∙ g.table;
-      label = h.label ∙ g.label;
+      own = own_trans p q r g.own h.own;
       says = λ owns. h.says ((g.owned (key_of op)).1 owns) ∙ ap (reply_of op) there;
       map = λ owns key. h.map ((g.owned (key_of op)).1 owns) key ∙ ap (λ m. after op m key) there;
       stays = λ other key. h.stays (λ owns. other ((g.owned (key_of op)).0 owns)) key ∙ g.map key;
@@ -165,8 +161,7 @@ reads_own t key was p q (inr h) owns = sym (found_one was (present_in p key) (h.
 -- a pass is as it is
 pub untouched_self : (p : PassModel) → IsIdle p → IsUntouched p p
 untouched_self p idle = record {
-  table = refl;
-  label = refl;
+  own = own_same p;
   map = λ key. refl;
   owned = λ key. (λ owns. owns, λ owns. owns);
   answered = omega arith;
@@ -203,7 +198,7 @@ swapped t key value before there was p q is same said =
 -- what a pass may change it still may
 pub may_still : (t : TreeModel) (key : ℕ) (p q : PassModel) → IsUntouched p q → MayDo t key p → MayDo t key q
 may_still t key p q g h = record {
-  own = g.table ∙ h.own;
+  own = g.own.table ∙ h.own;
   idle = g.idle;
   may = elim h.may [
     | inl owns ↦ inl ((g.owned key).1 owns)

@@ -15,7 +15,7 @@ use Rattle.ell_runs.specs.Changes.{after_flag, if_won, exchanged, found_word, fo
 use Rattle.ell_runs.specs.Guards.{MayFill, MayIFlag, MayDFlag}
 use Rattle.ell_runs.proofs.lemmas.views.Facts.{knows_new, knows_more, facts_by_more}
 use Rattle.ell_runs.proofs.lemmas.views.Entries.{places_more}
-use Rattle.ell_cards.proofs.lemmas.views.Steps.{view_after}
+use Rattle.ell_cards.proofs.lemmas.views.Steps.{own_step, own_trans, view_after}
 use Rattle.ell_tree.specs.declared.searching.Passed.{Passed}
 use Rattle.ell_tree.specs.declared.searching.Place.{Place}
 use Rattle.ell_tree.specs.CardsTaken.{claims_in, TakesNoCard}
@@ -113,8 +113,7 @@ module _ (k : Exchange) (flag : ℕ → Fact) (c x : ℕ) (from : Update) where
 
     pub flag_goes : Keeps a d (n + 1)
     flag_goes = record {
-      table = ap (λ (p : PassModel). p.table) step ∙ fills.table;
-      label = ap (λ (p : PassModel). p.label) step ∙ fills.label;
+      own = own_trans a b d fills.own (own_step b d step);
       sight = ap (λ (p : PassModel). p.sight) step ∙ fills.sight;
       slot = ap (λ (p : PassModel). p.memory.slot) step ∙ fills.slot;
       view = subst (LosesNothing a.view) (sym flagged_view) (flagging_keeps b.view.stores r a.view);

@@ -21,6 +21,7 @@ use Rattle.ell_runs.proofs.lemmas.views.Afters.{after_down, after_key_of, after_
 use Rattle.ell_runs.proofs.lemmas.views.Facts.{knows_new, knows_more, facts_by_more}
 use Rattle.ell_runs.proofs.lemmas.views.Depths.{met_more}
 use Rattle.ell_runs.proofs.lemmas.views.Entries.{places_more, info_more}
+use Rattle.ell_cards.proofs.lemmas.views.Steps.{own_same, own_trans}
 use Rattle.ell_runs.specs.Views.{SameShare}
 use Rattle.ell_tree.proofs.lemmas.Counts.{took_none, took_one, took_unseen, took_counted, took_within, took_trans, took_in, took_in_trans}
 use Rattle.ell_tree.specs.Counts.{HasUncounted}
@@ -46,8 +47,7 @@ loses_trans u v w a b = record {
 
 pub keeps_trans : (a b c : PassModel) (m n k : ℕ) → Keeps a b m → Keeps b c n → m + n ≤ k → Keeps a c k
 keeps_trans a b c m n k h h' le = record {
-  table = h'.table ∙ h.table;
-  label = h'.label ∙ h.label;
+  own = own_trans a b c h.own h'.own;
   sight = h'.sight ∙ h.sight;
   slot = h'.slot ∙ h.slot;
   view = loses_trans a.view b.view c.view h.view h'.view;
@@ -56,12 +56,11 @@ keeps_trans a b c m n k h h' le = record {
 
 -- the same in a table
 pub keeps_in : (plan : TablePlan) (a b : PassModel) (n : ℕ) → Keeps a b n → KeepsIn plan a b n
-keeps_in plan a b n h = record { table = h.table; label = h.label; sight = h.sight; view = h.view; took = took_in plan a b n h.took }
+keeps_in plan a b n h = record { own = h.own; sight = h.sight; view = h.view; took = took_in plan a b n h.took }
 
 pub keeps_in_trans : (plan : TablePlan) (a b c : PassModel) (m n k : ℕ) → KeepsIn plan a b m → KeepsIn plan b c n → m + n ≤ k → KeepsIn plan a c k
 keeps_in_trans plan a b c m n k h h' le = record {
-  table = h'.table ∙ h.table;
-  label = h'.label ∙ h.label;
+  own = own_trans a b c h.own h'.own;
   sight = h'.sight ∙ h.sight;
   view = loses_trans a.view b.view c.view h.view h'.view;
   took = took_in_trans plan a b c m n k h.took h'.took le;
@@ -87,7 +86,7 @@ keeps_but_met_trans a b c m n k h h' le = record {
 
 -- with no more than so many steps
 keeps_within : (a b : PassModel) (m n : ℕ) → Keeps a b m → m ≤ n → Keeps a b n
-keeps_within a b m n h le = record { table = h.table; label = h.label; sight = h.sight; slot = h.slot; view = h.view; took = took_within a b m n h.took le }
+keeps_within a b m n h le = record { own = h.own; sight = h.sight; slot = h.slot; view = h.view; took = took_within a b m n h.took le }
 
 pub keeps_but_met_of : (a b : PassModel) (n : ℕ) → KeepsAll a b n → KeepsAllButMet a b n
 keeps_but_met_of a b n h = record { keeps = h.keeps; taken = h.taken; card = h.card; flagged = h.flagged; search = h.search }
@@ -109,8 +108,7 @@ keeps_all_within a b m n h le = record {
 pub keeps_all_none : (a : PassModel) (n : ℕ) → KeepsAll a a n
 keeps_all_none a n = record {
   keeps = record {
-    table = refl;
-    label = refl;
+    own = own_same a;
     sight = refl;
     slot = refl;
     view = record { ledger = refl; operation = refl; share = record { share = refl; ownable = refl }; knows = λ f h. h; told = λ e h. h; before = refl; least = omega arith; hindered = refl; earlier = λ hs e. e };
@@ -164,20 +162,20 @@ place_told x state.Clean c v w f t = tt
 
 -- a step to a view that keeps these
 pub keeps_step : (old new : PassModel) (v : View) → Steps old new v → LosesNothing old.view v → v.made ≡ old.view.made + 1 → Keeps old new 1
-keeps_step old new v s k made = subst (λ (m : PassModel). Keeps old m 1) (sym s) (record { table = refl; label = refl; sight = refl; slot = refl; view = k; took = took_one old v made })
+keeps_step old new v s k made = subst (λ (m : PassModel). Keeps old m 1) (sym s) (record { own = own_same old; sight = refl; slot = refl; view = k; took = took_one old v made })
 
 -- a step that is not counted yet, to such a view
 pub keeps_but_search_unseen : (old new : PassModel) (v : View) → Sees old new v → LosesNothing old.view v → v.made ≡ old.view.made + 1 → claims_in v.won ≡ claims_in old.view.won → v.worker.card ≡ old.view.worker.card
     → v.worker.flagged ≡ old.view.worker.flagged → v.hindrances ≡ old.view.hindrances → KeepsAllButSearch old new 1
 keeps_but_search_unseen old new v s k made taken card flagged hindrances =
     subst (λ (m : PassModel). KeepsAllButSearch old m 1) (sym s)
-    (record { keeps = record { table = refl; label = refl; sight = refl; slot = refl; view = k; took = took_unseen old v made }; taken = taken; card = card; flagged = flagged; hindrances = hindrances })
+    (record { keeps = record { own = own_same old; sight = refl; slot = refl; view = k; took = took_unseen old v made }; taken = taken; card = card; flagged = flagged; hindrances = hindrances })
 
 -- a search whose steps are counted once it has ended
 pub keeps_but_search_counted : (a b c : PassModel) (n k : ℕ) → KeepsAllButSearch a b n → HasUncounted a b k → Counts b c k → KeepsAllButSearch a c n
 keeps_but_search_counted a b c n k h u s =
     subst (λ (m : PassModel). KeepsAllButSearch a m n) (sym s) (record {
-      keeps = record { table = h.keeps.table; label = h.keeps.label; sight = h.keeps.sight; slot = h.keeps.slot; view = h.keeps.view; took = took_counted a b (record b { steps = some_more k b.steps }) n k h.keeps.took u refl };
+      keeps = record { own = own_trans a b _ h.keeps.own (own_same b); sight = h.keeps.sight; slot = h.keeps.slot; view = h.keeps.view; took = took_counted a b (record b { steps = some_more k b.steps }) n k h.keeps.took u refl };
       taken = h.taken;
       card = h.card;
       flagged = h.flagged;
@@ -188,13 +186,13 @@ pub keeps_but_met_step : (old new : PassModel) (v : View) → Steps old new v �
     → v.worker.flagged ≡ old.view.worker.flagged → v.worker.search ≡ old.view.worker.search → KeepsAllButMet old new 1
 keeps_but_met_step old new v s k made taken card flagged search =
     subst (λ (m : PassModel). KeepsAllButMet old m 1) (sym s)
-    (record { keeps = record { table = refl; label = refl; sight = refl; slot = refl; view = k; took = took_one old v made }; taken = taken; card = card; flagged = flagged; search = search })
+    (record { keeps = record { own = own_same old; sight = refl; slot = refl; view = k; took = took_one old v made }; taken = taken; card = card; flagged = flagged; search = search })
 
 pub keeps_all_step : (old new : PassModel) (v : View) → Steps old new v → LosesNothing old.view v → v.made ≡ old.view.made + 1 → claims_in v.won ≡ claims_in old.view.won → v.worker.card ≡ old.view.worker.card
     → v.worker.flagged ≡ old.view.worker.flagged → v.worker.search ≡ old.view.worker.search → v.hindrances ≡ old.view.hindrances → KeepsAll old new 1
 keeps_all_step old new v s k made taken card flagged search hindrances =
     subst (λ (m : PassModel). KeepsAll old m 1) (sym s) (record {
-      keeps = record { table = refl; label = refl; sight = refl; slot = refl; view = k; took = took_one old v made };
+      keeps = record { own = own_same old; sight = refl; slot = refl; view = k; took = took_one old v made };
       taken = taken;
       card = card;
       flagged = flagged;

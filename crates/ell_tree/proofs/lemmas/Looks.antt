@@ -23,7 +23,7 @@ use Rattle.ell_core.specs.statements.Effects.{contents_in}
 use Rattle.ell_tree.specs.Counts.{HasUncounted}
 use Rattle.ell_tree.proofs.lemmas.Counts.{took_counted}
 use Rattle.ell_tree.specs.Ledgers.{Owns, present_in}
-use Rattle.ell_cards.proofs.lemmas.views.Steps.{view_seen}
+use Rattle.ell_cards.proofs.lemmas.views.Steps.{own_same, own_trans, view_seen}
 use Rattle.ell_runs.specs.declared.view.Sight.{Sight}
 use Rattle.ell_runs.specs.LookPlaces.{SawLookBegin}
 use Rattle.ell_cards.specs.Models.{SeesInLook}
@@ -36,8 +36,7 @@ use Rattle.ell_runs.proofs.lemmas.views.Depths.{depth_more, went_deeper}
 
 pub only_trans : (a b c : PassModel) (m n k : ℕ) → OnlyLooks a b m → OnlyLooks b c n → m + n ≤ k → OnlyLooks a c k
 only_trans a b c m n k h h' le = record {
-  table = h'.table ∙ h.table;
-  label = h'.label ∙ h.label;
+  own = own_trans a b c h.own h'.own;
   sight = seen_more_trans a.sight b.sight c.sight h.sight h'.sight;
   worker = h'.worker ∙ h.worker;
   answered = h'.answered ∙ h.answered;
@@ -58,8 +57,7 @@ only_trans a b c m n k h h' le = record {
 
 pub only_none_yet : (a : PassModel) → OnlyLooks a a 0
 only_none_yet a = record {
-  table = refl;
-  label = refl;
+  own = own_same a;
   sight = seen_no_more a.sight;
   worker = refl;
   answered = refl;
@@ -83,8 +81,7 @@ only_step : (old new : PassModel) (told : List Told) (here : Option ℕ) (glance
     → {memory : PassMemory} → new ≡ record old { view = record (old.view) { told = told; here = here; glances = glances; looks = looks; made = old.view.made + 1 }; memory = memory; sight = new.sight }
     → HasSeenMore old.sight new.sight → OnlyLooks old new 1
 only_step old new told here glances looks s more = subst (λ (m : PassModel). OnlyLooks old m 1) (sym s) (record {
-  table = refl;
-  label = refl;
+  own = own_same old;
   sight = more;
   worker = refl;
   answered = refl;
@@ -108,8 +105,7 @@ pub only_counted : (a b c : PassModel) (n k : ℕ) → OnlyLooks a b n → HasUn
 only_counted a b c n k h u s =
     let took = took_counted a b (record b { steps = some_more k b.steps }) n k (record { steps = h.steps; made = h.made }) u refl in
     subst (λ (m : PassModel). OnlyLooks a m n) (sym s) (record {
-      table = h.table;
-      label = h.label;
+      own = own_trans a b _ h.own (own_same b);
       sight = h.sight;
       worker = h.worker;
       answered = h.answered;

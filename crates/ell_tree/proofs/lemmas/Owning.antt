@@ -13,7 +13,7 @@ use Rattle.ell_core.specs.declared.put.Put.{Put}
 use Rattle.ell_core.specs.acts.Searching.{put_of, TakesPut}
 use Rattle.ell_core.proofs.lemmas.keeping.Puts.{added, replacing}
 use Rattle.ell_runs.specs.Plans.{TablePlan}
-use Rattle.ell_cards.specs.Models.{PassModel, ledger}
+use Rattle.ell_cards.specs.Models.{KeepsItsOwn, PassModel, ledger}
 use Rattle.ell_runs.specs.Seeing.{SeesBegin, SeesCall, SeesEnd}
 use Rattle.ell_runs.specs.Views.{SameShare}
 use Rattle.ell_runs.specs.declared.view.Act.{Act}
@@ -26,6 +26,7 @@ use Rattle.ell_tree.specs.Tries.{TryTakesValue}
 use Rattle.ell_tree.specs.Keeping.{Keeps, KeepsIn}
 use Rattle.ell_tree.specs.Ledgers.{Owns, TreeModel, present_in}
 use Rattle.ell_tree.specs.Searches.{EndsAt, there_at}
+use Rattle.ell_cards.proofs.lemmas.views.Steps.{own_trans}
 use Rattle.ell_tree.proofs.lemmas.Called.{by_take}
 use Rattle.ell_tree.proofs.lemmas.Keeping.{share_trans}
 use Rattle.ell_tree.proofs.lemmas.Sights.{ends_from, sees_call}
@@ -41,15 +42,14 @@ would_before op p q same would owns =
     sym (ap (λ (l : List (ℕ × Entry)). reply_of op (contents_in (ledger_of l))) same) ∙ would (still_owned (key_of op) p q same owns)
 
 -- an answer after steps that changed neither ledger nor count is one from before them
-pub answers_before : (Sees Sees' : Op → Reply → Option ℕ → Sight → Sight → Type 0) (t : TreeModel) (op : Op) (said : Reply) (p q r : PassModel) → q.table ≡ p.table → q.label ≡ p.label
+pub answers_before : (Sees Sees' : Op → Reply → Option ℕ → Sight → Sight → Type 0) (t : TreeModel) (op : Op) (said : Reply) (p q r : PassModel) → KeepsItsOwn p q
     → q.view.worker.ledger ≡ p.view.worker.ledger → q.sight.mine ≡ p.sight.mine → SameShare p.view q.view → ByItsTake op (λ took. Sees' op said took p.sight r.sight)
     → AnswersAs Sees t op said q r → AnswersAs Sees' t op said p r
-answers_before Sees Sees' t op said p q r table label same count share sees h =
+answers_before Sees Sees' t op said p q r own same count share sees h =
     let back : ledger q ≡ ledger p = ap ledger_of same in
     let there : present_in q ≡ present_in p = ap contents_in back in
     record {
-      table = h.table ∙ table;
-      label = h.label ∙ label;
+      own = own_trans p q r own h.own;
       says = λ owns. h.says (still_owned (key_of op) p q same owns) ∙ ap (reply_of op) there;
       map = λ owns key. h.map (still_owned (key_of op) p q same owns) key ∙ ap (λ m. after op m key) there;
       stays = λ other. h.stays (λ owns. other (still_owned (key_of op) q p (sym same) owns)) ∙ back;
@@ -84,18 +84,17 @@ ends_before op said p q r same h =
 
 pub keeps_answers : (t : TreeModel) (op : Op) (said : Reply) (p q r : PassModel) (n : ℕ) → Keeps p q n → AnswersAs SeesEnd t op said q r → AnswersAs SeesEnd t op said p r
 keeps_answers t op said p q r n keeps h =
-    answers_before SeesEnd SeesEnd t op said p q r keeps.table keeps.label keeps.view.ledger (ap (λ (g : Sight). g.mine) keeps.sight) keeps.view.share (ends_before op said p q r keeps.sight h.sees) h
+    answers_before SeesEnd SeesEnd t op said p q r keeps.own keeps.view.ledger (ap (λ (g : Sight). g.mine) keeps.sight) keeps.view.share (ends_before op said p q r keeps.sight h.sees) h
 
 pub keeps_in_answers : (t : TreeModel) (op : Op) (said : Reply) (p q r : PassModel) (n : ℕ) → KeepsIn t.plan p q n → AnswersAs SeesEnd t op said q r → AnswersAs SeesEnd t op said p r
 keeps_in_answers t op said p q r n keeps h =
-    answers_before SeesEnd SeesEnd t op said p q r keeps.table keeps.label keeps.view.ledger (ap (λ (g : Sight). g.mine) keeps.sight) keeps.view.share (ends_before op said p q r keeps.sight h.sees) h
+    answers_before SeesEnd SeesEnd t op said p q r keeps.own keeps.view.ledger (ap (λ (g : Sight). g.mine) keeps.sight) keeps.view.share (ends_before op said p q r keeps.sight h.sees) h
 
 -- a try that was answered, of an operation that the pass began before
-pub answers_begun : (t : TreeModel) (op : Op) (said : Reply) (p b q r : PassModel) → q.table ≡ p.table → q.label ≡ p.label
-    → q.view.worker.ledger ≡ p.view.worker.ledger → SameShare p.view q.view → SeesBegin op p.sight b.sight → q.sight ≡ b.sight
+pub answers_begun : (t : TreeModel) (op : Op) (said : Reply) (p b q r : PassModel) → KeepsItsOwn p q → q.view.worker.ledger ≡ p.view.worker.ledger → SameShare p.view q.view → SeesBegin op p.sight b.sight → q.sight ≡ b.sight
     → AnswersAs SeesEnd t op said q r → Answers t op said p r
-answers_begun t op said p b q r table label same share begins sight h =
-    answers_before SeesEnd SeesCall t op said p q r table label same (ap (λ (g : Sight). g.mine) sight ∙ begins.mine) share
+answers_begun t op said p b q r own same share begins sight h =
+    answers_before SeesEnd SeesCall t op said p q r own same (ap (λ (g : Sight). g.mine) sight ∙ begins.mine) share
     (by_take op (λ took. SeesEnd op said took q.sight r.sight) (λ took. SeesCall op said took p.sight r.sight) (λ took. sees_call op said took p.sight b.sight q.sight r.sight begins sight) h.sees) h
 
 -- an insert whose search ended at another key would add its own; a swap whose search ended at its key and its first value would swap it; a delete

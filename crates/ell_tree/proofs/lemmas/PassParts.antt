@@ -15,6 +15,7 @@ use Rattle.ell_runs.proofs.lemmas.words.Keys.{ledger_at_start, present_at_start}
 use Rattle.ell_runs.proofs.lemmas.lifetimes.Parts.{parts_on, parts_off}
 use Rattle.ell_runs.proofs.lemmas.lifetimes.Unions.{ledger_united}
 use Rattle.ell_tree.proofs.lemmas.CardsTaken.{claims_append}
+use Rattle.ell_cards.proofs.lemmas.views.Steps.{own_same}
 use Rattle.ell_tree.specs.PassParts.{IsFirst, IsLeftPart, IsRightPart, IsUnion}
 use Rattle.ell_core.specs.declared.view.Entry.{Entry}
 use Rattle.ell_core.specs.declared.view.Entry.TheVariants.{Present, Absent}
@@ -85,7 +86,7 @@ right_ledger keys l k = by (set_of keys k) refl
 
 pub left_part : (keys : List ℕ) (p part : PassModel) → Steps p part (left_view keys p.view) → IsLeftPart keys p part
 left_part keys p part s = subst (IsLeftPart keys p) (sym s) (record {
-  own = refl;
+  own = own_same p;
   ledger = left_ledger keys p.view.worker.ledger;
   answers = refl;
   hindrances = refl;
@@ -93,7 +94,6 @@ left_part keys p part s = subst (IsLeftPart keys p) (sym s) (record {
   taken = refl;
   steps = refl;
   made = refl;
-  label = refl;
   safe = refl;
   milestones = λ cards. refl;
   share = refl;
@@ -105,7 +105,7 @@ left_part keys p part s = subst (IsLeftPart keys p) (sym s) (record {
 
 pub right_part : (keys : List ℕ) (p part : PassModel) → StepsOut p part (right_view keys p.view) → IsRightPart keys p part
 right_part keys p part s = subst (IsRightPart keys p) (sym s) (record {
-  own = refl;
+  own = own_same p;
   ledger = right_ledger keys p.view.worker.ledger;
   answers = refl;
   hindrances = refl;
@@ -113,7 +113,6 @@ right_part keys p part s = subst (IsRightPart keys p) (sym s) (record {
   taken = refl;
   steps = refl;
   made = refl;
-  label = refl;
   safe = refl;
   milestones = λ cards. refl;
   share = refl;
@@ -138,7 +137,7 @@ pub union : (left right both : PassModel)
     → both ≡ record left { view = joined_view left.view right.view; steps = one_more (max left.steps right.steps); sight = joined_sight left.sight right.sight }
     → IsUnion left right both
 union left right both e = subst (IsUnion left right) (sym e) (record {
-  own = refl;
+  own = own_same left;
   ledger = both_ledger left.view.worker.ledger right.view.worker.ledger;
   answers = length-append left.sight.mine right.sight.mine;
   hindrances = length-append left.view.hindrances right.view.hindrances;
@@ -147,7 +146,6 @@ union left right both e = subst (IsUnion left right) (sym e) (record {
   next = refl;
   steps = refl;
   made = refl;
-  label = refl;
   safe = refl;
   milestones = λ cards. (
     milestones_more cards left.view (joined_view left.view right.view) (λ f h. known_left left.view.worker.knows right.view.worker.knows f h) (omega arith),

@@ -4,6 +4,7 @@ use Rattle.ell_ops.specs.declared.op.Op.{Op}
 use Rattle.ell_ops.specs.declared.op.Op.TheVariants.{Delete}
 use Rattle.ell_ops.specs.declared.reply.Reply.TheVariants.{Yes}
 use Rattle.ell_cards.proofs.lemmas.shown.InRuns.{laid_down_last_changes_nothing}
+use Rattle.ell_cards.proofs.lemmas.views.Steps.{own_trans}
 use Rattle.ell_runs.specs.declared.view.Act.{Act}
 use Rattle.ell_runs.specs.Plans.{TablePlan}
 use Rattle.ell_cards.specs.Models.{PassModel}
@@ -53,8 +54,7 @@ not_at plan p q place key was same ends e owns = λ had.
 -- an operation that begins, halts at its only try, and is laid down
 pub halts_laid : (t : TreeModel) (op : Op) (p q r s : PassModel) (n : ℕ) → Begins op [] n p q → SeesBegin op p.sight q.sight → Halts op q r → Lays op r s → LaidDown t op p s
 halts_laid t op p q r s n begins sees halts lays = record {
-  table = lays.table ∙ (halts.table ∙ begins.table);
-  label = lays.label ∙ (halts.label ∙ begins.label);
+  own = own_trans p r s (own_trans p q r begins.own halts.own) lays.own;
   ledger = lays.ledger ∙ (halts.ledger ∙ begins.ledger);
   answered = ap (λ (l : List Act). length l) (sees_none op p.sight q.sight s.sight sees (lays.sight ∙ halts.sight)).mine;
   share = share_trans p.view r.view s.view (share_trans p.view q.view r.view begins.share halts.share) lays.share;

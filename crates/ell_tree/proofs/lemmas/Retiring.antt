@@ -24,6 +24,7 @@ use Rattle.ell_cards.specs.Models.{PassModel}
 use Rattle.ell_runs.specs.Views.{IsTold, Knows, Does}
 use Rattle.ell_cards.specs.Noting.{HasNoted}
 use Rattle.ell_cards.proofs.lemmas.views.DeadNodes.{so_alone}
+use Rattle.ell_cards.proofs.lemmas.views.Steps.{own_same, own_trans}
 use Rattle.ell_tree.specs.declared.searching.Place.{Place}
 use Rattle.ell_tree.specs.Helps.{IsInsert}
 use Rattle.ell_tree.specs.Keeping.{Keeps, KeepsAll, KeepsAllButMet, LosesNothing}
@@ -33,7 +34,7 @@ use Rattle.ell_tree.specs.Searches.{node_with}
 
 -- what a pass kept it has kept once it has noted nodes
 keeps_noted : (a m : PassModel) (retired : Retired) (n : ℕ) → Keeps a m n → Keeps a (record m { memory = record (m.memory) { retired = retired } }) n
-keeps_noted a m retired n h = record { table = h.table; label = h.label; sight = h.sight; slot = h.slot; view = h.view; took = record { steps = h.took.steps; made = h.took.made } }
+keeps_noted a m retired n h = record { own = own_trans a m _ h.own (own_same m); sight = h.sight; slot = h.slot; view = h.view; took = record { steps = h.took.steps; made = h.took.made } }
 
 pub keeps_all_noted : (a m m' : PassModel) (n : ℕ) → KeepsAll a m n → HasNoted m m' → KeepsAll a m' n
 keeps_all_noted a m m' n h same = subst (λ x. KeepsAll a x n) (sym same) (record {

@@ -5,21 +5,20 @@ use Rattle.ell_word.specs.declared.link.Link.{Link}
 use Rattle.ell_word.specs.Link.{IsLink, linked, tag_unit}
 use Rattle.ell_layout.specs.Cards.{clean, stored, put_filling, left_of_card, right_of_card, delete_filling}
 use Rattle.ell_runs.specs.declared.view.View.{View}
-use Rattle.ell_cards.specs.Models.{PassModel, Steps}
+use Rattle.ell_cards.specs.Models.{KeepsItsOwn, PassModel, Steps}
 use Rattle.ell_runs.specs.Views.{Has, latest, earlier, stored_at}
 use Rattle.ell_runs.specs.Sayings.{put_says, delete_says}
 use Rattle.ell_cards.specs.Shown.{shown_words}
 use Rattle.ell_cards.specs.Stepping.{IsWholeIn}
 use Rattle.ell_runs.specs.Changes.{after_fill, tagged, with_stores}
-use Rattle.ell_cards.proofs.lemmas.views.Steps.{view_after}
+use Rattle.ell_cards.proofs.lemmas.views.Steps.{own_same, own_step, own_trans, view_after}
 use Rattle.ell_tree.specs.Counts.{Took}
 use Rattle.ell_tree.specs.Tries.{Fills}
 use Rattle.ell_tree.proofs.lemmas.Counts.{took_none, took_one, took_trans}
 
 -- these words of the card in hand were stored in so many steps, and nothing else was done
 pub record Stores (old new : PassModel) (stores : List (Field × ℕ)) (n : ℕ) : Type 0 where
-  pub table : new.table ≡ old.table
-  pub label : new.label ≡ old.label
+  pub own : KeepsItsOwn old new
   pub sight : new.sight ≡ old.sight
   pub slot : new.memory.slot ≡ old.memory.slot
   pub took : Took old new n
@@ -28,8 +27,7 @@ pub record Stores (old new : PassModel) (stores : List (Field × ℕ)) (n : ℕ)
 -- none at first
 pub stores_none : (a : PassModel) → a.view.stores ≡ [] → Stores a a [] 0
 stores_none a empty = record {
-  table = refl;
-  label = refl;
+  own = own_same a;
   sight = refl;
   slot = refl;
   took = took_none a 0;
@@ -40,8 +38,7 @@ stores_none a empty = record {
 pub stores_more : (a b d : PassModel) (stores : List (Field × ℕ)) (n : ℕ) (f : Field) (x : ℕ) → Stores a b stores n → Steps b d (after_fill f x b.view)
     → Stores a d ((f, x) ∷ stores) (n + 1)
 stores_more a b d stores n f x h s = record {
-  table = ap (λ (p : PassModel). p.table) s ∙ h.table;
-  label = ap (λ (p : PassModel). p.label) s ∙ h.label;
+  own = own_trans a b d h.own (own_step b d s);
   sight = ap (λ (p : PassModel). p.sight) s ∙ h.sight;
   slot = ap (λ (p : PassModel). p.memory.slot) s ∙ h.slot;
   took = took_trans a b d n 1 (n + 1) h.took (subst (λ (p : PassModel). Took b p 1) (sym s) (took_one b (after_fill f x b.view) refl)) (omega arith);
@@ -96,8 +93,7 @@ fills : (a b : PassModel) (n : ℕ) (stores says : List (Field × ℕ)) → Stor
 fills a b n stores says h planned same =
     let filled = ap (λ (v : View). v.stores) h.view in
     let filling = ap (λ (v : View). v.planned) h.view ∙ planned in record {
-      table = h.table;
-      label = h.label;
+      own = h.own;
       sight = h.sight;
       slot = h.slot;
       took = h.took;

@@ -16,6 +16,7 @@ use Rattle.ell_tree.specs.Ledgers.{TreeModel}
 use Rattle.ell_tree.specs.Milestones.{SeesMilestone}
 use Rattle.ell_tree.specs.Searches.{AtRoot, EndsAt, HasSearched}
 use Rattle.ell_tree.specs.Tries.{Halts, TryEnds, TryTook}
+use Rattle.ell_cards.proofs.lemmas.views.Steps.{own_trans}
 use Rattle.ell_tree.proofs.lemmas.Halting.{seek_meets}
 use Rattle.ell_tree.proofs.lemmas.Hindrances.{root_in_try}
 use Rattle.ell_tree.proofs.lemmas.Keeping.{share_trans}
@@ -39,8 +40,7 @@ searched plan op place p q n k at ends = record {
 module _ (p q r : PassModel) (n : ℕ) (k : KeepsAllButSearch p q n) where
   halts_after : (op : Op) → Halts op q r → Halts op p r
   halts_after op h = record {
-    table = h.table ∙ k.keeps.table;
-    label = h.label ∙ k.keeps.label;
+    own = own_trans p q r k.keeps.own h.own;
     sight = h.sight ∙ k.keeps.sight;
     ledger = h.ledger ∙ k.keeps.view.ledger;
     share = share_trans p.view q.view r.view k.keeps.view.share h.share;

@@ -109,7 +109,7 @@ added_once t calls amount was addend old new few fits u h =
     let longer = length-append before.calls old.sight.mine in
     let many = h.many in
     record {
-      idle = (done.table ∙ h.idle.0, done.idle);
+      idle = (done.own.table ∙ h.idle.0, done.idle);
       ownable = done.share.ownable ∙ h.ownable;
       many = omega arith;
       added = omega arith;
@@ -141,7 +141,7 @@ added_both t calls a b left right both h k u =
     let one = h.added in
     let other = k.added in
     record {
-      idle = (u.own ∙ h.idle.0, u.idle);
+      idle = (u.own.table ∙ h.idle.0, u.idle);
       ownable = u.ownable ∙ same_or left.view.worker.shared right.view.worker.shared h.ownable k.ownable;
       many = omega arith;
       added = omega arith;

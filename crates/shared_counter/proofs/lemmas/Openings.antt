@@ -26,10 +26,10 @@ abbrev IsFresh : TreeModel → PassModel → Type 0
 IsFresh t p = IsIdlePassOf t p × (p.view.worker.shared ≡ Some []) × (p.sight.mine ≡ [])
 
 fresh_left : (t : TreeModel) (p part : PassModel) → IsFresh t p → IsLeftPart [] p part → IsFresh t part
-fresh_left t p part f l = ((l.own ∙ f.0.0, l.idle), l.ownable ∙ f.1, ap (λ (g : Sight). g.mine) l.sight ∙ f.2)
+fresh_left t p part f l = ((l.own.table ∙ f.0.0, l.idle), l.ownable ∙ f.1, ap (λ (g : Sight). g.mine) l.sight ∙ f.2)
 
 fresh_right : (t : TreeModel) (p part : PassModel) → IsFresh t p → IsRightPart [] p part → IsFresh t part
-fresh_right t p part f r = ((r.own ∙ f.0.0, r.idle), r.ownable ∙ f.1, ap (λ (g : Sight). g.mine) r.sight)
+fresh_right t p part f r = ((r.own.table ∙ f.0.0, r.idle), r.ownable ∙ f.1, ap (λ (g : Sight). g.mine) r.sight)
 
 none_added : (t : TreeModel) (p : PassModel) → IsFresh t p → HasAdded t 0 0 p
 none_added t p f = record {

@@ -12,16 +12,16 @@ taken_keeps plan c v n w t = (t.keys, t.share, (t.named, t.inside))
 
 -- a pass after one step that took this call, before it counts the step
 pub sees_by : (old new : PassModel) (v : View) → SeesBy old new → new.view ≡ v → Sees old new v
-sees_by old new v by known = λ t. record { table = by.table t; view = known t; steps = by.steps t; label = by.label t; memory = by.memory t; sight = by.sight t }
+sees_by old new v by known = λ t. record { table = by.own.table t; view = known t; steps = by.steps t; label = by.own.label t; memory = by.memory t; sight = by.sight t }
 
 -- or one by which it may have seen more of the history
 pub sees_on_by : (old new : PassModel) (v : View) → SeesOnBy old new → new.view ≡ v → SeesOn old new v
-sees_on_by old new v by known = λ t. record { table = by.table t; view = known t; steps = by.steps t; label = by.label t; memory = by.memory t; sight = new.sight }
+sees_on_by old new v by known = λ t. record { table = by.own.table t; view = known t; steps = by.steps t; label = by.own.label t; memory = by.memory t; sight = new.sight }
 
 -- and after one that may have begun an operation
 pub enters_by : (slots : Option Slots) (c : Call) (old new : PassModel) (v : View) → EntersBy slots c old new → new.view ≡ v → Enters slots old new v
-enters_by slots c old new v by known = λ t. record { table = by.table t; view = known t; steps = by.steps t; label = by.label t; memory = by.memory t; sight = new.sight }
+enters_by slots c old new v by known = λ t. record { table = by.own.table t; view = known t; steps = by.steps t; label = by.own.label t; memory = by.memory t; sight = new.sight }
 
 -- a pass after one step that took this call
 pub steps_by : (old new : PassModel) (v : View) → StepsBy old new → new.view ≡ v → Steps old new v
-steps_by old new v by known = λ t. record { table = by.table t; view = known t; steps = by.steps t; label = by.label t; memory = by.memory t; sight = by.sight t }
+steps_by old new v by known = λ t. record { table = by.own.table t; view = known t; steps = by.steps t; label = by.own.label t; memory = by.memory t; sight = by.sight t }

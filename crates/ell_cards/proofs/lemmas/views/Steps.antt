@@ -1,9 +1,10 @@
-use Rattle.std.proofs.Common.{◌+◌, ◌≤◌, arith, ◌≡◌, ℕ, Bool, sym, ap, subst}
+use Rattle.std.proofs.Common.{◌+◌, ◌≤◌, arith, ◌≡◌, ℕ, Bool, refl, sym, ◌∙◌, ap, subst}
 use Rattle.ell_layout.specs.declared.field.Field.{Field}
 use Rattle.ell_layout.specs.declared.field.Field.TheVariants as field
 use Rattle.ell_runs.specs.declared.view.Told.TheVariants.{Met, Key, Info, Frozen, Expects}
 use Rattle.ell_runs.specs.declared.view.View.{View}
-use Rattle.ell_cards.specs.Models.{PassModel, Sees, Steps}
+use Rattle.ell_runs.specs.declared.view.Sight.{Sight}
+use Rattle.ell_cards.specs.Models.{KeepsItsOwn, PassMemory, PassModel, Sees, Steps}
 use Rattle.ell_runs.specs.Views.{latest, earlier, IsTold}
 use Rattle.ell_runs.proofs.lemmas.views.Afters.{after_key_of, after_info, after_frozen_child}
 use Rattle.ell_runs.specs.Guards.{NamesNode}
@@ -13,6 +14,18 @@ use Rattle.ell_runs.proofs.lemmas.views.Depths.{met_deep, met_there}
 use Rattle.ell_runs.proofs.lemmas.views.Entries.{info_latest, info_node, info_tag}
 use Rattle.ell_word.specs.Link.{link_in}
 use Rattle.ell_layout.specs.Cards.{says_by}
+
+-- nothing but its table and its label is a pass's own
+pub own_same : (a : PassModel) {view : View} {steps : ℕ} {memory : PassMemory} {sight : Sight} → KeepsItsOwn a (record a { view = view; steps = steps; memory = memory; sight = sight })
+own_same a = record { table = refl; label = refl }
+
+pub own_step : (a b : PassModel) {view : View} {steps : ℕ} {memory : PassMemory} {sight : Sight} → b ≡ record a { view = view; steps = steps; memory = memory; sight = sight }
+    → KeepsItsOwn a b
+own_step a b s = record { table = ap (λ (m : PassModel). m.table) s; label = ap (λ (m : PassModel). m.label) s }
+
+-- what it kept twice it kept
+pub own_trans : (a b c : PassModel) → KeepsItsOwn a b → KeepsItsOwn b c → KeepsItsOwn a c
+own_trans a b c h h' = record { table = h'.table ∙ h.table; label = h'.label ∙ h.label }
 
 -- the view after a step
 pub view_after : (old new : PassModel) (v : View) → Steps old new v → new.view ≡ v

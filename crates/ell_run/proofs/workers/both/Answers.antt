@@ -16,5 +16,5 @@ returns-in-Ok g c = λ plan tries parting low high pass left right some_low some
   within =
       within_both plan parting low high pass left right c.args.first.0 c.args.second.0 c.in-Ok.pass some_low some_high halves first.within second.within
       c.in-Ok.ensures.joined;
-  label = c.in-Ok.ensures.joined.label ∙ first.label ∙ label_both pass left low high some_low;
+  label = c.in-Ok.ensures.joined.own.label ∙ first.label ∙ label_both pass left low high some_low;
 }

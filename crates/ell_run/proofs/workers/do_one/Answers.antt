@@ -19,7 +19,7 @@ returns g c =
           within_one c.args.tree.now.plan c.args.parts.now c.args.workers.now 0 c.args.pass c.relabel.new.self c.work_off.new.pass c.part.result.now
           (omega (arith, c.in-len1.len_at_least)) (omega (arith, c.in-len1.len_below)) _ c.relabel.ensures c.part.ensures c.in_ok-piece.ensures.bounded;
       label =
-          c.in_ok-piece.ensures.worked.label ∙ ap (λ pass. pass.label) c.relabel.ensures
+          c.in_ok-piece.ensures.worked.own.label ∙ ap (λ pass. pass.label) c.relabel.ensures
           ∙ first_label c.args.pass c.args.workers.now 0 (omega (arith, c.in-len1.len_at_least));
     }
 

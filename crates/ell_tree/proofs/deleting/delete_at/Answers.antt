@@ -161,8 +161,7 @@ returns-then-ne-clause-ends g c =
     stands c.help.ensures.ended in
     let more = meets_more a.view new.view meets in (
       record {
-        table = search rules;
-        label = search rules;
+        own = search rules;
         sight = search rules;
         ledger = search rules;
         share = met.keeps.view.share;
@@ -200,8 +199,7 @@ returns-then-ne-2-clause-ends g c =
     stands help.ensures.ended in
     let more = meets_more a.view new.view meets in (
       record {
-        table = search rules;
-        label = search rules;
+        own = search rules;
         sight = search rules;
         ledger = search rules;
         share = met.keeps.view.share;
@@ -233,8 +231,7 @@ returns-in-NoneLeft-clause-ends g c =
     (parent_way c.args.key place.node place.parent above new.view
     (claims.0.search ∙ (ends.at.search ∙ ap (λ o. below place.node place.parent (seen_any o)) c.in-Some.is)) calm) free in (
       record {
-        table = search rules;
-        label = search rules;
+        own = search rules;
         sight = search rules;
         ledger = search rules;
         share = c.take_card.ensures.keeps.view.share;
@@ -265,8 +262,7 @@ returns-in-Lost-clause-ends g c =
     (parent_way c.args.key place.node place.parent above new.view
     (claims.0.search ∙ (ends.at.search ∙ ap (λ o. below place.node place.parent (seen_any o)) c.in-Some.is)) calm) free in (
       record {
-        table = search rules;
-        label = search rules;
+        own = search rules;
         sight = search rules;
         ledger = search rules;
         share = c.take_card.ensures.keeps.view.share;
@@ -301,8 +297,7 @@ returns-in-Err-clause-ends g c =
     (c.take_card.ensures.keeps.view.earlier a.view.hindrances (searched_in_try c.args.steps.table.now.plan (Delete c.args.key) c.args.place a.view c.requires.searched))) in
     let more = meets_more a.view t.view taken in (
       record {
-        table = search rules;
-        label = search rules;
+        own = search rules;
         sight = search rules;
         ledger = search rules;
         share = share_trans a.view f.view new.view (share_trans a.view t.view f.view c.take_card.ensures.keeps.view.share c.flag_delete.ensures.keeps.view.share)

@@ -153,8 +153,7 @@ returns-then-ne-clause-ends g c =
     c.help.ensures.ended in
     let more = meets_more a.view new.view meets in (
       record {
-        table = search rules;
-        label = search rules;
+        own = search rules;
         sight = search rules;
         ledger = search rules;
         share = share_trans a.view s.new.pass.view new.view s.ensures.keeps_but_search.keeps.view.share c.help.ensures.keeps_but_met.keeps.view.share;
@@ -186,8 +185,7 @@ returns-in-NoneLeft-clause-ends g c =
     let way = way_free new.view update.state update.card (way_of c.args.op new.view)
     (put_way c.args.op c.args.what c.requires.puts place.node place.parent place.grandparent new.view (claims.0.search ∙ s.ensures.ends.at.search)) calm in (
       record {
-        table = search rules;
-        label = search rules;
+        own = search rules;
         sight = search rules;
         ledger = search rules;
         share = share_trans a.view s.new.pass.view new.view s.ensures.keeps_but_search.keeps.view.share c.take_card.ensures.keeps.view.share;
@@ -216,8 +214,7 @@ returns-in-Lost-clause-ends g c =
     (put_way c.args.op c.args.what c.requires.puts place.node place.parent place.grandparent new.view (claims.0.search ∙ s.ensures.ends.at.search)) calm in
     let quiet = ap length s.ensures.keeps_but_search.hindrances in (
       record {
-        table = search rules;
-        label = search rules;
+        own = search rules;
         sight = search rules;
         ledger = search rules;
         share = share_trans a.view s.new.pass.view new.view s.ensures.keeps_but_search.keeps.view.share c.take_card.ensures.keeps.view.share;
@@ -281,8 +278,7 @@ returns-in-Err-clause-ends g c =
     (c.take_card.ensures.keeps.view.earlier a.view.hindrances searched)) in
     let more = meets_more a.view t.view taken in (
       record {
-        table = search rules;
-        label = search rules;
+        own = search rules;
         sight = search rules;
         ledger = search rules;
         share = share_trans a.view f.view new.view (share_trans a.view t.view f.view (share_trans a.view s.new.pass.view t.view s.ensures.keeps_but_search.keeps.view.share

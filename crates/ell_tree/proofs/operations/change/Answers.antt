@@ -1,6 +1,7 @@
 use Rattle.std.proofs.Common.{◌≡◌, ◌+◌, ◌*◌, ◌∙◌, List, sym, subst, ap, length, arith, rules, eq-eqb, eqb-true}
 use Rattle.ell_runs.proofs.lemmas.runs.Tries.{more_tries}
 use Rattle.ell_cards.proofs.lemmas.shown.InRuns.{laid_down_last_changes_nothing}
+use Rattle.ell_cards.proofs.lemmas.views.Steps.{own_trans}
 use Rattle.ell_runs.specs.declared.view.Act.{Act}
 use Rattle.ell_runs.specs.Seeing.{SeesBegin}
 use Rattle.ell_tree.specs.Ends.{changes_by, try_steps_in}
@@ -37,8 +38,7 @@ loop-round-preserved g c =
     let begun = begun_meets (way_of op l.pass.view) c.args.pass.now.view l.pass.view c.restart.new.pass.view i.meets i.way begins.hindrances begins.knows in
     record {
       same = i.same;
-      table = halts.table ∙ (begins.table ∙ i.table);
-      label = halts.label ∙ (begins.label ∙ i.label);
+      own = own_trans c.args.pass.now c.restart.new.pass c.try_once.new.pass (own_trans c.args.pass.now l.pass c.restart.new.pass i.own begins.own) halts.own;
       sight = subst (SeesBegin op c.args.pass.now.sight) (sym (halts.sight ∙ c.restart.ensures.sight)) i.sight;
       ledger = halts.ledger ∙ (begins.ledger ∙ i.ledger);
       share = share_trans c.args.pass.now.view c.restart.new.pass.view c.try_once.new.pass.view
@@ -68,8 +68,7 @@ loop-round-init g c =
     let still = milestones_still cards c.args.pass.now.view c.begin.new.pass.view start.knows start.least in
     record {
       same = search rules;
-      table = search rules;
-      label = search rules;
+      own = search rules;
       sight = c.begin.ensures.sees;
       ledger = search rules;
       share = start.share;
@@ -190,7 +189,7 @@ returns-in-Answered-clause-ends g c =
     let i = l.invariant in
     let begins = c.restart.ensures.begins c.args.op i.stops.busy (λ none. i.root (eqb-true l.round 0 none)) in
     let begun = begun_meets (way_of c.args.op l.pass.view) a l.pass.view c.restart.new.pass.view i.meets i.way begins.hindrances begins.knows in (
-      answers_begun c.args.steps.table.now c.args.op _ c.args.pass.now l.pass c.restart.new.pass c.try_once.new.pass (begins.table ∙ i.table) (begins.label ∙ i.label)
+      answers_begun c.args.steps.table.now c.args.op _ c.args.pass.now l.pass c.restart.new.pass c.try_once.new.pass (own_trans c.args.pass.now l.pass c.restart.new.pass i.own begins.own)
           (begins.ledger ∙ i.ledger) (share_trans a l.pass.view c.restart.new.pass.view i.share begins.share) i.sight c.restart.ensures.sight c.in-Answered.ensures.ends.0,
       meets_trans a c.restart.new.pass.view c.try_once.new.pass.view begun c.in-Answered.ensures.ends.1,
     )
@@ -210,8 +209,7 @@ returns-in-Spent-clause-ends g c =
     let kept = share_trans a l.pass.view c.restart.new.pass.view i.share begins.share in
     let sees = sees_none op c.args.pass.now.sight l.pass.sight c.leave.new.pass.sight i.sight (lays.sight ∙ (halts.sight ∙ c.restart.ensures.sight)) in (
       record {
-        table = search rules;
-        label = search rules;
+        own = search rules;
         ledger = search rules;
         answered = ap (λ (l : List Act). length l) sees.mine;
         share = share_trans a tried c.leave.new.pass.view (share_trans a c.restart.new.pass.view tried kept halts.share) lays.share;
@@ -237,8 +235,7 @@ returns-clause-ends g c =
     let sees = sees_none op c.args.pass.now.sight l.pass.sight c.leave-2.new.pass.sight i.sight lays.sight in
     let n = begun_count (way_of op l.pass.view) l.pass.view c.leave-2.new.pass.view lays.hindrances in (
       record {
-        table = search rules;
-        label = search rules;
+        own = search rules;
         ledger = search rules;
         answered = ap (λ (l : List Act). length l) sees.mine;
         share = share_trans a l.pass.view c.leave-2.new.pass.view i.share lays.share;

@@ -6,6 +6,7 @@ use Rattle.ell_tree.specs.Ends.{try_steps_in}
 use Rattle.ell_tree.specs.Hindrances.{AreOver, Meets, way_of}
 use Rattle.ell_tree.specs.Ledgers.{Owns, present_in}
 use Rattle.ell_runs.specs.Seeing.{SeesBegin}
+use Rattle.ell_cards.specs.Models.{KeepsItsOwn}
 use Rattle.ell_cards.specs.Stepping.{LetsGo}
 use Rattle.ell_runs.specs.Views.{SameShare}
 use Rattle.ell_tree.specs.Searches.{AtRoot}
@@ -19,8 +20,7 @@ use Rattle.ell_core.specs.statements.Effects.{reply_of_change}
 abbrev pub invariant-loop-round : goal.invariant-loop-round
 invariant-loop-round g l = record {
   same : (l.op ≡ l.fn.op) × (l.steps.table.now ≡ l.fn.steps.table.now) × (l.tries ≡ l.fn.tries);
-  table : l.pass.table ≡ l.fn.pass.table;
-  label : l.pass.label ≡ l.fn.pass.label;
+  own : KeepsItsOwn l.fn.pass l.pass;
   sight : SeesBegin l.op l.fn.pass.sight l.pass.sight;
   ledger : l.pass.view.worker.ledger ≡ l.fn.pass.view.worker.ledger;
   share : SameShare l.fn.pass.view l.pass.view;

@@ -18,7 +18,7 @@ returns-clause-answers g c =
     let begins = c.begin.ensures.begins in
     let answers = c.answer.ensures.answers (Find c.args.key) (c.search-place.ensures.keeps_but_search.keeps.view.operation ∙ begins.root.busy) in
     subst (λ r. Answers c.args.steps.table.now (Find c.args.key) r c.args.pass.now c.answer.new.pass) c.found.ensures
-    (answers_begun c.args.steps.table.now (Find c.args.key) _ c.args.pass.now c.begin.new.pass c.begin.new.pass c.answer.new.pass begins.table begins.label begins.ledger begins.share c.begin.ensures.sees refl
+    (answers_begun c.args.steps.table.now (Find c.args.key) _ c.args.pass.now c.begin.new.pass c.begin.new.pass c.answer.new.pass begins.own begins.ledger begins.share c.begin.ensures.sees refl
     (keeps_answers c.args.steps.table.now (Find c.args.key) _ c.begin.new.pass c.search-place.new.pass c.answer.new.pass _ c.search-place.ensures.keeps_but_search.keeps answers))
 
 -- an operation that begins, searches and is answered meets nothing; what was known stays known, and nothing was given out

@@ -42,7 +42,7 @@ loop-steps-init g c =
     }
 
 pub look_key-node_key-requires-clause-own : goal.look_key-node_key-requires-clause-own
-look_key-node_key-requires-clause-own g c = c.loop-steps.invariant.comes.only.table ∙ c.requires.may.0
+look_key-node_key-requires-clause-own g c = c.loop-steps.invariant.comes.only.own.table ∙ c.requires.may.0
 
 pub look_key-node_key-requires-clause-met : goal.look_key-node_key-requires-clause-met
 look_key-node_key-requires-clause-met g c = c.loop-steps.invariant.comes.met
@@ -51,7 +51,7 @@ pub look_down-child-requires-clause-own : goal.look_down-child-requires-clause-o
 look_down-child-requires-clause-own g c =
     let l = c.loop-steps in
     let k = c.look_key-node_key in
-    (key_only l.pass k.new.pass l.node k.result k.ensures.step).table ∙ (l.invariant.comes.only.table ∙ c.requires.may.0)
+    (key_only l.pass k.new.pass l.node k.result k.ensures.step).own.table ∙ (l.invariant.comes.only.own.table ∙ c.requires.may.0)
 
 pub look_down-child-requires-clause-may : goal.look_down-child-requires-clause-may
 look_down-child-requires-clause-may g c =
@@ -92,7 +92,7 @@ loop-steps-preserved g c =
     }
 
 pub look_key-leaf_key-requires-clause-own : goal.look_key-leaf_key-requires-clause-own
-look_key-leaf_key-requires-clause-own g c = c.loop-steps.invariant.comes.only.table ∙ c.requires.may.0
+look_key-leaf_key-requires-clause-own g c = c.loop-steps.invariant.comes.only.own.table ∙ c.requires.may.0
 
 pub look_key-leaf_key-requires-clause-met : goal.look_key-leaf_key-requires-clause-met
 look_key-leaf_key-requires-clause-met g c = c.loop-steps.invariant.comes.met
@@ -115,7 +115,7 @@ pub look_value-requires-clause-own : goal.look_value-requires-clause-own
 look_value-requires-clause-own g c =
     let l = c.loop-steps in
     let k = c.look_key-leaf_key in
-    (key_only l.pass k.new.pass l.node k.result k.ensures.step).table ∙ (l.invariant.comes.only.table ∙ c.requires.may.0)
+    (key_only l.pass k.new.pass l.node k.result k.ensures.step).own.table ∙ (l.invariant.comes.only.own.table ∙ c.requires.may.0)
 
 pub look_value-requires-clause-met : goal.look_value-requires-clause-met
 look_value-requires-clause-met g c =

@@ -3,6 +3,7 @@ use Rattle.ell_ops.specs.declared.op.Op.TheVariants.{Delete}
 use Rattle.ell_ops.specs.declared.reply.Reply.TheVariants.{Yes}
 use Rattle.ell_ops.specs.Meaning.{yes_if}
 use Rattle.ell_runs.proofs.lemmas.runs.Tries.{more_tries}
+use Rattle.ell_cards.proofs.lemmas.views.Steps.{own_trans}
 use Rattle.ell_tree.specs.Ends.{AnswersAs, TakesValue, is_value}
 use Rattle.ell_tree.specs.Searches.{there_at}
 use Rattle.ell_tree.specs.declared.trying.Tried.TheVariants.{Hindered, Spent}
@@ -44,7 +45,7 @@ returns-then-not-is_value-clause-removes g c =
     let new = c.leave.new.pass in
     let lays = c.leave.ensures.lays (Delete c.args.key) (keeps.view.operation ∙ begins.root.busy) in
     let other : is_value c.args.was (there_at s.result c.args.key) ≡ false = search rules in (
-      untouched_still a new (lays.table ∙ (keeps.table ∙ begins.table)) (lays.label ∙ (keeps.label ∙ begins.label))
+      untouched_still a new (own_trans a s.new.pass new (own_trans a c.begin.new.pass s.new.pass begins.own keeps.own) lays.own)
           (lays.ledger ∙ (keeps.view.ledger ∙ begins.ledger))
           (share_trans a.view s.new.pass.view new.view (share_trans a.view c.begin.new.pass.view s.new.pass.view begins.share keeps.view.share) lays.share) lays.idle lays.outside
           (sees_none (Delete c.args.key) a.sight c.begin.new.pass.sight new.sight c.begin.ensures.sees (lays.sight ∙ keeps.sight)),
@@ -100,7 +101,7 @@ returns-in-Answered-clause-removes g c =
     let yes : AnswersAs SeesEnd t op Yes s.new.pass d = subst (λ o. AnswersAs SeesEnd t op (yes_if (is_some o)) s.new.pass d) had c.in-Answered.ensures.ends.0 in
     let took : TakesValue t key s.new.pass d (Some c.args.was) × SeesEnd op Yes (Some c.args.was) s.new.pass.sight d.sight =
     subst (λ o. TakesValue t key s.new.pass d o × SeesEnd op (yes_if (is_some o)) o s.new.pass.sight d.sight) had c.in-Answered.ensures.took in (
-      answers_begun t op Yes a b b d begins.table begins.label begins.ledger begins.share c.begin.ensures.sees refl (keeps_answers t op Yes b s.new.pass d _ keeps yes),
+      answers_begun t op Yes a b b d begins.own begins.ledger begins.share c.begin.ensures.sees refl (keeps_answers t op Yes b s.new.pass d _ keeps yes),
       takes_before t key (Some c.args.was) a s.new.pass d (keeps.view.ledger ∙ begins.ledger) took.0,
       sees_call op Yes (Some c.args.was) a.sight b.sight s.new.pass.sight d.sight c.begin.ensures.sees keeps.sight took.1,
     )

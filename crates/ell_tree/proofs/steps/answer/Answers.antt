@@ -30,8 +30,7 @@ returns-clause-answers g c op busy =
     let takes = subst (λ (o : Op). IfSome c.args.took (TakesBy old.view o c.args.said)) does may.takes in
     let ends = c.answer.ensures.ends op busy in
     record {
-      table = search rules;
-      label = search rules;
+      own = search rules;
       says = subst (λ (o : Op). Owns old (key_of o) → c.args.said ≡ reply_of o (present_in old)) is a.says;
       map = subst (λ (o : Op). Owns old (key_of o) → (key : ℕ) → present_in new key ≡ after o (present_in old) key) is a.map;
       stays = subst (λ (o : Op). ¬ Owns old (key_of o) → ledger new ≡ ledger old) is (λ other. a.stays (none_of (ledger_of old.view.worker.ledger (key_of a.op)) other));

@@ -73,7 +73,7 @@ loop-steps-smaller g c =
     omega arith
 
 pub look_key-node_key-requires-clause-own : goal.look_key-node_key-requires-clause-own
-look_key-node_key-requires-clause-own g c = c.loop-steps.invariant.keeps.on.only.table ∙ c.requires.own
+look_key-node_key-requires-clause-own g c = c.loop-steps.invariant.keeps.on.only.own.table ∙ c.requires.own
 
 pub look_key-node_key-requires-clause-met : goal.look_key-node_key-requires-clause-met
 look_key-node_key-requires-clause-met g c = c.loop-steps.invariant.keeps.stands.met
@@ -82,7 +82,7 @@ pub look_down-child-requires-clause-own : goal.look_down-child-requires-clause-o
 look_down-child-requires-clause-own g c =
     let l = c.loop-steps in
     let k = c.look_key-node_key in
-    (key_on l.pass k.new.pass l.here.node k.result k.ensures.step).only.table ∙ (l.invariant.keeps.on.only.table ∙ c.requires.own)
+    (key_on l.pass k.new.pass l.here.node k.result k.ensures.step).only.own.table ∙ (l.invariant.keeps.on.only.own.table ∙ c.requires.own)
 
 pub returns : goal.returns
 returns g c =
