@@ -1,9 +1,10 @@
-use Rattle.std.specs.Prelude.{◌≡◌, Some, []}
+use Rattle.std.specs.Prelude.{◌≡◌, ◌≤◌, ℕ, Some, []}
 use Rattle.ell_cards.specs.declared.view.Period.{Period}
 use Rattle.ell_runs.specs.declared.view.Slots.{Slots}
 use Rattle.ell_cards.specs.Memories.{SeatModel}
 use Rattle.ell_cards.specs.Models.{TableModel}
 use Rattle.ell_cards.specs.Periods.{StandsAs}
+use Rattle.ell_cards.specs.SlotWords.{slot_of}
 
 -- a seat steps on the words of a table, and holds no slot of the memory
 pub record IsSeatOf (table : TableModel) (seat : SeatModel) : Type 0 where
@@ -15,6 +16,13 @@ pub record IsSeatWithSlots (table : TableModel) (s : Slots) (seat : SeatModel) :
   pub own : seat.table_id ≡ table.id
   pub empty : seat.me.1 ≡ []
   pub slots : table.plan.slots ≡ Some s
+
+-- and this card lies in one of these slots
+pub record IsSeatWithSlotOf (table : TableModel) (s : Slots) (c : ℕ) (seat : SeatModel) : Type 0 where
+  pub own : seat.table_id ≡ table.id
+  pub empty : seat.me.1 ≡ []
+  pub slots : table.plan.slots ≡ Some s
+  pub inside : slot_of c ≤ s.last
 
 -- a seat knows of the tree and of its history what it knew, and is a seat of the same table, which holds no slot
 pub record LeavesTree (old new : SeatModel) : Type 0 where

@@ -32,6 +32,8 @@ pub mod Ages
 pub mod CardNodes
 -- that dead nodes are noted
 pub mod Noting
+-- changes that are over
+pub mod Ended
 -- the rule of a table: its tree, its history, and its periods
 pub mod Whole
 pub mod SeenLaws

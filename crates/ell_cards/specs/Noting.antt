@@ -2,6 +2,7 @@
 use Rattle.std.specs.Prelude.{◌≡◌, ◌≢◌, ℕ, ◌+◌, ◌*◌, ◌%◌, ◌<◌, if◌then◌else◌, Bool, true, false, Some}
 use Rattle.ell_word.specs.Node.{card}
 use Rattle.ell_cards.specs.declared.card_nodes.CardNodes.{CardNodes}
+use Rattle.ell_cards.specs.declared.view.Known.{Known}
 use Rattle.ell_cards.specs.declared.view.Retired.{Retired}
 use Rattle.ell_runs.specs.declared.view.Slots.{Slots}
 use Rattle.ell_runs.specs.declared.view.Told.TheVariants.{Met}
@@ -12,6 +13,7 @@ use Rattle.ell_runs.specs.Dead.{HasTakenOut, KnowsNeverComes}
 use Rattle.ell_cards.specs.Models.{PassModel}
 use Rattle.ell_runs.specs.Views.{IsTold}
 use Rattle.ell_cards.specs.Retiring.{how_many_noted, is_done, with_retired}
+use Rattle.ell_cards.specs.Shown.{shown}
 use Rattle.ell_cards.specs.SlotWords.{card_by, has_slot_in, slot_of, turn_in, turn_of}
 
 -- this is so of each of these nodes of a card
@@ -45,6 +47,12 @@ pub record MayNote (v : View) (taken_out : Bool) (c : ℕ) (nodes : CardNodes) (
   pub used : word % 8 ≢ 0
   pub there : LiesThereStill v taken_out c word
   pub dead : KnowsDeadNodes v (card_by (slot_of c) word) nodes
+
+-- and it has read that word in the card's slot
+pub record HasReadToNote (k : Known) (taken_out : Bool) (c : ℕ) (nodes : CardNodes) (word : ℕ) : Type 0 where
+  pub retires : MayRetire (shown k.tree) taken_out c nodes
+  pub read : k.period.read ≡ Some (record { slot = slot_of c; word = word })
+  pub may : MayNote k.tree taken_out c nodes word
 
 -- A pass that was to exchange that word has found another one: if some of the nodes are left by it, the pass may note
 -- them there, and it notes more of the three than the first one does.

@@ -1,4 +1,4 @@
-use Rattle.std.specs.Prelude.{◌≡◌, ℕ, Bool, Option, None, Some, List, [], ◌-◌}
+use Rattle.std.specs.Prelude.{◌≡◌, ◌≢◌, ℕ, Bool, Option, None, Some, List, [], ◌-◌}
 use mathlib.Core.Option.{some}
 use lib.ListN.{get_elem?}
 use Rattle.std.specs.List.Sorted.{IsStrictlyIncreasing}
@@ -86,6 +86,10 @@ IsInside plan v = IsNamed plan.last_card v × IsPlaced (last_slot plan) v
 -- a pass has taken the slot of a card, and has stored each word of it that is said
 abbrev pub IsWholeIn : PassModel → ℕ → (Field → Bool) → Type 0
 IsWholeIn p c said = (p.memory.slot ≡ Some c) × HasStoredAll p.view said
+
+-- a pass may store the words of a card: where cards lie in slots, it has taken the card's one last
+abbrev pub HasSlotOf : TablePlan → ℕ → PassModel → Type 0
+HasSlotOf plan c p = plan.slots ≢ None → p.memory.slot ≡ Some c
 
 -- a call asks this of the slots, if the table has places
 abbrev pub MayInTable : TablePlan → PassModel → Call → Type 0

@@ -17,6 +17,7 @@ mod own_card;
 mod pass;
 mod period;
 mod places;
+mod retiring;
 mod rule;
 mod share;
 mod slot_words;

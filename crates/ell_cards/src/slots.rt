@@ -2,41 +2,33 @@
 //! of the three nodes of the card are dead. Once all three are, the slot is set free: the word then has a reading of
 //! the clock as its stamp, and a pass takes the slot for another card once that stamp is safe. The numbers of a later
 //! turn that child words do not tell from the first have no slots. The steps are not counted.
-ghost use prog.Atomic.{either};
-ghost use Rattle.std.specs.Prelude.{◌==◌, ◌≡◌, ◌≢◌, ◌+◌, ◌*◌, ◌<◌, ◌≤◌, ◌%◌, ◌⊎◌, ◌||◌, ℕ, IfSome, None, Some, true, false};
-ghost use Rattle.ell_word.specs.Node.{card, turn_size};
+ghost use Rattle.std.specs.Prelude.{◌≡◌, ◌≢◌, ◌<◌, ◌≤◌, ◌%◌, ℕ, IfSome, None, Some, true, false};
+ghost use Rattle.ell_word.specs.Node.{turn_size};
 ghost use Rattle.ell_cards.specs.Ages.{MayStamp};
-ghost use Rattle.ell_cards.specs.CardNodes.{NotesToo, has_node, node_alone};
-ghost use Rattle.ell_runs.specs.Dead.{HasTakenOut};
 ghost use Rattle.ell_cards.specs.Frames.{IsSeatOf, IsSeatWithSlots, KeepsSafe, LeavesTree, StandsStill};
 ghost use Rattle.ell_runs.specs.Guards.{MayFill};
-ghost use Rattle.ell_cards.specs.Periods.{clock_word, LostIs, after_freeing, after_noting, after_noting_read, after_read, after_stamp, after_taking, has_slot, last_reading, slot_word};
-ghost use Rattle.ell_cards.specs.Retiring.{is_done, none_retired, retires_if, with_retired};
+ghost use Rattle.ell_cards.specs.Periods.{clock_word, LostIs, after_freeing, after_read, after_stamp, after_taking, has_slot, last_reading, slot_word};
+ghost use Rattle.ell_cards.specs.Retiring.{none_retired};
 ghost use Rattle.ell_cards.specs.Models.{LooksAround, LooksForSlot};
-ghost use Rattle.ell_cards.specs.Noting.{AreTakenOut, HasNoted, MayNote, MayNoteNext, MayRetire, NeverCome, retires_in};
-ghost use Rattle.ell_cards.specs.SlotWords.{card_by, has_slot_in, is_noted, slot_of, stamp_in, turn_of};
+ghost use Rattle.ell_cards.specs.SlotWords.{card_by, has_slot_in, slot_of, stamp_in, turn_of};
 ghost use Rattle.ell_cards.specs.Stepping.{MayGoOn};
 ghost use Rattle.ell_runs.specs.Holding.{HoldsWaiting};
-ghost use Rattle.ell_cards.specs.Shown.{shown};
 
-use crate::card_nodes::CardNodes;
 use crate::memory::{Memory, Seat};
 use crate::pass::Pass;
 use crate::rule::PeriodTelling;
 use crate::slot_words::{
-    has_slot, is_done, is_for_all, is_free_before, next_with_slot, numbers_per_look, slot_of,
-    slot_word, turn_of,
+    has_slot, is_for_all, is_free_before, next_with_slot, numbers_per_look, slot_of, slot_word,
+    turn_of,
 };
 use crate::table::CardTable;
-use crate::view::SlotRead;
 use ell_runs::Slots;
-use ell_word::card_of;
 use std::marker::Brand;
 
 impl<M: Memory> CardTable<M> {
-    // Returns the address of the word of a slot, which is one of the table.
+    /// Returns the address of the word of a slot, which is one of the table.
     #[inline(always)]
-    fn slot_address(&self, slots: Slots, slot: u64) -> usize
+    pub(crate) fn slot_address(&self, slots: Slots, slot: u64) -> usize
         requires slots { self.now.plan.slots ≡ Some slots }
         requires slot { slot ≤ slots.last }
         ensures word { result ≡ slot_word slots slot }
@@ -75,9 +67,9 @@ impl<M: Memory> CardTable<M> {
         self.period_load::<J>(seat, self.clock_address(slots))
     }
 
-    // Reads the clock for the card that lies in a slot by this word: whose nodes the pass knows to be dead, or which it
-    // has laid aside. A card whose slot the pass has taken has a slot of the table.
-    fn stamp(&self, seat: &mut Seat<M>, slots: Slots, slot: u64, word: u64) -> u64
+    /// Reads the clock for the card that lies in a slot by this word: whose nodes the pass knows to be dead, or which it
+    /// has laid aside. A card whose slot the pass has taken has a slot of the table.
+    pub(crate) fn stamp(&self, seat: &mut Seat<M>, slots: Slots, slot: u64, word: u64) -> u64
         requires seat { IsSeatWithSlots self.now slots seat.old }
         requires dead { MayStamp seat.old.me.0 (card_by slot word) }
         ensures stamp { seat.new.me.0.period ≡ after_stamp (card_by slot word) result seat.old.me.0.period }
@@ -86,193 +78,6 @@ impl<M: Memory> CardTable<M> {
         ensures leaves { LeavesTree seat.old seat.new }
     {
         self.stamp_load::<Brand>(seat, slots, slot, word)
-    }
-
-    // Loads the word of the slot of a card of which the pass is to note nodes, and tells what its caller picked.
-    #[inline(always)]
-    fn load_noted<J: PeriodTelling>(
-        &self,
-        seat: &mut Seat<M>,
-        slots: Slots,
-        card: u64,
-        nodes: CardNodes,
-        taken_out: bool,
-    ) -> u64
-        requires seat { IsSeatWithSlots self.now slots seat.old }
-        requires slot { slot_of card ≤ slots.last }
-        requires rule { MayGoOn self.now.plan seat.old.me.0 (slot_word slots (slot_of card)) (λ n. n) J.then }
-        ensures told { J.then result seat.new.me.0.period }
-        ensures leaves { LeavesTree seat.old seat.new }
-    {
-        let _ = (nodes, taken_out);
-        self.period_load::<J>(seat, self.slot_address(slots, slot_of(card)))
-    }
-
-    // Exchanges the word of the slot of a card of which the pass notes nodes for another one, if it is this still, and
-    // tells what its caller picked. Returns the word that it found.
-    #[inline(always)]
-    fn exchange_noted<J: PeriodTelling>(
-        &self,
-        seat: &mut Seat<M>,
-        slots: Slots,
-        card: u64,
-        nodes: CardNodes,
-        taken_out: bool,
-        word: u64,
-        other: u64,
-    ) -> u64
-        requires seat { IsSeatWithSlots self.now slots seat.old }
-        requires slot { slot_of card ≤ slots.last }
-        requires rule { MayGoOn self.now.plan seat.old.me.0 (slot_word slots (slot_of card))
-            (λ n. either (n == word) other n) J.then }
-        ensures told { J.then result seat.new.me.0.period }
-        ensures leaves { LeavesTree seat.old seat.new }
-    {
-        let _ = (nodes, taken_out);
-        self.period_exchange::<J>(seat, self.slot_address(slots, slot_of(card)), word, other)
-    }
-
-    // Reads the word of the slot of a card of which the pass is to note nodes: nodes that its card in hand has taken
-    // out of the tree, of whose numbers it knows the low bits, or nodes of that card that never come. Unless the word
-    // shows that none of them is left, the card lies there still.
-    fn read_to_note(
-        &self,
-        seat: &mut Seat<M>,
-        slots: Slots,
-        card: u64,
-        nodes: CardNodes,
-        taken_out: bool,
-    ) -> u64
-        requires seat { IsSeatWithSlots self.now slots seat.old }
-        requires slot { slot_of card ≤ slots.last }
-        requires retires { MayRetire (shown seat.old.me.0.tree) taken_out card nodes }
-        ensures read { seat.new.me.0.period ≡ after_noting_read taken_out card nodes result seat.old.me.0.period }
-        ensures may { is_done taken_out card nodes result ≡ false →
-            MayNote seat.old.me.0.tree taken_out card nodes result }
-        ensures leaves { LeavesTree seat.old seat.new }
-    {
-        self.load_noted::<Brand>(seat, slots, card, nodes, taken_out)
-    }
-
-    // Notes such nodes by another word of the slot, not all three of whose nodes it notes, if its word is the one that
-    // was read. Returns the word that it found: if that is another one, the pass has read it by that.
-    fn note_more(
-        &self,
-        seat: &mut Seat<M>,
-        slots: Slots,
-        card: u64,
-        nodes: CardNodes,
-        taken_out: bool,
-        word: u64,
-        noted: u64,
-    ) -> u64
-        requires seat { IsSeatWithSlots self.now slots seat.old }
-        requires slot { slot_of card ≤ slots.last }
-        requires retires { MayRetire (shown seat.old.me.0.tree) taken_out card nodes }
-        requires read { seat.old.me.0.period.read ≡ Some (record { slot = slot_of card; word = word }) }
-        requires may { MayNote seat.old.me.0.tree taken_out card nodes word }
-        requires notes { NotesToo nodes word noted }
-        requires left { noted % 8 ≢ 0 }
-        ensures period { seat.new.me.0.period ≡
-            after_noting (result == word) taken_out card nodes result seat.old.me.0.period }
-        ensures next { MayNoteNext seat.old.me.0.tree taken_out card nodes word result }
-        ensures leaves { LeavesTree seat.old seat.new }
-    {
-        self.exchange_noted::<Brand>(seat, slots, card, nodes, taken_out, word, noted)
-    }
-
-    // Sets the slot free instead, as these are the last of its card's nodes.
-    fn note_last(
-        &self,
-        seat: &mut Seat<M>,
-        slots: Slots,
-        card: u64,
-        nodes: CardNodes,
-        taken_out: bool,
-        word: u64,
-    ) -> u64
-        requires seat { IsSeatWithSlots self.now slots seat.old }
-        requires slot { slot_of card ≤ slots.last }
-        requires retires { MayRetire (shown seat.old.me.0.tree) taken_out card nodes }
-        requires read { seat.old.me.0.period.read ≡ Some (record { slot = slot_of card; word = word }) }
-        requires may { MayNote seat.old.me.0.tree taken_out card nodes word }
-        requires last { (i : ℕ) → i < 3 → (is_noted word i ≡ true) ⊎ (has_node nodes i ≡ true) }
-        ensures period { (reading : ℕ) ×
-            (seat.new.me.0.period ≡ after_noting (result == word) taken_out card nodes result
-            (after_stamp (card_by (slot_of card) word) reading seat.old.me.0.period)) }
-        ensures next { MayNoteNext seat.old.me.0.tree taken_out card nodes word result }
-        ensures leaves { LeavesTree seat.old seat.new }
-    {
-        let reading = self.stamp(seat, slots, slot_of(card), word);
-        self.exchange_noted::<Brand>(seat, slots, card, nodes, taken_out, word, 8 * reading)
-    }
-
-    // Notes such nodes by an exchange of the word that was read, which leaves some of them, for one that notes them
-    // too, or that sets the slot free as all three are. Returns the word that it found: if that is another one, the
-    // pass has read it by that.
-    fn note_word(
-        &self,
-        seat: &mut Seat<M>,
-        slots: Slots,
-        card: u64,
-        nodes: CardNodes,
-        taken_out: bool,
-        word: u64,
-    ) -> u64
-        requires seat { IsSeatWithSlots self.now slots seat.old }
-        requires slot { slot_of card ≤ slots.last }
-        requires retires { MayRetire (shown seat.old.me.0.tree) taken_out card nodes }
-        requires read { seat.old.me.0.period.read ≡ Some (record { slot = slot_of card; word = word }) }
-        requires may { MayNote seat.old.me.0.tree taken_out card nodes word }
-        ensures still { StandsStill seat.old.me.0.period seat.new.me.0.period }
-        ensures retired { seat.new.me.0.period.retired ≡
-            retires_if (result == word || is_done taken_out card nodes result) taken_out nodes
-            seat.old.me.0.period.retired }
-        ensures read { result ≢ word →
-            seat.new.me.0.period.read ≡ Some (record { slot = slot_of card; word = result }) }
-        ensures next { MayNoteNext seat.old.me.0.tree taken_out card nodes word result }
-        ensures keeps { KeepsSafe seat.old.me.0.period seat.new.me.0.period }
-        ensures leaves { LeavesTree seat.old seat.new }
-    {
-        let noted = nodes.noted_in(word);
-        if noted % 8 == 0 {
-            self.note_last(seat, slots, card, nodes, taken_out, word)
-        } else {
-            self.note_more(seat, slots, card, nodes, taken_out, word, noted)
-        }
-    }
-
-    // Notes such nodes in the word of their card's slot. If another pass changes the word meanwhile, it goes on by
-    // the word that it found: that happens at most twice, as each such word notes more of the three nodes. Returns
-    // whether it set the slot free.
-    fn note_dead(
-        &self,
-        seat: &mut Seat<M>,
-        slots: Slots,
-        card: u64,
-        nodes: CardNodes,
-        taken_out: bool,
-    ) -> bool
-        requires seat { IsSeatWithSlots self.now slots seat.old }
-        requires slot { slot_of card ≤ slots.last }
-        requires retires { MayRetire (shown seat.old.me.0.tree) taken_out card nodes }
-        ensures still { StandsStill seat.old.me.0.period seat.new.me.0.period }
-        ensures retired { seat.new.me.0.period.retired ≡ with_retired taken_out nodes seat.old.me.0.period.retired }
-        ensures keeps { KeepsSafe seat.old.me.0.period seat.new.me.0.period }
-        ensures leaves { LeavesTree seat.old seat.new }
-    {
-        let mut word = self.read_to_note(seat, slots, card, nodes, taken_out);
-        for _ in 0..3u64 {
-            if is_done(taken_out, card, nodes, word) {
-                return false;
-            }
-            let found = self.note_word(seat, slots, card, nodes, taken_out, word);
-            if found == word {
-                return nodes.noted_in(word) % 8 == 0;
-            }
-            word = found;
-        }
-        false
     }
 
     // Sets the slot free of a card that the pass has laid aside: nobody else knows of the card, so the slot's word
@@ -307,73 +112,6 @@ impl<M: Memory> CardTable<M> {
         if lost {
             self.set_free(seat, slots, card);
         }
-    }
-
-    /// Notes a node that the card in hand, which is over, has taken out of the tree, as `retire_taken_out` notes
-    /// several of one card. Returns whether the code saw its card's slot become free.
-    pub fn retire(&self, pass: &mut Pass<M>, node: u64) -> bool
-        requires own { pass.old.table ≡ self.now.id }
-        requires taken { HasTakenOut pass.old.view node }
-        // What the pass knows of the tree is as it was, and it has made no step that is counted.
-        ensures same { HasNoted pass.old pass.new }
-        // The node is noted, as what the card has taken out: its parent if it is an internal node, else its leaf.
-        ensures noted { IfSome self.now.plan.slots (λ s. pass.new.memory.retired ≡
-            retires_in s true (card node) (node_alone (node % 4)) pass.old.memory.retired) }
-        // A table without places has no slots that become free.
-        ensures none { self.now.plan.slots ≡ None → (result ≡ false) × (pass.new ≡ pass.old) }
-    {
-        self.retire_taken_out(pass, card_of(node), CardNodes::only(node))
-    }
-
-    /// Notes nodes of one card that the card in hand, which is over, has taken out of the tree: all by one exchange,
-    /// or by up to three if other passes change the word meanwhile. Of them the pass knows the low 38 bits, and so of
-    /// their card the low 41. Once all three nodes of a card are noted, its slot is free. Returns whether the code saw
-    /// it become free, of which a clause speaks only without places. It does nothing if the table has no places. Its
-    /// steps are not counted.
-    pub fn retire_taken_out(&self, pass: &mut Pass<M>, card: u64, nodes: CardNodes) -> bool
-        requires own { pass.old.table ≡ self.now.id }
-        requires taken { AreTakenOut pass.old.view card nodes }
-        // What the pass knows of the tree is as it was, and it has made no step that is counted.
-        ensures same { HasNoted pass.old pass.new }
-        // They are noted, as what the card in hand has taken out: an internal node as its parent, another one as its
-        // leaf.
-        ensures noted { IfSome self.now.plan.slots (λ s. pass.new.memory.retired ≡
-            retires_in s true card nodes pass.old.memory.retired) }
-        // A table without places has no slots that become free.
-        ensures none { self.now.plan.slots ≡ None → (result ≡ false) × (pass.new ≡ pass.old) }
-    {
-        let Some(slots) = self.slots else {
-            return false;
-        };
-        if !has_slot(slots, card) {
-            return false;
-        }
-        self.note_dead(&mut pass.seat, slots, card, nodes, true)
-    }
-
-    /// Notes nodes of the card in hand that never come into the tree, as the card is over: all by one exchange, or by
-    /// up to three if other passes change the word meanwhile. Once all three nodes of a card are noted, its slot is
-    /// free. Returns whether the code saw it become free, of which a clause speaks only without places. It does nothing
-    /// if the table has no places. Its steps are not counted.
-    pub fn retire_nodes(&self, pass: &mut Pass<M>, card: u64, nodes: CardNodes) -> bool
-        requires own { pass.old.table ≡ self.now.id }
-        requires hand { pass.old.view.worker.card ≡ Some card }
-        requires never { NeverCome pass.old.view card nodes }
-        // What the pass knows of the tree is as it was, and it has made no step that is counted.
-        ensures same { HasNoted pass.old pass.new }
-        // They are noted, as nodes of that card.
-        ensures noted { IfSome self.now.plan.slots (λ s. pass.new.memory.retired ≡
-            retires_in s false card nodes pass.old.memory.retired) }
-        // A table without places has no slots that become free.
-        ensures none { self.now.plan.slots ≡ None → (result ≡ false) × (pass.new ≡ pass.old) }
-    {
-        let Some(slots) = self.slots else {
-            return false;
-        };
-        if !has_slot(slots, card) {
-            return false;
-        }
-        self.note_dead(&mut pass.seat, slots, card, nodes, false)
     }
 
     // Takes the slot of a card in hand that was set free with a stamp below the pass's safe number, if the slot's

@@ -52,7 +52,7 @@ pub mod Hindrances
 pub mod Milestones
 -- an insert or a swap where its search ended, and once it is done
 pub mod Putting
--- nodes that a card took out, or that never come
+-- what is known of a card that is over
 pub mod Retiring
 -- a pass that may let its card in hand go
 pub mod LettingGo

@@ -30,8 +30,6 @@ pub mod Searches
 pub mod Helps
 -- what a try comes to
 pub mod Tries
--- what a card has put that is over
-pub mod Retiring
 -- the operations and what they answer, on a map, in the words of the crate below
 pub use Rattle.ell_ops.specs.declared.op.Op
 pub use Rattle.ell_ops.specs.declared.reply.Reply

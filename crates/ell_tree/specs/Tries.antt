@@ -33,7 +33,7 @@ use Rattle.ell_tree.specs.declared.trying.Next.TheVariants as next
 use Rattle.ell_tree.specs.declared.trying.Tried.{Tried}
 use Rattle.ell_tree.specs.declared.trying.Tried.TheVariants as tried
 use Rattle.ell_tree.specs.Ledgers.{TreeModel, Owns, present_in, IsIdle}
-use Rattle.ell_cards.specs.Stepping.{LetsGo}
+use Rattle.ell_cards.specs.Stepping.{HasSlotOf, LetsGo}
 use Rattle.ell_runs.specs.Views.{SameShare}
 use Rattle.ell_tree.specs.Counts.{Took}
 use Rattle.ell_tree.specs.CardsTaken.{TakesNoCard}
@@ -172,10 +172,6 @@ pub record HasCardToPut (what : Put) (place : Place) (node : NewNode) (v : View)
 pub record HasNone (old new : PassModel) : Type 0 where
   pub unflagged : (c : ℕ) → new.view.worker.card ≡ Some c → new.view.worker.flagged ≡ false
   pub search : new.view.worker.search ≡ old.view.worker.search
-
--- a pass may store the words of a card: where cards lie in slots, it has taken the card's one
-abbrev pub HasSlotOf : TablePlan → ℕ → PassModel → Type 0
-HasSlotOf plan c p = plan.slots ≢ None → p.memory.slot ≡ Some c
 
 -- what comes of asking for a card, whose node gets this key
 abbrev pub Claims : TablePlan → Op → Place → ℕ → PassModel → PassModel → Claimed → Type 0

@@ -16,13 +16,12 @@ ghost use Rattle.ell_tree.specs.Helps.{IsBacked, IsParent, help_steps};
 ghost use Rattle.ell_tree.specs.Hindrances.{Meets};
 ghost use Rattle.ell_tree.specs.Keeping.{Keeps, IsInnerMet, KeepsAllButMet};
 ghost use Rattle.ell_tree.specs.Searches.{AtRoot, HasSearched};
-ghost use Rattle.ell_tree.specs.Tries.{HasSlotOf, Fills, Flags, HasCard, TryEnds, TryTook, TryTookThis};
+ghost use Rattle.ell_tree.specs.Tries.{Fills, Flags, HasCard, TryEnds, TryTook, TryTookThis};
 ghost use Rattle.ell_runs.specs.Depths.{deepest};
 ghost use Rattle.ell_runs.specs.Sayings.{delete_says};
-ghost use Rattle.ell_cards.specs.Stepping.{IsWholeIn};
+ghost use Rattle.ell_cards.specs.Stepping.{HasSlotOf, IsWholeIn};
 
 use crate::helping::{DeleteFlag, Ending, finish_delete, help, help_delete};
-use crate::retiring::{retire_deleted, retire_own};
 use crate::searching::{Passed, Place, node_with, search};
 use crate::steps::answer;
 use crate::trying::{Claimed, Tried, take_card};
@@ -99,10 +98,12 @@ pub(crate) fn delete_at<M: Memory, G: StepGate>(
         return Tried::Hindered;
     }
     if !finish_own(steps, pass, card, above.node, place.parent) {
-        retire_own(steps.table, pass, card);
+        steps.table.retire_backed(pass, card);
         return Tried::Hindered;
     }
-    retire_deleted(steps.table, pass, card, parent.node, place.node);
+    steps
+        .table
+        .retire_deleted(pass, card, parent.node, place.node);
     answer(steps, pass, Reply::Yes, Some(place.value));
     Tried::Answered(Some(place.value))
 }

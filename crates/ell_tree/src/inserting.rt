@@ -8,14 +8,13 @@ ghost use Rattle.ell_tree.specs.CardsTaken.{TakesNoCard, TryTakes};
 ghost use Rattle.ell_tree.specs.Ends.{try_steps_in};
 ghost use Rattle.ell_tree.specs.Keeping.{Keeps, IsInnerMet};
 ghost use Rattle.ell_tree.specs.Searches.{AtRoot};
-ghost use Rattle.ell_tree.specs.Tries.{HasSlotOf, told_of_put, put_reply, Fills, Flags, HasCardToPut, TryEnds};
+ghost use Rattle.ell_tree.specs.Tries.{told_of_put, put_reply, Fills, Flags, HasCardToPut, TryEnds};
 ghost use Rattle.ell_core.specs.tree.Flat.{IsNodeKey};
 ghost use Rattle.ell_runs.specs.Plans.{flat_from, new_node};
 ghost use Rattle.ell_runs.specs.Sayings.{put_says};
-ghost use Rattle.ell_cards.specs.Stepping.{IsWholeIn};
+ghost use Rattle.ell_cards.specs.Stepping.{HasSlotOf, IsWholeIn};
 
 use crate::helping::{finish_insert, help};
-use crate::retiring::retire_put;
 use crate::searching::{Place, node_with, search};
 use crate::steps::answer;
 use crate::trying::{Claimed, Tried, take_card};
@@ -66,7 +65,9 @@ pub(crate) fn try_put<M: Memory, G: StepGate>(
             let (left_key, right_key) = (what.key.min(place.key), what.key.max(place.key));
             let below = node_with(place, place.parent.tag);
             finish_insert(steps, pass, card, parent, below, right_key, left_key);
-            retire_put(steps.table, pass, card, what, place);
+            steps
+                .table
+                .retire_put(pass, card, what, place.node, place.key);
             answer(steps, pass, reply_once_done(what), None);
             Tried::Answered(Some(what.was.unwrap_or(what.value)))
         }

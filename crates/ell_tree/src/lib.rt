@@ -13,7 +13,6 @@ mod opening;
 mod operations;
 mod reading;
 mod removing;
-mod retiring;
 mod scanning;
 mod searching;
 mod steps;

@@ -6,3 +6,5 @@ pub mod Searches
 pub mod Rows
 -- nodes of a card that a pass knows to be dead
 pub mod DeadNodes
+-- what a pass has noted of them stays noted
+pub mod Retiring

@@ -19,7 +19,7 @@ use Rattle.ell_runs.specs.Guards.{MayClaim, MayFill, Wants}
 use Rattle.ell_cards.specs.Periods.{most_claims}
 use Rattle.ell_cards.specs.Shown.{cut_planned}
 use Rattle.ell_cards.specs.Skipping.{after_claimed_row, after_row, IsAfterRow, IsFresh}
-use Rattle.ell_cards.specs.Stepping.{MayInTable}
+use Rattle.ell_cards.specs.Stepping.{HasSlotOf, MayInTable}
 use Rattle.ell_runs.specs.declared.call.Call.TheVariants as call
 use Rattle.ell_runs.specs.declared.call.NewNode.{NewNode}
 use Rattle.ell_runs.proofs.lemmas.views.Afters.{after_next}
@@ -36,7 +36,7 @@ use Rattle.ell_tree.specs.Ends.{claim_steps}
 use Rattle.ell_tree.specs.Hindrances.{Meets}
 use Rattle.ell_tree.specs.Keeping.{LosesNothing, KeepsIn}
 use Rattle.ell_tree.specs.Searches.{seen, IsAt}
-use Rattle.ell_tree.specs.Tries.{Claims, ClaimsInVain, HasCard, HasSlotOf, HoldsAside}
+use Rattle.ell_tree.specs.Tries.{Claims, ClaimsInVain, HasCard, HoldsAside}
 use Rattle.ell_tree.specs.Milestones.{GivesOut}
 use Rattle.ell_tree.proofs.lemmas.LettingGo.{aside_unflagged, lets_aside_go}
 use Rattle.ell_tree.proofs.lemmas.Keeping.{keeps_in, keeps_in_trans, keeps_step, keeps_all_none, loses_trans, next_keeps}

@@ -1,12 +1,9 @@
-use Rattle.std.proofs.Common.{◌≡◌, ℕ, true, false, true≢false, Some, None, inl, inr, sym, ◌∙◌, subst}
-use Rattle.std.proofs.lemmas.Option.{same_Some}
+use Rattle.std.proofs.Common.{◌≡◌, ℕ, false, true≢false, Some, None, inl, inr, sym, ◌∙◌}
 use Rattle.ell_core.proofs.lemmas.outcomes.Decide.{some_not_none}
-use Rattle.ell_runs.specs.declared.view.Slots.{Slots}
-use Rattle.ell_cards.specs.LettingGo.{IsRetired}
 use Rattle.ell_runs.specs.Plans.{TablePlan}
 use Rattle.ell_cards.specs.Models.{PassModel}
 use Rattle.ell_cards.specs.Stepping.{LetsGo}
-use Rattle.ell_tree.specs.Tries.{HasSlotOf, HoldsAside}
+use Rattle.ell_tree.specs.Tries.{HoldsAside}
 
 -- a pass with no card in hand lets none go
 pub lets_none_go : (plan : TablePlan) (p : PassModel) → p.view.worker.card ≡ None → LetsGo plan p
@@ -30,13 +27,4 @@ lets_aside_go plan p q card flagged slot hand s is = record {
   waiting = λ c h took. hand.aside (λ none. some_not_none is none) c (sym card ∙ h.0) (sym slot ∙ took);
   taken = λ c h. absurd (true≢false (sym h.flagged ∙ (flagged ∙ aside_unflagged plan p c hand (sym card ∙ h.holds))));
   retired = λ c h. absurd (true≢false (sym h.flagged ∙ (flagged ∙ aside_unflagged plan p c hand (sym card ∙ h.holds))));
-}
-
--- and so may a flagged one whose slot the pass took last, once that has noted all that the card made dead
-pub lets_flagged_go : (plan : TablePlan) (p : PassModel) (c : ℕ) → p.view.worker.card ≡ Some c → p.view.worker.flagged ≡ true → HasSlotOf plan c p
-    → ((s : Slots) → plan.slots ≡ Some s → IsRetired s p.view p.memory.retired c) → LetsGo plan p
-lets_flagged_go plan p c card flagged slot retired s is = record {
-  waiting = λ d h took. true≢false (sym flagged ∙ h.1);
-  taken = λ d h. slot (λ none. some_not_none is none) ∙ (sym card ∙ h.holds);
-  retired = λ d h. subst (IsRetired s p.view p.memory.retired) (same_Some c d (sym card ∙ h.holds)) (retired s is);
 }

@@ -1,15 +1,12 @@
-use Rattle.std.proofs.Common.{◌+◌, ◌≡◌, ◌≢◌, Some, refl, ap, sym, subst, ◌∙◌, rules, arith}
+use Rattle.std.proofs.Common.{◌+◌, ◌≡◌, ◌≢◌, Some, refl, ap, ◌∙◌, rules, arith}
 use Rattle.ell_ops.specs.declared.op.Op.TheVariants.{Delete}
 use Rattle.ell_ops.specs.declared.reply.Reply.TheVariants.{Yes}
 use Rattle.ell_word.specs.declared.update.State.TheVariants.{Clean}
 use Rattle.ell_core.specs.declared.view.Search.{Search}
 use Rattle.ell_runs.specs.Depths.{deepest}
-use Rattle.ell_core.specs.declared.fact.Fact.TheVariants.{DOver}
-use Rattle.ell_runs.specs.declared.view.View.{View}
-use Rattle.ell_cards.specs.LettingGo.{cut}
 use Rattle.ell_cards.specs.Models.{PassModel}
 use Rattle.ell_runs.specs.Plans.{flat_from, new_node}
-use Rattle.ell_runs.specs.Views.{Does, Knows}
+use Rattle.ell_runs.specs.Views.{Does}
 use Rattle.ell_cards.proofs.lemmas.shown.InRuns.{deletes_take_what_they_tell}
 use Rattle.ell_tree.specs.CardsTaken.{cards_taken, TakesNoCard}
 use Rattle.ell_tree.specs.Helps.{help_steps}
@@ -20,7 +17,7 @@ use Rattle.ell_runs.specs.Changes.{answered_so}
 use Rattle.ell_runs.specs.Guards.{TakesBy}
 use Rattle.ell_tree.proofs.lemmas.Sights.{ends_from}
 use Rattle.ell_tree.proofs.lemmas.Keeping.{inner_kept, share_trans}
-use Rattle.ell_tree.proofs.lemmas.LettingGo.{lets_none_go, lets_flagged_go}
+use Rattle.ell_tree.proofs.lemmas.LettingGo.{lets_none_go}
 use Rattle.ell_tree.proofs.lemmas.Owning.{keeps_answers, keeps_in_answers, had_value, would_delete}
 use Rattle.ell_tree.proofs.lemmas.Meeting.{meets_trans, meets_more, above_way, parent_way, nowhere_way, way_over, way_free, no_way}
 use Rattle.ell_tree.proofs.lemmas.Halting.{keeps_meets, keeps_in_meets, said_meets, flag_lost}
@@ -70,52 +67,30 @@ finish_own-requires-clause-read g c =
     c.requires.searched.ends.at c.in-Card.ensures.claims.0 in
     told_was c.take_card.new.pass.view c.flag_delete.new.pass.view c.in-Card.card c.args.place c.flag_delete.ensures.keeps.view c.args.key c.in-Some.above card
 
--- its card is in hand still
-pub retire_deleted-requires-clause-hand : goal.retire_deleted-requires-clause-hand
-retire_deleted-requires-clause-hand g c = c.finish_own.ensures.keeps_but_met.card ∙ c.in_default-flag_delete.ensures.flags.card
-
--- what its card told of the parent and the leaf is known once it is over
-pub retire_deleted-requires-clause-parent : goal.retire_deleted-requires-clause-parent
-retire_deleted-requires-clause-parent g c =
+-- what its card told of the parent, an internal node, and of the leaf is known once it is over
+pub retire_deleted-requires-clause-cut : goal.retire_deleted-requires-clause-cut
+retire_deleted-requires-clause-cut g c =
     let a = c.args.pass.now in
     let t = c.take_card.new.pass in
-    let cards = c.args.steps.table.now.plan.last_card in
-    let card = delete_card a.view t.view c.in-Card.card (new_node c.args.steps.table.now.plan 0) c.args.key c.args.place c.in-Some.above c.in-Some.is c.requires.searched.busy
-    c.requires.searched.ends.at c.in-Card.ensures.claims.0 in
-    let parent = told_parent t.view c.flag_delete.new.pass.view c.in-Card.card c.args.place c.flag_delete.ensures.keeps.view c.args.key c.in-Some.above card cards
-    (inner_kept cards a.view t.view c.args.place.parent.node c.take_card.ensures.keeps.view c.requires.searched.ends.passed.seen.node) in
-    c.finish_own.ensures.keeps_but_met.keeps.view.told _ parent.told
-
-pub retire_deleted-requires-clause-leaf : goal.retire_deleted-requires-clause-leaf
-retire_deleted-requires-clause-leaf g c =
-    let a = c.args.pass.now in
-    let t = c.take_card.new.pass in
-    let card = delete_card a.view t.view c.in-Card.card (new_node c.args.steps.table.now.plan 0) c.args.key c.args.place c.in-Some.above c.in-Some.is c.requires.searched.busy
-    c.requires.searched.ends.at c.in-Card.ensures.claims.0 in
-    c.finish_own.ensures.keeps_but_met.keeps.view.told _
-    (told_leaf t.view c.flag_delete.new.pass.view c.in-Card.card c.args.place c.flag_delete.ensures.keeps.view c.args.key c.in-Some.above card)
-
--- the parent is an internal node, and the leaf of the key is none
-pub retire_deleted-requires-clause-inner : goal.retire_deleted-requires-clause-inner
-retire_deleted-requires-clause-inner g c = c.requires.searched.ends.passed.seen.node.inner
-
-pub retire_deleted-requires-clause-outer : goal.retire_deleted-requires-clause-outer
-retire_deleted-requires-clause-outer g c = c.requires.searched.ends.outer c.requires.key
-
--- it has noted what its card made dead
-pub answer-requires-clause-noted : goal.answer-requires-clause-noted
-answer-requires-clause-noted g c =
     let f = c.flag_delete.new.pass in
-    let m = c.retire_deleted.new.pass in
-    let card = c.in-Card.card in
-    let same = c.retire_deleted.ensures.same in
-    let steps = help_steps (deepest c.args.steps.table.now.plan) + 2 in
-    let met : KeepsAllButMet f m steps = keeps_but_met_noted f c.finish_own.new.pass m steps c.finish_own.ensures.keeps_but_met same in
-    let over = subst (λ (v : View). Knows v (DOver card)) (sym (ap (λ (p : PassModel). p.view) same)) (search rules) in
-    lets_flagged_go c.args.steps.table.now.plan m card (met.card ∙ c.in_default-flag_delete.ensures.flags.card)
-    (met.flagged ∙ c.in_default-flag_delete.ensures.flags.flagged)
-    (λ some. met.keeps.slot ∙ (c.flag_delete.ensures.keeps.slot ∙ c.in-Card.ensures.claims.4 some))
-    (λ s is. cut over (c.retire_deleted.ensures.cut s is) (c.retire_deleted.ensures.own s is))
+    let place = c.args.place in
+    let hand = c.in-Card.card in
+    let kept = c.finish_own.ensures.keeps_but_met in
+    let flags = c.in_default-flag_delete.ensures.flags in
+    let keeps = c.flag_delete.ensures.keeps.view in
+    let above = c.in-Some.above in
+    let cards = c.args.steps.table.now.plan.last_card in
+    let card = delete_card a.view t.view hand (new_node c.args.steps.table.now.plan 0) c.args.key place above c.in-Some.is c.requires.searched.busy
+    c.requires.searched.ends.at c.in-Card.ensures.claims.0 in
+    let parent = told_parent t.view f.view hand place keeps c.args.key above card cards
+    (inner_kept cards a.view t.view place.parent.node c.take_card.ensures.keeps.view c.requires.searched.ends.passed.seen.node) in record {
+      hand = record { holds = kept.card ∙ flags.card; flagged = kept.flagged ∙ flags.flagged };
+      over = search rules;
+      above = kept.keeps.view.told _ parent.told;
+      below = kept.keeps.view.told _ (told_leaf t.view f.view hand place keeps c.args.key above card);
+      inner = c.requires.searched.ends.passed.seen.node.inner;
+      outer = c.requires.searched.ends.outer c.requires.key;
+    }
 
 -- once it is over, it is answered, with the value of the card's leaf
 pub answer-requires-clause-may : goal.answer-requires-clause-may

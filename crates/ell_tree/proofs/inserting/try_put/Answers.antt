@@ -5,11 +5,7 @@ use Rattle.ell_runs.specs.declared.view.Told.TheVariants.{Met}
 use Rattle.std.proofs.lemmas.Bool.{false≢true}
 use Rattle.ell_ops.specs.Meaning.{found}
 use Rattle.ell_core.proofs.lemmas.keeping.Puts.{put_key}
-use Rattle.ell_core.specs.declared.fact.Fact.TheVariants.{IOver}
-use Rattle.ell_runs.specs.declared.view.View.{View}
-use Rattle.ell_cards.specs.LettingGo.{put}
 use Rattle.ell_cards.specs.Models.{PassModel}
-use Rattle.ell_runs.specs.Views.{Knows}
 use Rattle.ell_runs.specs.Plans.{new_node}
 use Rattle.ell_tree.specs.CardsTaken.{cards_taken, TakesNoCard, TakesOneCard, TakesOneIf}
 use Rattle.ell_tree.specs.Ends.{AnswersAs, changes_by, reply_by}
@@ -18,7 +14,7 @@ use Rattle.ell_tree.specs.Keeping.{KeepsAll}
 use Rattle.ell_tree.proofs.lemmas.Searches.{may_answer}
 use Rattle.ell_tree.proofs.lemmas.Filling.{put_card, is_insert}
 use Rattle.ell_tree.proofs.lemmas.Keeping.{share_trans}
-use Rattle.ell_tree.proofs.lemmas.LettingGo.{lets_none_go, lets_flagged_go}
+use Rattle.ell_tree.proofs.lemmas.LettingGo.{lets_none_go}
 use Rattle.ell_tree.proofs.lemmas.Owning.{keeps_answers, keeps_in_answers, would_put}
 use Rattle.ell_tree.proofs.lemmas.Meeting.{meets_trans, meets_more, put_way, nowhere_way, way_over, way_free, no_way}
 use Rattle.ell_tree.proofs.lemmas.Halting.{keeps_meets, keeps_in_meets, seek_meets, walk_meets, said_meets, flag_lost}
@@ -91,27 +87,14 @@ retire_put-requires-clause-put g c =
     let insert = is_insert t.view f.view c.in-Card.card place c.flag_insert.ensures.keeps.view (new_node c.args.steps.table.now.plan c.node_key-node_key.result) c.args.op c.args.what card
     c.in-Ok.ensures.flags.knows (c.take_card.ensures.keeps.view.told (Met place.parent.node) ends.passed.seen.node.met) in
     has_put f.view m.view c.in-Card.card c.args.op c.args.what place c.requires.puts kept.keeps.view
-    (c.flag_insert.ensures.keeps.view.operation ∙ (c.take_card.ensures.keeps.view.operation ∙ busy)) (kept.card ∙ c.in-Ok.ensures.flags.card)
-    (kept.flagged ∙ c.in-Ok.ensures.flags.flagged) c.finish_insert.ensures.over insert (λ same. ends.outer (same ∙ sym key))
+    (c.flag_insert.ensures.keeps.view.operation ∙ (c.take_card.ensures.keeps.view.operation ∙ busy))
+    (record { holds = kept.card ∙ c.in-Ok.ensures.flags.card; flagged = kept.flagged ∙ c.in-Ok.ensures.flags.flagged }) c.finish_insert.ensures.over insert (λ same. ends.outer (same ∙ sym key))
 
 -- once it is over, it is answered
 pub answer-requires-in-Ok-clause-may : goal.answer-requires-in-Ok-clause-may
 answer-requires-in-Ok-clause-may g c =
     rw c.retire_put.ensures.same
     (search rules)
-
--- and it has noted what its card made dead
-pub answer-requires-in-Ok-clause-noted : goal.answer-requires-in-Ok-clause-noted
-answer-requires-in-Ok-clause-noted g c =
-    let f = c.flag_insert.new.pass in
-    let m = c.retire_put.new.pass in
-    let card = c.in-Card.card in
-    let same = c.retire_put.ensures.same in
-    let kept : KeepsAll f m 3 = keeps_all_noted f c.finish_insert.new.pass m 3 c.finish_insert.ensures.keeps_all same in
-    let over = subst (λ (v : View). Knows v (IOver card)) (sym (ap (λ (p : PassModel). p.view) same)) c.finish_insert.ensures.over in
-    lets_flagged_go c.args.steps.table.now.plan m card (kept.card ∙ c.in-Ok.ensures.flags.card) (kept.flagged ∙ c.in-Ok.ensures.flags.flagged)
-    (λ some. kept.keeps.slot ∙ (c.flag_insert.ensures.keeps.slot ∙ c.in-Card.ensures.claims.4 some))
-    (λ s is. put over (c.retire_put.ensures.retired s is))
 
 -- there was no place for it
 pub returns-then-not-may_replace-clause-ends : goal.returns-then-not-may_replace-clause-ends

@@ -1,0 +1,314 @@
+//! What the owner of a card notes once the card is over: the nodes that the card took out of the tree, and those of its
+//! own that never come into it. The word of a slot notes which of its card's three nodes are dead, and sets the slot
+//! free once all three are. In a table without places this does nothing. The steps are not counted.
+ghost use prog.Atomic.{either};
+ghost use Rattle.std.specs.Prelude.{◌==◌, ◌≡◌, ◌≢◌, ◌<◌, ◌%◌, ◌⊎◌, ◌||◌, ℕ, IfSome, Some, true, false};
+ghost use Rattle.ell_word.specs.Node.{card};
+ghost use Rattle.ell_core.specs.declared.fact.Fact.TheVariants.{Backed};
+ghost use Rattle.ell_runs.specs.declared.view.Slots.{Slots};
+ghost use Rattle.ell_runs.specs.Dead.{HasTakenOut};
+ghost use Rattle.ell_runs.specs.Holding.{HasFlagged};
+ghost use Rattle.ell_runs.specs.Views.{Knows};
+ghost use Rattle.ell_cards.specs.CardNodes.{NotesToo, has_node, node_alone};
+ghost use Rattle.ell_cards.specs.Ended.{HasCut, HasPut};
+ghost use Rattle.ell_cards.specs.Frames.{IsSeatWithSlotOf, KeepsSafe, LeavesTree, StandsStill};
+ghost use Rattle.ell_cards.specs.LettingGo.{CutIsRetired};
+ghost use Rattle.ell_cards.specs.Noting.{HasNoted, HasReadToNote, MayNote, MayNoteNext, MayRetire, retires_in};
+ghost use Rattle.ell_cards.specs.Periods.{after_noting, after_noting_read, after_stamp, slot_word};
+ghost use Rattle.ell_cards.specs.Retiring.{is_done, retires_if, with_retired};
+ghost use Rattle.ell_cards.specs.Shown.{shown};
+ghost use Rattle.ell_cards.specs.SlotWords.{card_by, is_noted, slot_of};
+ghost use Rattle.ell_cards.specs.Stepping.{HasSlotOf, LetsGo, MayGoOn};
+
+use crate::card_nodes::CardNodes;
+use crate::memory::{Memory, Seat};
+use crate::pass::Pass;
+use crate::rule::PeriodTelling;
+use crate::slot_words::{has_slot, is_done, slot_of};
+use crate::table::CardTable;
+use crate::view::SlotRead;
+use ell_core::Put;
+use ell_runs::Slots;
+use ell_word::card_of;
+use std::marker::Brand;
+
+impl<M: Memory> CardTable<M> {
+    // Loads the word of the slot of a card of which the pass is to note nodes, and tells what its caller picked.
+    #[inline(always)]
+    fn load_noted<J: PeriodTelling>(
+        &self,
+        seat: &mut Seat<M>,
+        slots: Slots,
+        card: u64,
+        nodes: CardNodes,
+        taken_out: bool,
+    ) -> u64
+        requires seat { IsSeatWithSlotOf self.now slots card seat.old }
+        requires rule { MayGoOn self.now.plan seat.old.me.0 (slot_word slots (slot_of card)) (λ n. n) J.then }
+        ensures told { J.then result seat.new.me.0.period }
+        ensures leaves { LeavesTree seat.old seat.new }
+    {
+        let _ = (nodes, taken_out);
+        self.period_load::<J>(seat, self.slot_address(slots, slot_of(card)))
+    }
+
+    // Exchanges the word of the slot of a card of which the pass notes nodes for another one, if it is this still, and
+    // tells what its caller picked. Returns the word that it found.
+    #[inline(always)]
+    fn exchange_noted<J: PeriodTelling>(
+        &self,
+        seat: &mut Seat<M>,
+        slots: Slots,
+        card: u64,
+        nodes: CardNodes,
+        taken_out: bool,
+        word: u64,
+        other: u64,
+    ) -> u64
+        requires seat { IsSeatWithSlotOf self.now slots card seat.old }
+        requires rule { MayGoOn self.now.plan seat.old.me.0 (slot_word slots (slot_of card))
+            (λ n. either (n == word) other n) J.then }
+        ensures told { J.then result seat.new.me.0.period }
+        ensures leaves { LeavesTree seat.old seat.new }
+    {
+        let _ = (nodes, taken_out);
+        self.period_exchange::<J>(seat, self.slot_address(slots, slot_of(card)), word, other)
+    }
+
+    // Reads the word of the slot of a card of which the pass is to note nodes: nodes that its card in hand has taken
+    // out of the tree, of whose numbers it knows the low bits, or nodes of that card that never come. Unless the word
+    // shows that none of them is left, the card lies there still.
+    fn read_to_note(
+        &self,
+        seat: &mut Seat<M>,
+        slots: Slots,
+        card: u64,
+        nodes: CardNodes,
+        taken_out: bool,
+    ) -> u64
+        requires seat { IsSeatWithSlotOf self.now slots card seat.old }
+        requires retires { MayRetire (shown seat.old.me.0.tree) taken_out card nodes }
+        ensures read { seat.new.me.0.period ≡ after_noting_read taken_out card nodes result seat.old.me.0.period }
+        ensures may { is_done taken_out card nodes result ≡ false →
+            MayNote seat.old.me.0.tree taken_out card nodes result }
+        ensures leaves { LeavesTree seat.old seat.new }
+    {
+        self.load_noted::<Brand>(seat, slots, card, nodes, taken_out)
+    }
+
+    // Notes such nodes by another word of the slot, not all three of whose nodes it notes, if its word is the one that
+    // was read. Returns the word that it found: if that is another one, the pass has read it by that.
+    fn note_more(
+        &self,
+        seat: &mut Seat<M>,
+        slots: Slots,
+        card: u64,
+        nodes: CardNodes,
+        taken_out: bool,
+        word: u64,
+        noted: u64,
+    ) -> u64
+        requires seat { IsSeatWithSlotOf self.now slots card seat.old }
+        requires may { HasReadToNote seat.old.me.0 taken_out card nodes word }
+        requires notes { NotesToo nodes word noted }
+        requires left { noted % 8 ≢ 0 }
+        ensures period { seat.new.me.0.period ≡
+            after_noting (result == word) taken_out card nodes result seat.old.me.0.period }
+        ensures next { MayNoteNext seat.old.me.0.tree taken_out card nodes word result }
+        ensures leaves { LeavesTree seat.old seat.new }
+    {
+        self.exchange_noted::<Brand>(seat, slots, card, nodes, taken_out, word, noted)
+    }
+
+    // Sets the slot free instead, as these are the last of its card's nodes.
+    fn note_last(
+        &self,
+        seat: &mut Seat<M>,
+        slots: Slots,
+        card: u64,
+        nodes: CardNodes,
+        taken_out: bool,
+        word: u64,
+    ) -> u64
+        requires seat { IsSeatWithSlotOf self.now slots card seat.old }
+        requires may { HasReadToNote seat.old.me.0 taken_out card nodes word }
+        requires last { (i : ℕ) → i < 3 → (is_noted word i ≡ true) ⊎ (has_node nodes i ≡ true) }
+        ensures period { (reading : ℕ) ×
+            (seat.new.me.0.period ≡ after_noting (result == word) taken_out card nodes result
+            (after_stamp (card_by (slot_of card) word) reading seat.old.me.0.period)) }
+        ensures next { MayNoteNext seat.old.me.0.tree taken_out card nodes word result }
+        ensures leaves { LeavesTree seat.old seat.new }
+    {
+        let reading = self.stamp(seat, slots, slot_of(card), word);
+        self.exchange_noted::<Brand>(seat, slots, card, nodes, taken_out, word, 8 * reading)
+    }
+
+    // Notes such nodes by an exchange of the word that was read, which leaves some of them, for one that notes them
+    // too, or that sets the slot free as all three are. Returns the word that it found: if that is another one, the
+    // pass has read it by that.
+    fn note_word(
+        &self,
+        seat: &mut Seat<M>,
+        slots: Slots,
+        card: u64,
+        nodes: CardNodes,
+        taken_out: bool,
+        word: u64,
+    ) -> u64
+        requires seat { IsSeatWithSlotOf self.now slots card seat.old }
+        requires may { HasReadToNote seat.old.me.0 taken_out card nodes word }
+        ensures still { StandsStill seat.old.me.0.period seat.new.me.0.period }
+        ensures retired { seat.new.me.0.period.retired ≡
+            retires_if (result == word || is_done taken_out card nodes result) taken_out nodes
+            seat.old.me.0.period.retired }
+        ensures read { result ≢ word →
+            seat.new.me.0.period.read ≡ Some (record { slot = slot_of card; word = result }) }
+        ensures next { MayNoteNext seat.old.me.0.tree taken_out card nodes word result }
+        ensures keeps { KeepsSafe seat.old.me.0.period seat.new.me.0.period }
+        ensures leaves { LeavesTree seat.old seat.new }
+    {
+        let noted = nodes.noted_in(word);
+        if noted % 8 == 0 {
+            self.note_last(seat, slots, card, nodes, taken_out, word)
+        } else {
+            self.note_more(seat, slots, card, nodes, taken_out, word, noted)
+        }
+    }
+
+    // Notes such nodes in the word of their card's slot. If another pass changes the word meanwhile, it goes on by
+    // the word that it found: that happens at most twice, as each such word notes more of the three nodes.
+    fn note_dead(
+        &self,
+        seat: &mut Seat<M>,
+        slots: Slots,
+        card: u64,
+        nodes: CardNodes,
+        taken_out: bool,
+    )
+        requires seat { IsSeatWithSlotOf self.now slots card seat.old }
+        requires retires { MayRetire (shown seat.old.me.0.tree) taken_out card nodes }
+        ensures still { StandsStill seat.old.me.0.period seat.new.me.0.period }
+        ensures retired { seat.new.me.0.period.retired ≡ with_retired taken_out nodes seat.old.me.0.period.retired }
+        ensures keeps { KeepsSafe seat.old.me.0.period seat.new.me.0.period }
+        ensures leaves { LeavesTree seat.old seat.new }
+    {
+        let mut word = self.read_to_note(seat, slots, card, nodes, taken_out);
+        for _ in 0..3u64 {
+            if is_done(taken_out, card, nodes, word) {
+                return;
+            }
+            let found = self.note_word(seat, slots, card, nodes, taken_out, word);
+            if found == word {
+                return;
+            }
+            word = found;
+        }
+    }
+
+    // Notes nodes of one card: nodes that the card in hand, which is over, has taken out of the tree, of which the pass
+    // knows the low 38 bits, and so of their card the low 41; or nodes of the card in hand that never come. It notes
+    // all by one exchange, or by up to three if other passes change the word meanwhile.
+    fn retire_nodes(&self, pass: &mut Pass<M>, card: u64, nodes: CardNodes, taken_out: bool)
+        requires own { pass.old.table ≡ self.now.id }
+        requires retires { MayRetire pass.old.view taken_out card nodes }
+        ensures same { HasNoted pass.old pass.new }
+        ensures noted { IfSome self.now.plan.slots (λ s. pass.new.memory.retired ≡
+            retires_in s taken_out card nodes pass.old.memory.retired) }
+    {
+        let Some(slots) = self.slots else {
+            return;
+        };
+        if has_slot(slots, card) {
+            self.note_dead(&mut pass.seat, slots, card, nodes, taken_out);
+        }
+    }
+
+    // Notes a node that the card in hand has taken out: its parent if it is an internal node, else its leaf.
+    fn retire_taken_out(&self, pass: &mut Pass<M>, node: u64)
+        requires own { pass.old.table ≡ self.now.id }
+        requires taken { HasTakenOut pass.old.view node }
+        ensures same { HasNoted pass.old pass.new }
+        ensures noted { IfSome self.now.plan.slots (λ s. pass.new.memory.retired ≡
+            retires_in s true (card node) (node_alone (node % 4)) pass.old.memory.retired) }
+    {
+        self.retire_nodes(pass, card_of(node), CardNodes::only(node), true);
+    }
+
+    // Notes the parent and the leaf that the card in hand of a delete has cut out, by one step where they lie on one
+    // card.
+    fn retire_cut(&self, pass: &mut Pass<M>, card: u64, parent: u64, leaf: u64)
+        requires own { pass.old.table ≡ self.now.id }
+        requires cut { HasCut parent leaf pass.old.view card }
+        ensures same { HasNoted pass.old pass.new }
+        ensures noted { (s : Slots) → self.now.plan.slots ≡ Some s →
+            CutIsRetired s pass.old.view pass.new.memory.retired card }
+    {
+        let above = card_of(parent);
+        if card_of(leaf) == above {
+            let both = CardNodes::only(parent).and(CardNodes::only(leaf));
+            self.retire_nodes(pass, above, both, true);
+        } else {
+            self.retire_taken_out(pass, parent);
+            self.retire_taken_out(pass, leaf);
+        }
+    }
+
+    /// Notes what the card in hand of an insert or a swap, which is over, made dead, given the node where its search
+    /// ended, with its key. Above a node of another key it took nothing out, and its leaf of that node's key is not
+    /// used. Else it took that node out, which is a leaf, and of its own nodes the right leaf alone came.
+    pub fn retire_put(&self, pass: &mut Pass<M>, card: u64, what: Put, node: u64, key: u64)
+        requires own { pass.old.table ≡ self.now.id }
+        requires put { HasPut what node key pass.old.view card }
+        requires slot { HasSlotOf self.now.plan card pass.old }
+        // What the pass knows of the tree is as it was, and it has made no step that is counted.
+        ensures same { HasNoted pass.old pass.new }
+        // The pass may let its card go.
+        ensures lets_go { LetsGo self.now.plan pass.new }
+    {
+        if key != what.key {
+            let unused = CardNodes {
+                internal: false,
+                left: key < what.key,
+                right: what.key < key,
+            };
+            self.retire_nodes(pass, card, unused, false);
+            return;
+        }
+        self.retire_taken_out(pass, node);
+        let left_out = CardNodes {
+            internal: true,
+            left: true,
+            right: false,
+        };
+        self.retire_nodes(pass, card, left_out, false);
+    }
+
+    /// Notes what the card in hand of a delete that has cut made dead: the parent and the leaf that it took out, and its
+    /// own nodes, none of which comes.
+    pub fn retire_deleted(&self, pass: &mut Pass<M>, card: u64, parent: u64, leaf: u64)
+        requires own { pass.old.table ≡ self.now.id }
+        requires cut { HasCut parent leaf pass.old.view card }
+        requires slot { HasSlotOf self.now.plan card pass.old }
+        // What the pass knows of the tree is as it was, and it has made no step that is counted.
+        ensures same { HasNoted pass.old pass.new }
+        // The pass may let its card go.
+        ensures lets_go { LetsGo self.now.plan pass.new }
+    {
+        self.retire_cut(pass, card, parent, leaf);
+        self.retire_nodes(pass, card, CardNodes::all(), false);
+    }
+
+    /// Notes what the card in hand of a delete that lost its mark made dead: its own nodes, none of which comes.
+    pub fn retire_backed(&self, pass: &mut Pass<M>, card: u64)
+        requires own { pass.old.table ≡ self.now.id }
+        requires hand { HasFlagged pass.old.view card }
+        requires backed { Knows pass.old.view (Backed card) }
+        requires slot { HasSlotOf self.now.plan card pass.old }
+        // What the pass knows of the tree is as it was, and it has made no step that is counted.
+        ensures same { HasNoted pass.old pass.new }
+        // The pass may let its card go.
+        ensures lets_go { LetsGo self.now.plan pass.new }
+    {
+        self.retire_nodes(pass, card, CardNodes::all(), false);
+    }
+}
