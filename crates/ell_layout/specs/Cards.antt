@@ -73,11 +73,7 @@ brought w c = brought_by c (is_replace_card w c)
 abbrev pub keeps_below : Words → ℕ → Bool
 keeps_below w c = not (is_replace_card w c) && (nat_lt 0 w.flat_from || w.l c % 4 == 0)
 
--- the child of a node on the side of a card's own key
-abbrev pub card_child : Words → ℕ → ℕ → ℕ
-card_child w c node = child_for w (card_key w c) node
-
--- its tag
+-- the tag of the child of a node on the side of a card's own key
 abbrev pub card_tag : Words → ℕ → ℕ → ℕ
 card_tag w c node = tag_for w (card_key w c) node
 

@@ -1,6 +1,6 @@
 use Rattle.std.specs.Prelude.{ℕ, ◌+◌, ◌==◌, if◌then◌else◌, Bool, true, false, zero, suc, nat_lt, List, [], ◌∷◌, ◌++◌, length, slice_index}
 use Rattle.std.specs.Map.{keys_of, values_of}
-use Rattle.ell_word.specs.Node.{infinity1, infinity2, right_leaf}
+use Rattle.ell_word.specs.Node.{infinity1, infinity2}
 use Rattle.ell_layout.specs.declared.field.Field.{Field}
 use Rattle.ell_layout.specs.declared.field.Field.TheVariants.{Key, Left, Right, Update, LeftLeafKey, RightLeafKey, LeftValue, RightValue}
 use Rattle.ell_layout.specs.declared.branch.Branch.{Branch}
@@ -36,12 +36,6 @@ branch_filling leaf value b =
     ∷ (RightLeafKey, (if b.right == 1 then leaf (b.first + b.left) else 0))
     ∷ (LeftValue, (if b.left == 1 then value b.first else 0))
     ∷ (RightValue, (if b.right == 1 then value (b.first + b.left) else 0)) ∷ []
-
--- those of card 0 that are written over zeros, where there are this many start keys
-abbrev pub root_filling : ℕ → List (Field × ℕ)
-root_filling many =
-    (Key, infinity2) ∷ (Left, left_child (root_branch (many + 1))) ∷ (Right, right_leaf 0) ∷ (Update, clean 0)
-    ∷ (LeftLeafKey, infinity1) ∷ (RightLeafKey, infinity2) ∷ []
 
 -- the fields of all cards at the start, 0 behind the opening tree; the root's left leaf has infinity1, used or not
 abbrev pub start_field : List (ℕ × ℕ) → ℕ → Field → ℕ

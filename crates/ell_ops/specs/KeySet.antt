@@ -1,12 +1,9 @@
-use Rattle.std.specs.Prelude.{◌≡◌, ℕ, Bool, false, List, ◌==◌, ◌||◌}
+use Rattle.std.specs.Prelude.{◌≡◌, ℕ, Bool, List, ◌==◌, ◌||◌}
 use Rattle.std.specs.List.{list_any}
 use Rattle.std.specs.List.Sorted.{IsStrictlyIncreasing}
 
 abbrev pub KeySet : Type 0
 KeySet = ℕ → Bool
-
-abbrev pub empty : KeySet
-empty = λ _. false
 
 -- the keys of either set
 abbrev pub union : KeySet → KeySet → KeySet

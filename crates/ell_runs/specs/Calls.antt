@@ -33,21 +33,9 @@ use Rattle.ell_word.specs.declared.link.Link.{Link}
 use Rattle.ell_word.specs.Link.{linked, link_in}
 use Rattle.ell_core.specs.declared.view.Seen.{Seen}
 
--- the address of the update word of a node
-abbrev pub update_address : ℕ → ℕ
-update_address x = address (card x) field.Update
-
 -- the address of a child of a node
 abbrev pub child_address : ℕ → Bool → ℕ
 child_address x right = address (card x) (child_field right)
-
--- the address of the key of a node
-abbrev pub key_address : ℕ → ℕ
-key_address x = address (card x) (key_field (x % 4))
-
--- the address of the value of a leaf
-abbrev pub value_address : ℕ → ℕ
-value_address x = address (card x) (value_field (x % 4))
 
 -- where a call acts: on the claim word, or on this field of the root's card, of a node's card, or of a card
 pub data Where : Type 0 where

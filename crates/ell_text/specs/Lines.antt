@@ -8,10 +8,6 @@ pub use Rattle.std.specs.Str.Lines.{lines}
 abbrev pub is_space : ℕ → Bool
 is_space byte = byte == 32
 
--- what ends a line
-abbrev pub is_line_feed : ℕ → Bool
-is_line_feed byte = byte == 10
-
 -- the rest stands behind a line feed, which may have one carriage return before it
 abbrev pub IsBehindLineEnd : List ℕ → List ℕ → Type 0
 IsBehindLineEnd bytes rest = (bytes ≡ 10 ∷ rest) ⊎ (bytes ≡ 13 ∷ 10 ∷ rest)

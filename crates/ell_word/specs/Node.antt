@@ -1,10 +1,6 @@
 use Rattle.std.specs.Prelude.{◌≡◌, ◌≢◌, ℕ, ◌+◌, ◌-◌, ◌*◌, ◌/◌, ◌%◌, ◌^◌}
 
--- the numbers of cards are below 2^62, so that those of nodes are below 2^64
-abbrev pub number_bound : ℕ
-number_bound = 4611686018427387904
-
--- the greatest number that a card may have
+-- The greatest number that a card may have, below 2^62, so that the numbers of nodes are below 2^64.
 abbrev pub greatest_number : ℕ
 greatest_number = 4611686018427387903
 

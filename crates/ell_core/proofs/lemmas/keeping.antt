@@ -1,3 +1,5 @@
+-- What it is for an act to keep the invariant.
+pub mod KeepsInvariant
 -- what every event leaves of the other cards and workers: they go on as they were
 pub mod going_on
 -- the events of a search: begin, again, leave; upd; down; answer

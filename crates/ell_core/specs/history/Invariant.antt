@@ -59,10 +59,6 @@ insert_value w c = if w.key (left_leaf c) == w.key (w.l c) then w.value (right_l
 abbrev pub delete_key : Words → ℕ → ℕ
 delete_key w c = w.key (w.l c)
 
--- a delete's value: that of the same leaf
-abbrev pub delete_value : Words → ℕ → ℕ
-delete_value w c = w.value (w.l c)
-
 -- the side on which an insert puts its node at the parent
 abbrev pub insert_side : Words → ℕ → Bool
 insert_side w c = exchange_side w (w.p c) (internal c)

@@ -7,9 +7,8 @@ use Rattle.ell_core.specs.declared.event.Stepped.{Stepped}
 use Rattle.ell_core.specs.declared.fact.Fact.{Fact}
 use Rattle.ell_layout.specs.declared.field.Field.{Field}
 use Rattle.ell_layout.specs.Words.{Words, word}
-use Rattle.ell_core.specs.state.Machine.{Machine, Scene, scene, with_scene}
+use Rattle.ell_core.specs.state.Machine.{Machine}
 use Rattle.ell_layout.specs.Cards.{marked}
-use Rattle.ell_core.specs.acts.Events.{Happens}
 use Rattle.ell_core.specs.history.Stages.{Stage, Stages, IFlagged, IChanged, IOver, RChanged, ROver, DFlagged, DUnmarkable, DMarked, DCut, DOver, DBacked, is_start, is_insert, is_delete, is_born, allows, Born}
 use Rattle.ell_core.specs.history.Invariant.{Invariant}
 use Rattle.ell_core.specs.acts.Wins.{wins_by}
@@ -84,9 +83,3 @@ pub record Follows (m : Machine) (stage : Stages) (a : Act) (i : ℕ) (said : St
   pub later : StagesLater stage stages
   pub unborn : (c : ℕ) → c < m.words.next → is_born (stage c) ≡ false → SaysTheSame m.words after.words c
   pub wins : (c : ℕ) → wins_of (stages c) ≡ wins_of (stage c) ++ wins_by a (m.worker i).card said c
-
--- an act keeps the invariant, whoever does it and whatever it answers
-abbrev pub KeepsInvariant : Act → Type 0
-KeepsInvariant a =
-    (m : Machine) (stage : Stages) (i : ℕ) (said : Stepped) (becomes : Scene) → i < m.count → Invariant m stage
-    → Happens m.last_card a (scene m i) said becomes → Follows m stage a i said (with_scene m i becomes)

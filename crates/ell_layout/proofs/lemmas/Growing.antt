@@ -16,7 +16,7 @@ use Rattle.ell_layout.specs.Branches.{root_branch, branch_of, left_child, right_
 use Rattle.ell_layout.proofs.lemmas.Branches.{branch_card, branch_holds, cards_within}
 use Rattle.ell_layout.proofs.lemmas.Claims.{ArePlain, table_filled_plain}
 use Rattle.ell_layout.proofs.lemmas.Start.{root_field, root_fields}
-use Rattle.ell_layout.specs.Start.{start_leaf, start_value, branch_field, start_field, start_words, root_filling, branch_filling}
+use Rattle.ell_layout.specs.Start.{start_leaf, start_value, branch_field, start_field, start_words, branch_filling}
 
 -- the fields of all cards where the opening tree's are written below card n, and those of the others are 0
 abbrev pub grown : List (ℕ × ℕ) → ℕ → ℕ → Field → ℕ
@@ -33,6 +33,15 @@ zero_everywhere : (n i : ℕ) → get_or {A = ℕ} (replicate n 0) i 0 ≡ 0
 zero_everywhere zero i = refl
 zero_everywhere (suc n) zero = refl
 zero_everywhere (suc n) (suc i) = zero_everywhere n i
+
+-- the fields of card 0, with what the code has for its children and its update word
+abbrev pub coded_root : ℕ → ℕ → ℕ → List (Field × ℕ)
+coded_root left right update =
+    (Key, infinity2) ∷ (Left, left) ∷ (Right, right) ∷ (Update, update) ∷ (LeftLeafKey, infinity1) ∷ (RightLeafKey, infinity2) ∷ []
+
+-- the fields of card 0 that are written over zeros, where there are this many start keys
+abbrev pub root_filling : ℕ → List (Field × ℕ)
+root_filling many = coded_root (left_child (root_branch (many + 1))) (right_leaf 0) (clean 0)
 
 -- the words of a card that is filled over zeros
 root_stored : (many : ℕ) (field : Field) → stored (root_filling many) field 0 ≡ root_field many field
@@ -143,11 +152,6 @@ module _ (start : List (ℕ × ℕ)) (size : ℕ) (some : 0 < size) where
       table_filled_plain (words_of begun) 0 (root_filling (length start)) (root_plain (length start))
       ∙ (ap (λ (w : Words). filled w 0 (root_filling (length start))) begun_words
       ∙ filled_made (length start + 1) (λ c field. 0) (grown start 1) 0 (root_filling (length start)) (root_stored (length start)) rooted)
-
--- the fields of card 0, with what the code has for its children and its update word
-abbrev pub coded_root : ℕ → ℕ → ℕ → List (Field × ℕ)
-coded_root left right update =
-    (Key, infinity2) ∷ (Left, left) ∷ (Right, right) ∷ (Update, update) ∷ (LeftLeafKey, infinity1) ∷ (RightLeafKey, infinity2) ∷ []
 
 -- so begins the table
 pub begins : (words : List ℕ) (start : List (ℕ × ℕ)) (size left right update : ℕ) → words ≡ replicate size 0 → 0 < size → left ≡ left_child (root_branch (length start + 1))

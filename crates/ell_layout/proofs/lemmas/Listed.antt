@@ -248,11 +248,6 @@ pub same_but_next : (w : Words) (value c : ℕ) (field : Field) → word w c fie
 same_but_next w value c Gp = refl
 same_but_next w value c _ = refl
 
--- It leaves the words that a table has for the cards.
-pub table_same_but_next : (w : Words) (value c : ℕ) (field : Field) → table_word w c field ≡ table_word (record w { next = value }) c field
-table_same_but_next w value c Gp = refl
-table_same_but_next w value c _ = refl
-
 -- A write of word 0 writes the claim word.
 pub words_after_claim : (words : List ℕ) (value : ℕ) → 0 < length words
     → words_of (slice_set words 0 value) ≡ record (words_of words) { next = value }

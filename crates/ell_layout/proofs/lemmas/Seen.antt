@@ -1,11 +1,8 @@
-use Rattle.std.proofs.Common.{◌≡◌, ◌≢◌, ℕ, ◌<◌, ◌==◌, if◌then◌else◌, List, length, slice_index, slice_set, sym, ap, ◌∙◌, inl, inr, arith, get_or-set_same, get_or-set_other}
-use Rattle.std.proofs.lemmas.Bool.{cases_eq}
+use Rattle.std.proofs.Common.{◌≡◌, ◌≢◌, ℕ, ◌<◌, List, length, slice_index, slice_set, arith, get_or-set_same, get_or-set_other}
 use Rattle.ell_layout.specs.declared.field.Field.{Field}
-use Rattle.ell_layout.specs.Layout.{address, place, listed}
+use Rattle.ell_layout.specs.Layout.{address, listed}
 use Rattle.ell_layout.specs.Laws.{ListsAreWritten, WordsAreWritten, NodesAreOnCards}
 use Rattle.ell_layout.proofs.lemmas.Writes.{written_here, written_elsewhere, written_next, key_at_node, value_at_leaf, child_at_node, update_at_node}
-use Rattle.ell_layout.proofs.lemmas.Listed.{same_place-field}
-use Rattle.ell_layout.proofs.lemmas.Stored.{if_same, if_other}
 
 module _ (words : List ℕ) (c : ℕ) (field : Field) (value : ℕ) where
   -- a write to a list is read at its address
@@ -20,19 +17,6 @@ module _ (words : List ℕ) (c : ℕ) (field : Field) (value : ℕ) where
   -- and the claim word
   pub listed_next_kept : slice_index (slice_set words (address c field) value) 0 ≡ slice_index words 0
   listed_next_kept = get_or-set_other words (address c field) 0 value 0 (omega arith)
-
-  -- the words of its card, by field
-  pub listed_there : (other : Field) → address c field < length words
-      → listed (slice_set words (address c field) value) c other ≡ (if place field == place other then value else listed words c other)
-  listed_there other fits = elim (cases_eq (place field) (place other)) [
-    | inl e ↦ ap (listed (slice_set words (address c field) value) c) (sym (same_place-field field other e))
-        ∙ (listed_here fits ∙ sym (if_same (place field) (place other) value (listed words c other) e))
-    | inr n ↦ listed_elsewhere c other (λ e. n (omega arith)) ∙ sym (if_other (place field) (place other) value (listed words c other) n)
-  ]
-
--- a write of the claim word leaves the words of the cards
-pub listed_claim : (words : List ℕ) (value c : ℕ) (field : Field) → listed (slice_set words 0 value) c field ≡ listed words c field
-listed_claim words value c field = get_or-set_other words 0 (address c field) value 0 (omega arith)
 
 -- a write to a list is seen at its own address alone
 pub lists_are_written : ListsAreWritten

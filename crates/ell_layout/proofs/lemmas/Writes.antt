@@ -8,7 +8,7 @@ use Rattle.ell_word.specs.Node.{card, internal, left_leaf, right_leaf, IsNode}
 use Rattle.ell_layout.specs.declared.field.Field.{Field}
 use Rattle.ell_layout.specs.declared.field.Field.TheVariants.{Gp, P, L, Was, Key, Left, Right, Update, LeftLeafKey, RightLeafKey, LeftValue, RightValue}
 use Rattle.ell_layout.specs.Layout.{address}
-use Rattle.ell_layout.specs.Cards.{filled, table_filled}
+use Rattle.ell_layout.specs.Cards.{table_filled}
 use Rattle.ell_layout.specs.Words.{Words, word, put, put_side, written, table_word, table_written, key_field, value_field, child_field, words_from, table_words, with_child, with_tag}
 
 -- A function with another value at a place has that value there.
@@ -136,18 +136,6 @@ written_next w c RightValue v = refl
 pub written_flat : (w : Words) (c : ℕ) (field : Field) (v : ℕ) → (written w c field v).flat_from ≡ w.flat_from
 written_flat w c Gp v = refl
 written_flat w c _ v = refl
-
--- One more field at the end is written last.
-filled_more : (w : Words) (c : ℕ) (es : List (Field × ℕ)) (e : Field × ℕ) → filled w c (es ++ e ∷ []) ≡ written (filled w c es) c e.0 e.1
-filled_more w c [] e = refl
-filled_more w c (x ∷ es) e = filled_more (written w c x.0 x.1) c es e
-
--- After the first fields of a list, a write of the next one gives the words with one more field.
-pub filled_next : (w before after : Words) (c : ℕ) (es : List (Field × ℕ)) (i : ℕ) (d : Field × ℕ) → before ≡ filled w c (take i es)
-    → i < length es → after ≡ written before c (get_or es i d).0 (get_or es i d).1 → after ≡ filled w c (take (i + 1) es)
-filled_next w before after c es i d e h g =
-    g ∙ (ap (λ z. written z c (get_or es i d).0 (get_or es i d).1) e
-    ∙ sym (ap (filled w c) (take_more es i d h) ∙ filled_more w c (take i es) (get_or es i d)))
 
 -- A write leaves the children that the leaves have.
 pub written_leaf_child : (w : Words) (c : ℕ) (field : Field) (v x : ℕ) (right : Bool) → x % 4 ≢ 0

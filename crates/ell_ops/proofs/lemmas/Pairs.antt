@@ -35,14 +35,6 @@ contents_of-insert old new key value absent h = λ t q. (changed old new key (So
     by q true same = ap (λ o. Some (unwrap_or o value)) (sym (ap (contents_of old) (eqb-true q key same) ∙ absent))
     by q false other = refl
 
--- one that was there keeps its value
-pub contents_of-kept : (old : List (ℕ × ℕ)) (key value there : ℕ) → contents_of old key ≡ Some there → contents_of old ≡ with_pair (contents_of old) key value
-contents_of-kept old key value there had = λ t q. by q (q == key) refl t
-  where
-    by : (q : ℕ) (b : Bool) → (q == key) ≡ b → contents_of old q ≡ (if b then Some (unwrap_or (contents_of old q) value) else contents_of old q)
-    by q true same = let has = ap (contents_of old) (eqb-true q key same) ∙ had in has ∙ ap (λ o. Some (unwrap_or o value)) (sym has)
-    by q false other = refl
-
 -- one that had the first value of a swap gets the second
 pub contents_of-swapped : (old new : List (ℕ × ℕ)) (key was value : ℕ) → contents_of old key ≡ Some was
     → ((q : ℕ) → lookup (is_at (nat_cmp q)) new ≡ cond (is_at (nat_cmp key) q) (Some value) (lookup (is_at (nat_cmp q)) old))

@@ -5,7 +5,7 @@ use Rattle.std.proofs.lemmas.Bool.{cases_eq}
 use Rattle.std.proofs.lemmas.Grind.{flat_map-append}
 use Rattle.std.proofs.lemmas.List.{append-nil, drop_all, drop_more, take_all}
 use Rattle.std.proofs.lemmas.List.Elements.{Contains-append_left, Contains-append_right}
-use Rattle.std.proofs.lemmas.Option.{slice_get-get_or, slice_get_within, slice_get_read, get_or_from_slice_get}
+use Rattle.std.proofs.lemmas.Option.{slice_get-get_or, slice_get_within, slice_get_read}
 use Rattle.ell_ops.specs.declared.reply.Reply.{Reply}
 use Rattle.ell_parts.specs.declared.gathering.GatherFault.TheVariants.{Stranger, Doubled, Missing}
 use Rattle.ell_parts.specs.Gathering.{IsFor, NoneFor, AreSound, IsGathered, IsFault, IsPlaced}
@@ -29,14 +29,6 @@ sound_kept n items rest sound k at below h =
 -- what contains an item has a place for it
 for_contained : (items : List (ℕ × Reply)) (at : ℕ) (reply : Reply) → Contains items (at, reply) → (k : ℕ) × (k < length items) × IsFor items k at
 for_contained items at reply h = (h.0, h.1, (reply, slice_get_read items (length items) h.0 (at, reply) refl h.1 (sym h.2)))
-
--- no item is placed before the first
-pub IsPlaced-none : (answered : List Bool) (replies : List Reply) → ((position : ℕ) → position < length answered → get_or answered position false ≡ false) → IsPlaced [] answered replies
-IsPlaced-none answered replies untold = record {
-  sound = λ k position below. absurd (omega arith);
-  told = λ position e. absurd (let fresh = untold position (slice_get_within answered position true e) in let answer = get_or_from_slice_get answered position true false e in cc);
-  untold = λ position e k below. absurd (omega arith);
-}
 
 -- one more item, for a position that no item before it is for
 pub IsPlaced-push : (items : List (ℕ × Reply)) (answered : List Bool) (replies : List Reply) (at : ℕ) (reply : Reply) → IsPlaced items answered replies →

@@ -38,13 +38,6 @@ has_key_from_same ops i j key same h =
     let one : same.1 ≡ h.op = let e : Some same.1 ≡ Some h.op = sym same.3 ∙ h.stands in cc in
     record { op = same.0; stands = same.2; of_key = same.4 ∙ ap key_of one ∙ h.of_key }
 
--- before the first position
-pub AreFirsts-none : (ops : List Op) (firsts : ℕ → Option ℕ) → ((key : ℕ) → firsts key ≡ None) → AreFirsts ops 0 firsts
-AreFirsts-none ops firsts empty = record {
-  none = λ key e j below. absurd (omega arith);
-  some = λ key first e. absurd (let clash : None ≡ Some first = sym (empty key) ∙ e in cc);
-}
-
 -- two keys of one position are one
 one_key : (ops : List Op) (i j a b : ℕ) → i ≡ j → HasKey ops i a → HasKey ops j b → a ≡ b
 one_key ops i j a b here h k =

@@ -1,3 +1,5 @@
+-- the addresses of the words of a node
+pub mod Addresses
 -- updates and their words
 pub mod Updates
 -- words of a list and of the machine, at a field of a card

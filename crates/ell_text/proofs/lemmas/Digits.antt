@@ -1,11 +1,11 @@
-use Rattle.std.proofs.Common.{◌≡◌, ◌<◌, ◌+◌, ◌-◌, ◌*◌, take, ap, sym, ◌≤◌, ◌^◌, ℕ, Bool, true, false, ◌&&◌, not, ◌==◌, List, [], ◌∷◌, length, Result, Ok, Err, ◌∙◌, arith, rules, ⊎_elim, get_or}
+use Rattle.std.proofs.Common.{◌≡◌, ◌<◌, ◌+◌, ◌-◌, ◌*◌, take, ap, ◌≤◌, ◌^◌, ℕ, Bool, true, false, ◌&&◌, not, ◌==◌, List, [], ◌∷◌, length, Result, Ok, Err, ◌∙◌, arith, rules, ⊎_elim, get_or}
 use Rattle.std.specs.List.{list_all}
 use Rattle.std.specs.Char.{is_ascii_digit}
 use Rattle.std.specs.Str.{IsAscii}
 use Rattle.std.specs.Option.{MatchOption}
 use Rattle.std.specs.Result.{result_ok}
 use Rattle.std.specs.Str.Parse.{ParsesUnsigned, digits_value}
-use Rattle.std.proofs.lemmas.Bool.{and_parts, cases_lt, cond-true, false≢true, le-leb, leb-true}
+use Rattle.std.proofs.lemmas.Bool.{and_parts, cases_lt, false≢true, leb-true}
 use Rattle.std.proofs.lemmas.Str.Parse.{IsNumeralModel, numerals_by_weight, digit_at, parse_digits}
 use Rattle.std.proofs.Math.Bool.{and-true}
 use Rattle.std.proofs.lemmas.List.{get_or_default, get_or_past, take_more}
@@ -13,7 +13,7 @@ use Rattle.std.specs.Int.{IsInRange}
 use Rattle.std.proofs.lemmas.List.Folds.{list_all-append}
 use Rattle.std.proofs.lemmas.Int.Digits.{digits_value_more}
 use Rattle.std.proofs.lemmas.Str.{digit_value_digit}
-use Rattle.ell_text.specs.Number.{value_of, is_number, number_in}
+use Rattle.ell_text.specs.Number.{value_of, is_number}
 
 -- the digits and their value are those of std's numerals
 numerals : IsNumeralModel (λ digits. list_all is_ascii_digit digits ≡ true) value_of
@@ -59,11 +59,6 @@ pub number_at_least : (bytes : List ℕ) (i d : ℕ) → is_number bytes ≡ tru
 number_at_least bytes i d spelt within =
     let digit : IsInRange 48 57 (get_or bytes i 0) = digit_at bytes i (numerals.to bytes (digits_from_number bytes spelt)) within in
     omega (arith, digit, get_or_default bytes i d 0 within)
-
--- a number of at most max
-pub number_within : (max number : ℕ) (bytes : List ℕ) → is_number bytes ≡ true → number ≡ value_of bytes → number ≤ max → number_in max bytes ≡ Ok number
-number_within max number bytes spelt value within =
-    cond-true _ _ _ spelt ∙ cond-true _ _ _ (le-leb (value_of bytes) max (omega arith)) ∙ ap Ok (sym value)
 
 -- digits are text
 pub IsAscii-from_number : (bytes : List ℕ) → is_number bytes ≡ true → IsAscii bytes

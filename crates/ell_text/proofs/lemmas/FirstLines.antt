@@ -16,9 +16,10 @@ use Rattle.ell_text.specs.declared.line.Section.{Section}
 use Rattle.ell_text.specs.declared.line.Section.TheVariants.{Head, Opening, Operations}
 use Rattle.ell_text.specs.declared.version.Version.{Version}
 use Rattle.ell_text.specs.Line.{HasKindInFront, IsFirstLine, IsValueInFront, has_value, key_behind, line_behind_name, line_from, line_kind_of, line_of, line_on, name_of, or_bad_key, or_bad_value, said_in, says_version, unless_skipped, value_behind}
-use Rattle.ell_text.specs.Lines.{IsBehindLineEnd, is_line_feed, is_skipped, is_space, lines}
+use Rattle.ell_text.specs.Lines.{IsBehindLineEnd, is_skipped, is_space, lines}
 use Rattle.ell_text.specs.Number.{IsNumberInFront, is_number, key_in, key_spelled}
 use Rattle.ell_text.proofs.lemmas.Digits.{number_at_least}
+use Rattle.ell_text.proofs.lemmas.Halves.{is_line_feed}
 
 -- one part and others
 parts_more : (x : List ℕ) (parts : List (List ℕ)) → 0 < length parts → lines_of_parts (x ∷ parts) ≡ strip_carriage_return x ∷ lines_of_parts parts

@@ -10,7 +10,7 @@ use Rattle.ell_text.specs.declared.line.Line.TheVariants as says
 use Rattle.ell_text.specs.declared.line.Section.TheVariants.{Head, Opening}
 use Rattle.ell_text.specs.declared.version.Version.{Version}
 use Rattle.ell_text.specs.declared.version.Version.TheVariants.{Two}
-use Rattle.ell_text.specs.Bulk.{BulkValue, HasSoundLine, fault_at, fault_of, first, line_behind, line_at as line_in, next_section, nothing_said, operation_in, said, said_by, section_behind, spoken_in, start_in, unless_fault, version_of, with_line, with_read}
+use Rattle.ell_text.specs.Bulk.{BulkValue, HasSoundLine, fault_at, fault_of, first, line_behind, line_at as line_in, next_section, operation_in, said, said_by, section_behind, spoken_in, start_in, unless_fault, version_of, with_line, with_read}
 use Rattle.ell_text.specs.Line.{line_of, said_in, says_version, unless_skipped}
 use Rattle.ell_text.specs.Lines.{is_skipped}
 use Rattle.ell_text.specs.Version.{version_number, version_numbered}
@@ -145,16 +145,6 @@ pub record IsReadTo (text rest : List (List ℕ)) (index : ℕ) (b : BulkValue) 
   pub sound : first (fault_at text) index ≡ None
   pub spoken : b ≡ said (take index text)
   pub head : HasHead (take index text) b
-
--- before the first line
-pub read_none : (text rest : List (List ℕ)) (index : ℕ) (b : BulkValue) → rest ≡ text → index ≡ 0 → b ≡ nothing_said → IsReadTo text rest index b
-read_none text rest index b whole none nothing = record {
-  in_text = omega arith;
-  left = whole ∙ sym (ap (λ n. drop n text) none);
-  sound = ap (first (fault_at text)) none;
-  spoken = nothing ∙ sym (ap (λ n. said (take n text)) none);
-  head = λ _. ap (λ n. list_all is_skipped (take n text)) none;
-}
 
 -- the line at an index, and those after it
 pub line_at : (line : List ℕ) (more text : List (List ℕ)) (i : ℕ) → line ∷ more ≡ drop i text → (i < length text) × (line ≡ get_or text i []) × (more ≡ drop (suc i) text)

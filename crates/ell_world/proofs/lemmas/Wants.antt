@@ -1,29 +1,22 @@
-use Rattle.std.proofs.Common.{◌≡◌, ℕ, Bool, true, false, ◌==◌, if◌then◌else◌, Option, Some, None, Result, Ok, Err, IfErr, OnErr, refl, sym, ap, ◌∙◌, subst, inl, inr}
+use Rattle.std.proofs.Common.{◌≡◌, ℕ, Bool, true, false, ◌==◌, if◌then◌else◌, Option, Some, None, Result, Ok, Err, IfErr, OnErr, refl, sym, ap, ◌∙◌, subst}
 use Rattle.ell_core.specs.declared.event.Act.{Act}
 use Rattle.ell_core.specs.declared.event.Stepped.{Stepped}
 use Rattle.ell_core.specs.declared.event.CoreFault.{CoreFault}
 use Rattle.ell_core.specs.declared.event.CoreFault.TheVariants.{NoMemory}
 use Rattle.ell_core.specs.declared.fact.Fact.{Fact}
 use Rattle.ell_core.specs.declared.view.Seen.{Seen}
-use Rattle.ell_core.specs.state.Facts.{Knowledge, learned, learned_any, told_by}
+use Rattle.ell_core.specs.state.Facts.{Knowledge, learned_any, told_by}
 use Rattle.ell_core.specs.state.Machine.{Worker, Scene}
 use Rattle.ell_core.specs.acts.Exchanges.{flagged_worker, flag_tells, flags}
 use Rattle.ell_core.specs.acts.Events.{WantsMemory, TurnRefused}
-use Rattle.ell_core.proofs.lemmas.words.Learned.{learned_knows, learned_any_keeps}
-use Rattle.ell_world.specs.Inside.{LacksAny, LacksEither}
+use Rattle.ell_core.proofs.lemmas.words.Learned.{learned_knows}
+use Rattle.ell_world.specs.Inside.{LacksAny}
 
 -- a lacking fact, if there is one, is learned
 pub any_is_learned : (known : Knowledge) (new : Option Fact) → LacksAny known new
     → (fact : Fact) × (known fact ≡ false) × (learned_any known new fact ≡ true)
 any_is_learned known None h = absurd h
 any_is_learned known (Some new) h = (new, h, learned_knows known new)
-
--- one of two facts that lacks is learned
-pub either_is_learned : (known : Knowledge) (new : Fact) (other : Option Fact) → LacksEither known new other
-    → (fact : Fact) × (known fact ≡ false) × (learned_any (learned known new) other fact ≡ true)
-either_is_learned known new other (inl h) = (new, h, learned_any_keeps (learned known new) other new (learned_knows known new))
-either_is_learned known new None (inr h) = absurd h
-either_is_learned known new (Some other) (inr h) = (other, h, learned_knows (learned known new) other)
 
 -- a turn that fails for want of memory is refused so
 pub refused_for_memory : (cards : ℕ) (a : Act) (s : Scene) (L : Type 0) (r : Result Stepped CoreFault)

@@ -1,7 +1,7 @@
 use Rattle.std.proofs.Common.{◌≡◌, ℤ, Option, Some, None, IfSome, subst, sym}
 use Rattle.elltree.specs.declared.handle.Handle.{Handle}
 use Rattle.elltree.specs.Slots.{OfHandles, OfHandlesIfAny}
-use Rattle.elltree.specs.Told.{Says, SaysWith}
+use Rattle.elltree.specs.Told.{SaysWith}
 
 -- what is so of an answer on handles that two slots hold
 pub answered : {R : Type 0} (So : R → Handle → Handle → Type 0) (said : Option R) (old new : Option Handle) (answer : R) (h g : Handle)
@@ -16,13 +16,7 @@ follows So To (Some h) (Some g) so implies = implies h g so
 follows So To (Some h) None so implies = absurd so
 follows So To None new so implies = absurd so
 
--- the code tells how a call has ended
-pub says : {A : Type 0} (IsSo : Handle → Handle → A → Type 0) (code_of : A → ℤ) (code : ℤ) (said : A) (old new : Option Handle)
-    → OfHandles (λ h g. IsSo h g said) old new → code ≡ code_of said → OfHandlesIfAny (Says IsSo code_of code) old new
-says IsSo code_of code answer old new did is = follows (λ h g. IsSo h g answer) (Says IsSo code_of code) old new did
-    (λ h g so. record { said = answer; so = so; tells = is })
-
--- and what it has found is written
+-- the code tells how a call has ended, and what it has found is written
 pub says_with : {A W : Type 0} (IsSo : Handle → Handle → A → Type 0) (code_of : A → ℤ) (write : A → W → W) (code : ℤ) (before after : W) (said : A) (old new : Option Handle)
     → OfHandles (λ h g. IsSo h g said) old new → code ≡ code_of said → after ≡ write said before → OfHandlesIfAny (SaysWith IsSo code_of write code before after) old new
 says_with IsSo code_of write code before after answer old new did is wrote = follows (λ h g. IsSo h g answer) (SaysWith IsSo code_of write code before after) old new did

@@ -117,15 +117,6 @@ added_once t calls amount was addend old new few fits u h =
           (All-append (λ b. calm b ≡ true) before.calls old.sight.mine idle_calls.1 h.only));
     }
 
--- a pass may do what it likes with the counter
-pub may_do : (t : TreeModel) (calls amount : ℕ) (p : PassModel) → HasAdded t calls amount p → COUNTER ≤ greatest_key → MayDo t COUNTER p
-may_do t calls amount p h real =
-    record {
-      own = h.idle.0;
-      idle = h.idle.1;
-      may = inr (ap (λ o. shared_of o COUNTER) h.ownable ∙ ap (λ b. b && true) (le-leb COUNTER greatest_key real));
-    }
-
 same_or : (o p : Option (List ℕ)) → o ≡ Some [] → p ≡ Some [] → option_or o p ≡ Some []
 same_or o p one other = ap₂ option_or one other
 

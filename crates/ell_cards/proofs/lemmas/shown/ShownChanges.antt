@@ -1,6 +1,5 @@
 -- What is shown of what a pass knows after calls that claim, store and exchange.
-use Rattle.std.proofs.Common.{◌≡◌, ℕ, ◌==◌, if◌then◌else◌, Bool, true, false, Option, Some, None, ◌∷◌, refl, sym, ap, ◌∙◌}
-use Rattle.std.specs.Option.{option_map}
+use Rattle.std.proofs.Common.{◌≡◌, ℕ, ◌==◌, if◌then◌else◌, Bool, true, false, ◌∷◌, refl, sym, ap, ◌∙◌}
 use Rattle.ell_word.specs.declared.update.Update.{Update}
 use Rattle.ell_word.specs.Word.{unpacked}
 use Rattle.ell_core.specs.declared.exchange.Exchange.{Exchange}
@@ -11,13 +10,9 @@ use Rattle.ell_runs.specs.declared.view.View.{View}
 use Rattle.ell_cards.specs.Apart.{cut_node}
 use Rattle.ell_runs.specs.Changes.{if_won, exchanged, with_fact, after_claim, after_flag, after_mark, is_mark_of, unmarking}
 use Rattle.ell_cards.specs.Shown.{IsWord, cut_word, shown, ClaimsAreShown}
-use Rattle.ell_cards.proofs.lemmas.shown.CutWords.{cut_again, cut_same}
+use Rattle.ell_cards.proofs.lemmas.shown.CutWords.{cut_same}
 use Rattle.ell_cards.proofs.lemmas.shown.ShownWords.{planned_shown_alike, tag_shown, told_of_claim}
 use Rattle.ell_cards.proofs.lemmas.shown.ShownSearches.{places_shown}
-
-word_again : (o : Option ℕ) → option_map cut_word (option_map cut_word o) ≡ option_map cut_word o
-word_again None = refl
-word_again (Some n) = ap Some (cut_again n)
 
 -- claim
 pub claims_are_shown : ClaimsAreShown

@@ -15,7 +15,7 @@ use Rattle.ell_cards.specs.Shown.{cut_by}
 use Rattle.ell_runs.specs.States.{TableState}
 use Rattle.ell_cards.specs.Tied.{IsTied, MayInMemory}
 use Rattle.ell_cards.specs.Ties.{TouchesTied, memory_after, CallsKeepTies, IsTiedByAges}
-use Rattle.ell_runs.specs.Turns.{Makes, TableTurns, found_by, state_after}
+use Rattle.ell_runs.specs.Turns.{Makes, found_by, state_after}
 use Rattle.ell_runs.proofs.lemmas.runs.TurnsOfRuns.{steps_stay_inside}
 use Rattle.ell_cards.proofs.lemmas.whole.Ages.{AgesOn, ages_after_call}
 use Rattle.ell_cards.proofs.lemmas.whole.Trees.{slots_stay}
@@ -42,9 +42,6 @@ module _ (plan : TablePlan) (s : Slots) (tree : TableState) (t : WholeState) (li
     (there : get_elem? tree.views id ≡ some k.tree) (ready : IsAtRest k.tree ⊎ IsInPeriod t id k) (c : Call) (may : May plan c k.tree) (mem : MayInMemory s k.period.slot k.period.retired k.tree c) where
   abbrev after : TableState
   after = state_after tree id k.tree c
-
-  turn : TableTurns plan tree (Makes id c) after
-  turn = record { view = k.tree; there = there; may = may; gives = refl }
 
   pub touch : TouchesTied s lie t.words tree c
   touch = touched_tied plan s tree t h.ages.now.machine lie dead was_dead h.tied id k here there (ready_by plan s tree t lie dead was_dead h.ages id k ready) c may mem

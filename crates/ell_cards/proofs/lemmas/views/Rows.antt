@@ -1,13 +1,11 @@
 -- What a pass knows after a row of claims, in which each card but the last one is laid aside.
-use Rattle.std.proofs.Common.{◌≢◌, ◌<◌, unwrap_or, ◌≡◌, ◌⊎◌, ℕ, zero, suc, ◌+◌, ◌==◌, ◌%◌, if◌then◌else◌, Bool, true, false, Option, Some, List, [], ◌∷◌, inl, inr, refl, sym, ap, ◌∙◌, subst, arith}
+use Rattle.std.proofs.Common.{◌≢◌, ◌<◌, unwrap_or, ◌≡◌, ◌⊎◌, ℕ, zero, suc, ◌+◌, ◌==◌, ◌%◌, if◌then◌else◌, Bool, true, false, List, [], ◌∷◌, inl, inr, refl, sym, ap, ◌∙◌, subst, arith}
 use Rattle.std.proofs.lemmas.Bool.{cases_eq}
 use Rattle.std.proofs.lemmas.Option.{same_Some}
 use Rattle.ell_core.specs.declared.exchange.Exchange.TheVariants as exchange
 use Rattle.ell_core.specs.declared.view.Search.{Search}
-use Rattle.ell_core.specs.declared.view.Seen.{Seen}
 use Rattle.ell_core.specs.statements.Told.{is_fixed}
 use Rattle.ell_layout.specs.declared.field.Field.{Field}
-use Rattle.ell_layout.specs.declared.field.Field.TheVariants as field
 use Rattle.ell_ops.specs.declared.op.Op.{Op}
 use Rattle.ell_ops.specs.declared.op.Op.TheVariants.{Find, Insert, Delete, Swap}
 use Rattle.ell_runs.specs.declared.call.Call.TheVariants as call
@@ -234,45 +232,3 @@ row_claims_on from flat n c node next v other m =
 -- so it is after one claim
 pub one_claims_on : (from : ℕ) → 0 < from → (c : ℕ) (node : NewNode) (v : View) → MayClaim from v c node → MayClaim from (after_one c node v) (c + 1) node
 one_claims_on from flat c node v m = row_claims_on from flat 0 c node (c + 1) v (λ e. omega arith) m
-
--- the nodes that fill a card are those where the search stands and stood
-abbrev Stood : Option ℕ → Option Seen → Option Seen → Field → ℕ → Type 0
-Stood below parent above field.Gp x =
-    (y : ℕ) × (seen : Seen) × (top : Seen) × (below ≡ Some y) × (parent ≡ Some seen) × (above ≡ Some top) × (top.node ≡ x)
-Stood below parent above field.P x = (y : ℕ) × (seen : Seen) × (below ≡ Some y) × (parent ≡ Some seen) × (seen.node ≡ x)
-Stood below parent above field.L x = below ≡ Some x
-Stood below parent above _ x = Unit {0}
-
-abbrev AllStood : Option ℕ → Option Seen → Option Seen → List (Field × ℕ) → Type 0
-AllStood below parent above [] = Unit {0}
-AllStood below parent above (e ∷ es) = Stood below parent above e.0 e.1 × AllStood below parent above es
-
-filling_stood : (c : ℕ) (node : NewNode) (op : Option Op) (lower : Option ℕ) (parent above : Option Seen) (key : ℕ) (value_of : ℕ → ℕ)
-    → AllStood lower parent above (filling_for c node op lower parent above key value_of)
-filling_stood c node (Some (Insert k value)) (Some below) (Some parent) above key value_of =
-    ((below, parent, refl, refl, refl), (refl, (tt, (tt, (tt, (tt, (tt, (tt, (tt, (tt, tt))))))))))
-filling_stood c node (Some (Swap k was value)) (Some below) (Some parent) above key value_of =
-    ((below, parent, refl, refl, refl), (refl, (tt, (tt, (tt, (tt, (tt, (tt, (tt, (tt, tt))))))))))
-filling_stood c node (Some (Delete k)) (Some leaf) (Some parent) (Some above) key value_of =
-    ((leaf, parent, above, refl, refl, refl, refl), ((leaf, parent, refl, refl, refl), (refl, (tt, tt))))
-filling_stood c node _ _ _ _ key value_of = tt
-
--- what is so of entries that tell such fields of a card is so of what is told of its filling
-stood_told : (Q : Told → Type 0) (c : ℕ) (node : Option ℕ) (parent above : Option Seen)
-    → ((f : Field) (x : ℕ) → Stood node parent above f x → Q (Info c f x))
-    → (es : List (Field × ℕ)) → AllStood node parent above es → (e : Told) → Has (told_filling c es []) e → Q e
-stood_told Q c below parent above each [] all e h = elim h [ ]
-stood_told Q c below parent above each (d ∷ es) all e h = by (is_fixed d.0) e (stood_told Q c below parent above each es all.1 e) h
-  where
-    by : (b : Bool) (e : Told) → (Has (told_filling c es []) e → Q e) → Has (if b then Info c d.0 d.1 ∷ told_filling c es [] else told_filling c es []) e → Q e
-    by true e rest (latest _ _) = each d.0 d.1 all.0
-    by true e rest (earlier _ _ _ g) = rest g
-    by false e rest g = rest g
-
-claim_told : (Q : Told → Type 0) (c : ℕ) (node : NewNode) (v : View) → Q (Expects c (expected_tag v))
-    → ((f : Field) (x : ℕ) → Stood v.worker.search.node v.worker.search.parent v.worker.search.grandparent f x → Q (Info c f x))
-    → (e : Told) → Has (told_of_claim c node v) e → Q e
-claim_told Q c node v tag each e (latest _ _) = tag
-claim_told Q c node v tag each e (earlier _ _ _ h) =
-    stood_told Q c v.worker.search.node v.worker.search.parent v.worker.search.grandparent each (filling_of c node v)
-    (filling_stood c node v.worker.operation v.worker.search.node v.worker.search.parent v.worker.search.grandparent (unwrap_or v.here 0) (value_told v.told)) e h

@@ -111,11 +111,6 @@ module _ (plan : TablePlan) (s : WholeState) (h : IsWhole plan s) (id : ℕ) (k 
   tree_named : IsNamed plan.last_card k.tree
   tree_named = kept_named plan h.tree tree_kept id k.tree tree_here
 
-  -- a pass that announces nothing is at rest, if there are places
-  rest_by : (o : Option Slots) → PeriodsAre plan o h.tree s → o ≢ None → k.period.announced ≡ None → IsAtRest k.tree
-  rest_by None periods placed none = absurd (placed refl)
-  rest_by (Some sl) periods placed none = (periods.0.periods.each id k here).rests none
-
   -- and it tells nodes apart
   pub apart_here : IsApart plan k.tree
   apart_here = passes_tell_apart plan s h id k here

@@ -7,7 +7,7 @@ use lib.ListN.{get_elem?}
 use Rattle.atomic_table.specs.Table.{opening}
 use Rattle.ell_core.proofs.lemmas.outcomes.Decide.{some_not_none}
 use Rattle.ell_grace.proofs.lemmas.epochs.Grace.{grace_starts}
-use Rattle.ell_word.specs.Node.{greatest_number, number_bound, turn_size}
+use Rattle.ell_word.specs.Node.{greatest_number, turn_size}
 use Rattle.ell_layout.specs.Layout.{address, table_size}
 use Rattle.ell_layout.specs.Words.{words_of, table_words}
 use Rattle.ell_cards.specs.declared.view.Known.{Known}
@@ -56,6 +56,10 @@ is_below a b low = grind (arith, low)
 
 not_below : (a b : ℕ) → b ≤ a → nat_lt a b ≡ false
 not_below a b low = grind (arith, low)
+
+-- a number that is greater than that of any card, and lies in the first slot
+abbrev pub number_bound : ℕ
+number_bound = 4611686018427387904
 
 -- as a table opens with so many start keys, their cards lie in the slots of their numbers, and in each other slot one of a number that no card has
 abbrev pub lies_opened : ℕ → ℕ → ℕ

@@ -298,9 +298,6 @@ module _ (first : Stages) (m : Machine) (stage : Stages) (invariant : Invariant 
         let was = h.was in
         (omega arith, low d h.claimed.0)
 
-  now_cases : (c : ℕ) → (b : Bool) → is_backed (stage c) ≡ b → least_now (is_backed (stage c)) c ≡ least_now b c
-  now_cases c b e = ap (λ b. least_now b c) e
-
   rose_on : (c : ℕ) (b : Bool) → is_backed (stage c) ≡ b → IsTakenBack first f.stages c
       → (new.words.was c < least_now b c) × (least_now b c ≤ new.words.update (new.words.p c))
   rose_on c true e taken =

@@ -54,9 +54,6 @@ module _ (old : Machine) (before : Stages) (i : ℕ) (said : Stepped) (becomes :
   abbrev Changed : Type 0
   Changed = Change old.words becomes.words before follows.stages x
 
-  kept : becomes.words.update x ≡ old.words.update x → Changed
-  kept e = same e
-
   -- an exchange to a flag or a mark
   to_flag : (node expected value : ℕ) → ((c : ℕ) → value ≢ clean c) → becomes.words.update x ≡ (exchanged_update old.words node expected value).update x → Changed
   to_flag node expected value never is = elim (exchange_at old.words node expected value x) [

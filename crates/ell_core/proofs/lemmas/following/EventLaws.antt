@@ -14,7 +14,7 @@ use Rattle.ell_core.specs.acts.Searching.{claims}
 use Rattle.ell_core.specs.acts.Exchanges.{won_or_lost, IChild}
 use Rattle.ell_core.specs.acts.Events.{Row, Happens, Steps}
 use Rattle.ell_core.specs.history.Stages.{Stages, IClaimed, is_insert, is_delete}
-use Rattle.ell_core.specs.history.Invariant.{Invariant, WordsAreSound, TreeIsSound, LeadsToValue, insert_key, insert_value, delete_key, delete_value}
+use Rattle.ell_core.specs.history.Invariant.{Invariant, WordsAreSound, TreeIsSound, LeadsToValue, insert_key, insert_value, delete_key}
 use Rattle.ell_core.specs.history.Later.{Follows}
 use Rattle.ell_core.specs.statements.Effects.{MakesChange, op_brought, op_of_card, TakesPair, PairsChange, SamePairs}
 use Rattle.ell_core.proofs.lemmas.following.TreeKeys.{KeepsLinks, row_links, links_keep, pairs_same, pairs_more, pairs_replaced, pairs_less}
@@ -24,7 +24,7 @@ use Rattle.ell_core.proofs.lemmas.keeping.insert_child.IChild.{ichild_won-waits,
 use Rattle.ell_core.proofs.lemmas.keeping.delete_child.DChild.{dchild-loses_pair, dchild-lost_same}
 use Rattle.ell_core.proofs.lemmas.stages.Holding.{insert_kind, delete_kind}
 use Rattle.ell_core.proofs.lemmas.stages.Order.{marked-delete}
-use Rattle.ell_core.proofs.lemmas.words.Sides.{card_key-insert, card_value-insert, card_key-delete, card_value-delete}
+use Rattle.ell_core.proofs.lemmas.words.Sides.{card_key-insert, card_value-insert, card_key-delete, card_value-delete, delete_value}
 use Rattle.ell_core.proofs.lemmas.stages.LaterKeys.{root_born}
 use Rattle.ell_ops.specs.declared.reply.Reply.{Reply}
 

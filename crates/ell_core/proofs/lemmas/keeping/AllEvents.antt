@@ -7,7 +7,7 @@ use Rattle.ell_core.specs.state.Machine.{Machine}
 use Rattle.ell_core.specs.acts.Events.{Steps}
 use Rattle.ell_core.specs.history.Stages.{Stages}
 use Rattle.ell_core.specs.history.Invariant.{Invariant, HasInvariant}
-use Rattle.ell_core.specs.history.Later.{Follows, KeepsInvariant}
+use Rattle.ell_core.specs.history.Later.{Follows}
 use Rattle.ell_core.proofs.lemmas.keeping.search.Begin.{keeps_begin, keeps_again, keeps_leave}
 use Rattle.ell_core.proofs.lemmas.keeping.search.Upd.{keeps_upd}
 use Rattle.ell_core.proofs.lemmas.keeping.claim.Claim.{keeps_claim}
@@ -20,6 +20,7 @@ use Rattle.ell_core.proofs.lemmas.keeping.updates.DFlag.{keeps_dflag}
 use Rattle.ell_core.proofs.lemmas.keeping.updates.Mark.{keeps_mark}
 use Rattle.ell_core.proofs.lemmas.keeping.updates.DUnflag.{keeps_dunflag, keeps_backtrack}
 use Rattle.ell_core.proofs.lemmas.keeping.search.Answer.{keeps_answer}
+use Rattle.ell_core.proofs.lemmas.keeping.KeepsInvariant.{KeepsInvariant}
 
 -- an act, whichever it is
 keeps : (a : Act) → KeepsInvariant a

@@ -322,11 +322,6 @@ module _ (start : List (ℕ × ℕ)) (ascending : IsStrictlyIncreasing (keys_of 
       tree = tree_sound;
     }
 
-  -- so they are whether the tree is flat or not
-  pub start_sound : (flat : Bool) → WordsAreSound (words_at_start flat start) (start_stages (length start + 1))
-  start_sound flat = subst (λ words. WordsAreSound words (start_stages (length start + 1))) (sym (start_words_are flat start))
-      (from_sound (flat_start flat (length start + 1)) (flat_is flat (length start + 1)))
-
 -- the first of two that are true
 first_of : (a b : Bool) → (a && b) ≡ true → a ≡ true
 first_of true b h = refl

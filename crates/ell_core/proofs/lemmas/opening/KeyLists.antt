@@ -68,16 +68,6 @@ search_finds keys k found rising says = by found (searched keys k found says apa
           | inr past ↦ let h = more n past low in omega arith
         ]
 
--- so it tells whether a key is there
-pub search_tells : (keys : List ℕ) (k : ℕ) (found : Result ℕ ℕ) → IsStrictlyIncreasing keys → IsBinarySearchResult (λ y. nat_cmp y k) keys found
-    → is_ok found ≡ set_of keys k
-search_tells keys k found rising says = by (is_ok found) (set_of keys k) (search_finds keys k found rising says)
-  where
-    by : (a b : Bool) → IsTrue a ↔ (b ≡ true) → a ≡ b
-    by true b h = sym (h.0 refl)
-    by false true h = h.1 refl
-    by false false h = refl
-
 -- a key and a value at a place are those of the pair there
 pair_at : (pairs : List (ℕ × ℕ)) (i : ℕ) → i < length pairs
     → (get_or (keys_of pairs) i 0 ≡ (get_or pairs i (0, 0)).0) × (get_or (values_of pairs) i 0 ≡ (get_or pairs i (0, 0)).1)

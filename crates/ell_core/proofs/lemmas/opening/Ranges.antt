@@ -1,9 +1,9 @@
 use Rattle.std.proofs.Common.{◌≡◌, ℕ, ◌%◌, ◌<◌, ◌≤◌, ◌⊎◌, inl, inr, Bool, true, false, nat_le, refl, sym, ap, ◌∙◌, subst, arith}
 use Rattle.ell_ops.specs.Meaning.{greatest_key}
-use Rattle.ell_word.specs.Node.{IsInternal, infinity1, infinity2}
+use Rattle.ell_word.specs.Node.{IsInternal, infinity2}
 use Rattle.ell_layout.specs.Start.{opening_words}
 use Rattle.ell_trie.specs.Ranges.{low_of, high_of, next_node, Spans, root, goes, at_leaf, below, IsOrdered}
-use Rattle.ell_core.specs.history.Invariant.{top, IsIn, LeadsTo}
+use Rattle.ell_core.specs.history.Invariant.{top, LeadsTo}
 use Rattle.ell_core.proofs.lemmas.tree.Ranks.{rank_plain}
 use Rattle.ell_core.specs.tree.Rank.{rank}
 
@@ -67,14 +67,6 @@ opening_ordered = record {
   proper = λ x low high spans inner. proper_place x low high (places spans) inner;
   rising = λ x low high right spans inner. rank_rising x low high right (places spans) inner;
 }
-
--- its root is in it
-pub opening_root : (x : ℕ) → x ≡ 0 → IsIn opening_words x
-opening_root x h = record { low = 0; high = top; spans = root h refl refl }
-
--- the lesser infinity is in it
-pub opening_last : LeadsTo opening_words infinity1 0
-opening_last = below refl refl (at_leaf (λ (h : 1 % 4 ≡ 0). omega arith) refl tt)
 
 -- the root's child on a side is one of the leaves
 root_leaf : (right : Bool) → (opening_words.child 0 right ≡ 1) ⊎ (opening_words.child 0 right ≡ 2)

@@ -270,11 +270,7 @@ module _ (leaves : ℕ) (some : 0 < leaves) (leaf key : ℕ → ℕ) (child : �
     rising = λ x low high right spans inner. place_rising rank rises x low high right inner (places spans);
   }
 
-  -- each card's internal node is reached
-  InTree : ℕ → Type 0
-  InTree x = IsSpanned key child top x
-
-  -- so is the child of one on a side
+  -- the child of an internal node that is reached is reached, on either side
   child_reached : (x : ℕ) (right : Bool) → IsInternal x → IsSpanned key child top x → IsSpanned key child top (child x right)
   child_reached x right inner at = record {
     low = low_of right at.low (key x);

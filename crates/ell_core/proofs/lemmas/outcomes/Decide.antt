@@ -61,14 +61,6 @@ pub cases_option : {A : Type 0} (o : Option A) → ((x : A) × (o ≡ Some x)) �
 cases_option None = inr refl
 cases_option (Some x) = inl (x, refl)
 
--- an option is an insert in hand, or is none of any key and value
-pub cases_insert : (o : Option Op) → ((key : ℕ) × (value : ℕ) × (o ≡ Some (Insert key value))) ⊎ ((key value : ℕ) → ¬ (o ≡ Some (Insert key value)))
-cases_insert None = inr (λ key value e. (cc))
-cases_insert (Some (Find k)) = inr (λ key value e. (cc))
-cases_insert (Some (Insert k value)) = inl (k, value, refl)
-cases_insert (Some (Delete k)) = inr (λ key value e. (cc))
-cases_insert (Some (Swap k was value)) = inr (λ key v e. (cc))
-
 -- an option is a delete in hand, or is none of any key
 pub cases_delete : (o : Option Op) → ((key : ℕ) × (o ≡ Some (Delete key))) ⊎ ((key : ℕ) → ¬ (o ≡ Some (Delete key)))
 cases_delete None = inr (λ key e. (cc))

@@ -10,7 +10,7 @@ use Rattle.ell_core.specs.declared.fact.Fact.TheVariants as fact
 use Rattle.ell_layout.specs.Words.{Words}
 use Rattle.ell_core.specs.state.Facts.{card_of_fact}
 use Rattle.ell_core.specs.state.Machine.{Ledger, Worker}
-use Rattle.ell_layout.specs.Cards.{iflag, dflag, marked, is_right, is_delete_card, card_child, card_tag, card_key}
+use Rattle.ell_layout.specs.Cards.{iflag, dflag, marked, is_right, is_delete_card, card_tag, card_key}
 use Rattle.ell_core.specs.soundness.Holds.{IFlagHolds, IChangeHolds, DFlagHolds, MarkHolds, UnmarkableHolds, CutHolds, Holds, entry_made, is_changed_in, is_cut_in, made_in, with_made, effective_of, effective}
 use Rattle.ell_core.specs.history.Stages.{Stage, Stages, is_insert, is_delete, insert_won, insert_open, insert_waits, is_changed, insert_over, delete_won, delete_open, delete_waits, is_unmarkable, is_marked, is_cut, delete_past, delete_over, is_backed, allows, made_by_stage, effective_at_of, effective_at}
 use Rattle.ell_core.specs.history.Stages as at
@@ -107,10 +107,6 @@ module _ (w : Words) (stage : Stages) (sound : WordsAreSound w stage) where
       ap (is_right w (w.p c)) (cond-false (is_delete_card w c) (delete_key w c) (insert_key w c) (insert_kind c h))
       ∙ insert_key-side w stage c ((sound.cards c).insert h)
 
-  -- so the child there is the one that its exchange is about
-  pub insert_card_child : (c : ℕ) → is_insert (stage c) ≡ true → card_child w c (w.p c) ≡ w.child (w.p c) (insert_side w c)
-  insert_card_child c h = ap (w.child (w.p c)) (insert_card_side c h)
-
   pub insert_card_tag : (c : ℕ) → is_insert (stage c) ≡ true → card_tag w c (w.p c) ≡ w.tag (w.p c) (insert_side w c)
   insert_card_tag c h = ap (w.tag (w.p c)) (insert_card_side c h)
 
@@ -118,9 +114,6 @@ module _ (w : Words) (stage : Stages) (sound : WordsAreSound w stage) where
   delete_card_side : (c : ℕ) → is_delete (stage c) ≡ true → is_right w (w.gp c) (card_key w c) ≡ delete_side w c
   delete_card_side c h =
       ap (is_right w (w.gp c)) (cond-true (is_delete_card w c) (delete_key w c) (insert_key w c) (delete_kind c h))
-
-  pub delete_card_child : (c : ℕ) → is_delete (stage c) ≡ true → card_child w c (w.gp c) ≡ w.child (w.gp c) (delete_side w c)
-  delete_card_child c h = ap (w.child (w.gp c)) (delete_card_side c h)
 
   pub delete_card_tag : (c : ℕ) → is_delete (stage c) ≡ true → card_tag w c (w.gp c) ≡ w.tag (w.gp c) (delete_side w c)
   delete_card_tag c h = ap (w.tag (w.gp c)) (delete_card_side c h)

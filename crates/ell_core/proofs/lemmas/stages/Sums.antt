@@ -102,9 +102,6 @@ unflagged-sum s h = grind arith
 pub sum-flagged : (s : Stage) → 0 < sum_by all_flags (wins_of s) → was_flagged s ≡ true
 sum-flagged s h = grind arith
 
-pub flagged-sum : (s : Stage) → was_flagged s ≡ true → 0 < sum_by all_flags (wins_of s)
-flagged-sum s h = grind arith
-
 pub flags-once : (s : Stage) → sum_by all_flags (wins_of s) ≤ 1
 flags-once s = grind arith
 

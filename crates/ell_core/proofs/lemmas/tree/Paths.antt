@@ -15,12 +15,6 @@ pub Leads-append : (w : Words) (x y z : ℕ) (p q : List Bool) → Leads w x p y
 Leads-append w x y z [] q first second = subst (λ from. Leads w from q z) first second
 Leads-append w x y z (right ∷ p) q first second = (first.0, Leads-append w (w.child x right) y z p q first.1 second)
 
--- a path of two parts comes by a node between them
-pub Leads-split : (w : Words) (x z : ℕ) (p q : List Bool) → Leads w x (p ++ q) z → (y : ℕ) × Leads w x p y × Leads w y q z
-Leads-split w x z [] q whole = (x, refl, whole)
-Leads-split w x z (right ∷ p) q whole =
-    let rest = Leads-split w (w.child x right) z p q whole.1 in (rest.0, (whole.0, rest.1), rest.2)
-
 -- a path from x leads to one node
 pub Leads-same : (w : Words) (x y z : ℕ) (p : List Bool) → Leads w x p y → Leads w x p z → y ≡ z
 Leads-same w x y z [] first second = cc

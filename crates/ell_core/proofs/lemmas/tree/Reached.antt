@@ -181,7 +181,3 @@ pub leads_tree_pair : (w : Words) (k value : ℕ) → k ≤ greatest_key → Lea
 leads_tree_pair w k value real leads =
     let found = Meets-finds w k value leads in
     record { leaf = found.leaf; reached = OnWalk-below w k found.on; outer = found.outer; has = found.has; says = found.says; real = real }
-
--- so it is of the key alone
-pub leads_tree_key : (w : Words) (k : ℕ) → k ≤ greatest_key → LeadsTo w k 0 → IsTreeKey w k
-leads_tree_key w k real leads = let there = leads_some w k leads in (there.0, leads_tree_pair w k there.0 real there.1)

@@ -6,7 +6,11 @@ use Rattle.ell_layout.specs.Words.{Words}
 use Rattle.ell_layout.specs.Cards.{is_right, is_delete_card, card_key, card_value, sibling}
 use Rattle.ell_core.specs.tree.Flat.{IsNodeKey}
 use Rattle.ell_core.specs.history.Stages.{Stages}
-use Rattle.ell_core.specs.history.Invariant.{insert_key, insert_value, delete_key, delete_value, insert_side, InsertCard}
+use Rattle.ell_core.specs.history.Invariant.{insert_key, insert_value, delete_key, insert_side, InsertCard}
+
+-- a delete's value: that of its leaf
+abbrev pub delete_value : Words → ℕ → ℕ
+delete_value w c = w.value (w.l c)
 
 -- an insert's key by the three keys that it depends on
 abbrev pub key_of_three : ℕ → ℕ → ℕ → ℕ

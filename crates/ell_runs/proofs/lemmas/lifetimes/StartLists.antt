@@ -5,9 +5,9 @@ use Rattle.ell_layout.specs.Layout.{table_size}
 use Rattle.ell_layout.specs.Words.{Words, words_of}
 use Rattle.ell_layout.specs.Cards.{filled_list}
 use Rattle.ell_layout.specs.Branches.{branch_of, descend}
-use Rattle.ell_layout.specs.Start.{start_leaf, start_value, start_words, words_at_start, root_filling, branch_filling}
+use Rattle.ell_layout.specs.Start.{start_leaf, start_value, start_words, words_at_start, branch_filling}
 use Rattle.ell_layout.proofs.lemmas.Listed.{length_after_fields, words_after_fields, flat_written}
-use Rattle.ell_layout.proofs.lemmas.Growing.{growing, rooted_words, grows, grown_up}
+use Rattle.ell_layout.proofs.lemmas.Growing.{root_filling, growing, rooted_words, grows, grown_up}
 use Rattle.ell_runs.specs.SmallRun.{small_plan}
 use Rattle.ell_runs.specs.Starts.{MayStart, StartWords}
 use Rattle.ell_runs.specs.Plans.{TablePlan}

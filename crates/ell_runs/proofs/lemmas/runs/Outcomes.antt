@@ -41,7 +41,7 @@ use Rattle.ell_runs.specs.Views.{Knows}
 use Rattle.ell_runs.specs.Guards.{MayFill, IsFilled}
 use Rattle.ell_runs.specs.Laws.{machine_of_table}
 use Rattle.ell_runs.specs.Changes.{if_won, exchanged, after_flag, with_fact, unmarking, is_mark_of, after_mark}
-use Rattle.ell_runs.specs.Calls.{word_of, atomic_of, left_by, is_won, after, May, update_address}
+use Rattle.ell_runs.specs.Calls.{word_of, atomic_of, left_by, is_won, after, May}
 use Rattle.ell_runs.specs.States.{TableState, seat_worker}
 use Rattle.ell_runs.specs.TurnEffects.{own_words}
 use Rattle.ell_runs.specs.Machines.{HasMachine}
@@ -60,6 +60,7 @@ use Rattle.ell_runs.proofs.lemmas.runs.Met.{some_same, IsPassed, searches_are_me
 use Rattle.ell_runs.proofs.lemmas.runs.Reaching.{reached_on, reached_kept}
 use Rattle.ell_runs.proofs.lemmas.runs.Won.{number, one, count, times, total, won_by, other_kind, call_total}
 use Rattle.ell_runs.proofs.lemmas.runs.Counts.{Counts, wins_are_counted, ClaimsCount, claims_are_counted}
+use Rattle.ell_runs.proofs.lemmas.words.Addresses.{update_address}
 
 -- the update word that a machine has at a node that came into the tree is the table's
 pub listed_update : (plan : TablePlan) (s : TableState) (r : HasMachine plan s) (x : ℕ) → IsInternal x → Born r.stages x

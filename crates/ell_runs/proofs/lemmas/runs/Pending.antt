@@ -58,13 +58,6 @@ hand_after plan (call.DFlag c gp from) n v keeps may = inr (inr (does_flag (n ==
 hand_after plan (call.Mark c p was) n v keeps may = inr (inr (does_mark (n == was) c p (unpacked n) v))
 hand_after plan _ n v keeps may = inr (inr refl)
 
--- a call that neither begins an operation, nor answers it, nor lays it down
-abbrev pub IsPlain : Call → Type 0
-IsPlain (call.Begin op) = ⊥
-IsPlain (call.Answer said took) = ⊥
-IsPlain call.Leave = ⊥
-IsPlain _ = Unit {0}
-
 -- a pass that has an operation in hand begins no other, and is not split or joined
 keeps_of : (plan : TablePlan) (c : Call) (v : View) (op : Op) → Does v op → May plan c v → KeepsOn c
 keeps_of plan (call.Begin o) v op does may = absurd (some_not_none does may.0)

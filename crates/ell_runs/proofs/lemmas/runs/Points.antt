@@ -251,10 +251,6 @@ record Deletes (s : TableState) (old new : Words) (c : ℕ) (wins : List Exchang
   work : IsAtWork s c (Delete (card_key (own_words s) c))
   own : wins ≡ exchange.DChild ∷ []
 
-no_win : (k : Exchange) (b : Bool) → InList k (if b then [] else []) → ⊥
-no_win k true h = not_in_none k [] refl h
-no_win k false h = not_in_none k [] refl h
-
 inserts_by : (s : TableState) (old new : Words) (c : ℕ) (y : Call) (b : Bool) → InList exchange.IChild (if b then win_of y c else [])
     → PairsChangeBy y b old new → ChangeIsOf y b s → Inserts s old new c (if b then win_of y c else [])
 inserts_by s old new c y false h pairs work = absurd (not_in_none exchange.IChild [] refl h)

@@ -255,13 +255,6 @@ module _ (plan : TablePlan) (s0 : TableState) (r0 : HasMachine plan s0) (first :
       flagged = flags_on (wins is_flag s t) refl;
     }
 
-  none_since : (c : ℕ) → flag_since first first c ≡ false
-  none_since c = by (was_flagged (first c))
-    where
-      by : (b : Bool) → (not b && b) ≡ false
-      by true = refl
-      by false = refl
-
   -- where the stretch begins
   pub amid_first : Amid s0 (λ d. []) 0
   amid_first = record {

@@ -6,7 +6,6 @@ use Rattle.ell_runs.specs.declared.call.Call.TheVariants as call
 use Rattle.ell_runs.specs.declared.view.Told.TheVariants.{Met}
 use Rattle.ell_runs.specs.Changes.{after_claim, after_upd}
 use Rattle.ell_runs.proofs.lemmas.views.Afters.{after_next}
-use Rattle.ell_runs.specs.Calls.{update_address}
 use Rattle.ell_runs.specs.Tellings.{told_of, NoGreaterNext, NoUntriedClaimLost, NoGreaterUpdate}
 use Rattle.ell_runs.proofs.lemmas.views.Entries.{places_more}
 use Rattle.ell_core.proofs.lemmas.words.Packed.{packed_again}
@@ -15,6 +14,7 @@ use Rattle.ell_runs.proofs.lemmas.runs.Reaching.{reached_kept}
 use Rattle.ell_runs.proofs.lemmas.runs.Readings.{readings_are_past}
 use Rattle.ell_runs.proofs.lemmas.runs.Met.{searches_are_met}
 use Rattle.ell_runs.proofs.lemmas.runs.Outcomes.{listed_update}
+use Rattle.ell_runs.proofs.lemmas.words.Addresses.{update_address}
 
 -- a word that a step leaves as it is
 still : (words : List ℕ) (i : ℕ) → get_or (set words i (get_or words i 0)) i 0 ≡ get_or words i 0

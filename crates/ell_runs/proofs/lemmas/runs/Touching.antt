@@ -52,7 +52,7 @@ use Rattle.ell_runs.specs.Views.{Has, latest, earlier, IsTold, Knows, KnowsCard}
 use Rattle.ell_runs.specs.Changes.{forgotten, places_by, told_info, told_filling, filling_of, depth_there, after_claim, after_flag, after_mark, is_mark_of, unmarking, with_fact, left_view, right_view, joined_view, expected_tag}
 use Rattle.ell_runs.specs.Depths.{depth_told, met_at}
 use Rattle.ell_runs.specs.Guards.{MayAsk}
-use Rattle.ell_runs.specs.Calls.{after, May, act_of, said_of, Becomes, child_address, update_address}
+use Rattle.ell_runs.specs.Calls.{after, May, act_of, said_of, Becomes, child_address}
 use Rattle.ell_runs.specs.States.{TableState}
 use Rattle.ell_runs.specs.Machines.{HasMachine}
 use Rattle.ell_runs.specs.Laws.{machine_of_table}
@@ -74,6 +74,7 @@ use Rattle.ell_runs.proofs.lemmas.runs.Reaching.{reached_on}
 use Rattle.ell_runs.proofs.lemmas.stepping.Asking.{says}
 use Rattle.ell_runs.proofs.lemmas.runs.Starting.{starts_are_kept}
 use Rattle.ell_runs.proofs.lemmas.runs.TurnsOfRuns.{turn_lawful}
+use Rattle.ell_runs.proofs.lemmas.words.Addresses.{update_address}
 
 -- the claim word, and a word of the root
 claim_word : IsWordOf AtRoot 0

@@ -124,9 +124,6 @@ AllUnclaimed won (Claim c ∷ hs) = (times exchange.Claim c won ≡ 0) × AllUnc
 AllUnclaimed won (Found u ∷ hs) = AllUnclaimed won hs
 
 module _ (plan : TablePlan) where
-  abbrev last : ℕ
-  last = plan.last_card
-
   turn_grows : (s : TableState) → IsReached plan s → (seat : ℕ) (v : View) → get_elem? s.views seat ≡ some v → (t : Turn) (s' : TableState) (turn : TableTurns plan s t s')
       → (goes : SeatGoesOn KeepsOn plan s seat v t s') → Grows s v s' goes.view
   turn_grows s reached seat v there t s' turn goes = record {

@@ -19,7 +19,6 @@ use Rattle.ell_runs.specs.Plans.{TablePlan}
 use Rattle.ell_runs.specs.declared.call.Call.TheVariants as call
 use Rattle.ell_runs.specs.declared.view.Told.TheVariants.{Value}
 use Rattle.ell_runs.specs.declared.view.View.{View}
-use Rattle.ell_runs.specs.Calls.{key_address}
 use Rattle.ell_runs.specs.Changes.{with_entry as with_entry_for, after_begin, after_again, after_leave, after_answer, answered_ledger, with_entry as put_entry}
 use Rattle.ell_runs.specs.Guards.{MayBegin, MayAnswer, TellsOf, KnowsAnswerAtLeaf, KnowsAnswerByCard, CardIsOver}
 use Rattle.ell_runs.specs.Views.{Knows, KnewBefore}
@@ -44,6 +43,7 @@ use Rattle.ell_core.specs.declared.view.Entry.TheVariants.{Present, Absent}
 use Rattle.ell_ops.specs.declared.reply.Reply.{Reply}
 use Rattle.ell_ops.specs.declared.reply.Reply.TheVariants.{Yes, No, Found}
 use Rattle.std.proofs.lemmas.Bool.{false≢true}
+use Rattle.ell_runs.proofs.lemmas.words.Addresses.{key_address}
 
 -- a view with no key told where it stands and no card in hand
 bare : (w : Words) (stage : Stages) (v after : View) → after.here ≡ None → after.worker.card ≡ None

@@ -29,7 +29,6 @@ use Rattle.ell_runs.specs.declared.view.View.{View}
 use Rattle.ell_runs.specs.Views.{IsTold}
 use Rattle.ell_runs.specs.Changes.{after_flag, if_won, exchanged}
 use Rattle.ell_runs.specs.Guards.{MayFill, IsFilled, MayIFlag, MayDFlag}
-use Rattle.ell_runs.specs.Calls.{update_address}
 use Rattle.ell_runs.specs.States.{TableState}
 use Rattle.ell_runs.specs.Machines.{EntryHolds, HasMachine}
 use Rattle.ell_runs.specs.Laws.{IsEvent}
@@ -40,6 +39,7 @@ use Rattle.ell_runs.proofs.lemmas.seats.Seats.{mine, becomes, mine_is, relies}
 use Rattle.ell_runs.proofs.lemmas.seats.Frames.{Onward, IsReached, waits_on, is_event}
 use Rattle.ell_runs.proofs.lemmas.stepping.Looks.{update_listed, found_entries, names_card}
 use Rattle.ell_runs.proofs.lemmas.stepping.Exchanges.{in_list, found_at, exchanged_words, Settles, exchange_leads, update_exchanged, update_says}
+use Rattle.ell_runs.proofs.lemmas.words.Addresses.{update_address}
 
 -- the machine's worker after a flag exchange that found n
 flagging_worker : (v : View) (new : Fact) (x n : ℕ) (b : Bool)

@@ -12,12 +12,13 @@ use Rattle.ell_layout.proofs.lemmas.Writes.{update_at_node, child_word_at_node}
 use Rattle.ell_runs.specs.Plans.{TablePlan}
 use Rattle.ell_runs.specs.declared.view.View.{View}
 use Rattle.ell_runs.specs.Views.{Knows, KnowsDelete, KnowsCard}
-use Rattle.ell_runs.specs.Calls.{update_address, child_address}
+use Rattle.ell_runs.specs.Calls.{child_address}
 use Rattle.ell_runs.specs.States.{TableState}
 use Rattle.ell_runs.specs.Machines.{HasMachine}
 use Rattle.ell_core.proofs.lemmas.stages.Waiting.{born-settled, insert_won-settled, delete_won-settled}
 use Rattle.ell_runs.proofs.lemmas.seats.Seats.{mine_sound}
 use Rattle.ell_word.specs.Link.{linked}
+use Rattle.ell_runs.proofs.lemmas.words.Addresses.{update_address}
 
 module _ (plan : TablePlan) (s : TableState) (r : HasMachine plan s) (id : ℕ) (v : View) (here : get_elem? s.views id ≡ some v) where
   -- a card known flagged by an insert

@@ -16,7 +16,7 @@ use Rattle.ell_runs.specs.Views.{IsFree}
 use Rattle.ell_runs.proofs.lemmas.views.Afters.{after_look, after_look_down}
 use Rattle.ell_runs.specs.Changes.{forgotten, after_rest}
 use Rattle.ell_runs.specs.Guards.{MayLookDown}
-use Rattle.ell_runs.specs.Calls.{child_address, key_address}
+use Rattle.ell_runs.specs.Calls.{child_address}
 use Rattle.ell_runs.specs.States.{TableState}
 use Rattle.ell_runs.specs.Machines.{HasMachine}
 use Rattle.ell_runs.specs.Laws.{IsEvent}
@@ -31,6 +31,7 @@ use Rattle.ell_core.proofs.lemmas.tree.Ranks.{rank_root, ranked_apart}
 use Rattle.ell_runs.proofs.lemmas.views.Depths.{met_more}
 use Rattle.ell_word.specs.Link.{link_in}
 use Rattle.ell_word.specs.declared.link.Link.{Link}
+use Rattle.ell_runs.proofs.lemmas.words.Addresses.{key_address}
 
 module _ (plan : TablePlan) (s : TableState) (r : HasMachine plan s) (id : ℕ) (v : View) (here : get_elem? s.views id ≡ some v) where
   -- the child of an internal node that came into the tree, as it stands in the table

@@ -48,7 +48,7 @@ use Rattle.ell_runs.specs.Changes.{places_by, after_upd, is_this}
 use Rattle.ell_runs.proofs.lemmas.views.Afters.{after_down, after_next, after_key_of, after_value_of}
 use Rattle.ell_runs.proofs.lemmas.views.SeenNodes.{seen_at}
 use Rattle.ell_runs.specs.Guards.{MayRead as MayUpd, MayGoDown}
-use Rattle.ell_runs.specs.Calls.{TellsKey, TellsLedgerValue, update_address, child_address, key_address, value_address}
+use Rattle.ell_runs.specs.Calls.{TellsKey, TellsLedgerValue, child_address}
 use Rattle.ell_runs.specs.States.{TableState}
 use Rattle.ell_runs.specs.Machines.{EntryHolds, over_before, HasMachine}
 use Rattle.ell_runs.specs.Laws.{IsEvent}
@@ -61,6 +61,7 @@ use Rattle.ell_runs.proofs.lemmas.seats.Frames.{looks, kept_told, is_event, is_n
 use Rattle.ell_core.specs.tree.Rank.{rank}
 use Rattle.ell_word.specs.Link.{linked, link_in, node_bound}
 use Rattle.ell_word.specs.declared.link.Link.{Link}
+use Rattle.ell_runs.proofs.lemmas.words.Addresses.{update_address, key_address, value_address}
 
 -- an entry that is not present has no value
 no_value : (entry : Option Entry) → ((value : ℕ) → entry ≢ Some (Present value)) → value_in entry ≡ None

@@ -1,11 +1,11 @@
-use Rattle.std.proofs.Common.{◌≡◌, ◌≢◌, ℕ, ◌<◌, ◌==◌, if◌then◌else◌, eq-eqb, ne_eqb, Bool, true, false, List, length, get_or, set, sym, ap, ◌∙◌, arith, inl, inr, get_or-set_same, get_or-set_other}
+use Rattle.std.proofs.Common.{◌≡◌, ◌≢◌, ℕ, ◌<◌, ◌==◌, if◌then◌else◌, eq-eqb, ne_eqb, true, false, List, length, get_or, set, sym, ap, ◌∙◌, arith, inl, inr, get_or-set_same, get_or-set_other}
 use Rattle.std.proofs.lemmas.Bool.{cases_eq}
 use Rattle.ell_layout.specs.declared.field.Field.{Field}
 use Rattle.ell_layout.specs.declared.field.Field.TheVariants.{Gp, P, L, Was, Key, Left, Right, Update, LeftLeafKey, RightLeafKey, LeftValue, RightValue}
 use Rattle.ell_layout.specs.Layout.{address, place, listed}
 use Rattle.ell_word.specs.Node.{card, IsInternal}
-use Rattle.ell_layout.specs.Words.{Words, word, table_word, written, table_written, with_update, child_field}
-use Rattle.ell_layout.proofs.lemmas.Writes.{written_here, written_elsewhere, internal_at_node}
+use Rattle.ell_layout.specs.Words.{Words, table_word, table_written, with_update}
+use Rattle.ell_layout.proofs.lemmas.Writes.{internal_at_node}
 use Rattle.ell_layout.proofs.lemmas.Listed.{same_place-field}
 use Rattle.ell_word.specs.Link.{linked}
 use Rattle.ell_core.specs.history.Later.{SaysTheSame}
@@ -38,20 +38,6 @@ module _ (words : List ℕ) (d : ℕ) (g : Field) (x : ℕ) where
         ∙ (get_or-set_same words (address d g) x 0 fits ∙ sym (if_same (place g) (place f) x (listed words d f) e))
     | inr n ↦ listed_else d f (λ e. n (omega arith)) ∙ sym (if_other (place g) (place f) x (listed words d f) n)
   ]
-
--- the same of the machine's words
-pub written_there : (w : Words) (c : ℕ) (g : Field) (x : ℕ) (f : Field)
-    → word (written w c g x) c f ≡ (if place g == place f then x else word w c f)
-written_there w c g x f = elim (cases_eq (place g) (place f)) [
-  | inl e ↦ ap (λ (h : Field). word (written w c g x) c h) (sym (same_place-field g f e))
-      ∙ (written_here w c g x ∙ sym (if_same (place g) (place f) x (word w c f) e))
-  | inr n ↦ written_elsewhere w c f c g x (λ e. n (omega arith)) ∙ sym (if_other (place g) (place f) x (word w c f) n)
-]
-
--- the place of a child
-pub child_place : (right : Bool) → place (child_field right) < 10
-child_place true = omega arith
-child_place false = omega arith
 
 -- a write to the update word of an internal node, as one to its card
 pub write_update_at_node : (w : Words) (x value : ℕ) → IsInternal x → table_written w (card x) Update value ≡ with_update w x value

@@ -74,12 +74,6 @@ module _ (key : ℕ → ℕ) (child : ℕ → Bool → ℕ) (top : ℕ) {rank : 
       let v = Meets-within f (goes (nat_le (key x) k) r i e refl refl) in
       (omega arith, omega arith)
 
-  -- the leaf where a key is met
-  pub met_leaf : {holds : ℕ → Type 0} {k x low high : ℕ} → FindsLeaf key child holds k x → Spans key child top x low high
-      → (y a b : ℕ) × Spans key child top y a b × (¬ IsInternal y) × (key y ≡ k)
-  met_leaf {low = low} {high = high} (at_leaf {x = x} h e _) r = (x, low, high, r, h, e)
-  met_leaf {k = k} (below {x = x} i e f) r = met_leaf f (goes (nat_le (key x) k) r i e refl refl)
-
   -- the key of a leaf that is reached is met from node 0
   pub leaf_is_met : {holds : ℕ → Type 0} {x low high : ℕ} → Spans key child top x low high → ¬ IsInternal x → holds x → FindsLeaf key child holds (key x) 0
   leaf_is_met {x = x} {low = low} {high = high} r h that =

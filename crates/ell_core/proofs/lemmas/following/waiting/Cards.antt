@@ -1,4 +1,4 @@
-use Rattle.std.proofs.Common.{◌≡◌, ℕ, ◌<◌, ◌≤◌, inl, inr, Bool, true, false, Some, [], refl, ap, arith, ◌%◌}
+use Rattle.std.proofs.Common.{◌≡◌, ℕ, ◌<◌, inl, inr, Bool, true, false, Some, [], refl, ap, arith, ◌%◌}
 use Rattle.ell_word.specs.Node.{card, internal}
 use Rattle.ell_ops.specs.declared.op.Op.{Op}
 use Rattle.ell_ops.specs.declared.op.Op.TheVariants.{Find, Insert, Delete, Swap}
@@ -10,7 +10,7 @@ use Rattle.ell_core.specs.history.Later.{wins_of}
 use Rattle.ell_core.specs.statements.Waiting.{IsUnflagged, StagesTellWaiting, ClaimedCardsSay}
 use Rattle.ell_core.proofs.lemmas.outcomes.Decide.{cases_option, some_not_none}
 use Rattle.ell_core.proofs.lemmas.stages.Order.{insert-claimed, delete-claimed, insert_won-insert, delete_won-delete}
-use Rattle.ell_core.proofs.lemmas.stages.Waiting.{insert-waits, delete-waits, insert_won-settled, delete_won-settled, born-settled, unclaimed-settled, waits-claimed, waits-no_start, waits-wins, kind-waits}
+use Rattle.ell_core.proofs.lemmas.stages.Waiting.{insert-waits, delete-waits, insert_won-settled, delete_won-settled, born-settled, waits-claimed, waits-no_start, waits-wins, kind-waits}
 use Rattle.ell_layout.proofs.lemmas.Stored.{claimed_stored}
 use Rattle.ell_core.proofs.lemmas.following.facts.Claimed.{not_claimed}
 use Rattle.ell_word.specs.Link.{linked}
@@ -76,10 +76,6 @@ module _ (m : Machine) (stage : Stages) (invariant : Invariant m stage) where
   -- a claimed card that is none of the opening tree's and has won nothing waits
   pub claimed_waits : (c : ℕ) → c < m.words.next → is_start (stage c) ≡ false → wins_of (stage c) ≡ [] → waits (stage c) ≡ true
   claimed_waits c below n none = kind-waits (stage c) (invariant.kinds.kinds c below n) none
-
-  -- a card that was not claimed does not wait
-  pub past_settled : (c : ℕ) → m.words.next ≤ c → waits (stage c) ≡ false
-  past_settled c past = unclaimed-settled (stage c) (not_claimed m.words stage invariant.words c past)
 
 -- which cards wait
 pub stages_tell_waiting : StagesTellWaiting

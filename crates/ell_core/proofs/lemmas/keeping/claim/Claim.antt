@@ -13,7 +13,7 @@ use Rattle.ell_layout.specs.Cards.{claimed, put_filling, value_below, delete_fil
 use Rattle.ell_core.specs.acts.Searching.{claims, ClaimPut, ClaimDelete, MayTake}
 use Rattle.ell_core.specs.history.Stages.{Stage, Stages, Unclaimed, IClaimed, DClaimed, insert_open, delete_open, made_by_stage, is_insert, is_delete, is_claimed}
 use Rattle.ell_core.specs.history.Invariant.{CardIsSound, Unflagged, WorkerIsSound, Invariant, Flagged, StandIsSound}
-use Rattle.ell_core.specs.history.Later.{Follows, KeepsInvariant}
+use Rattle.ell_core.specs.history.Later.{Follows}
 use Rattle.ell_layout.proofs.lemmas.Writes.{put_same, put_cases}
 use Rattle.ell_core.proofs.lemmas.keeping.Puts.{put_key, hand_putting}
 use Rattle.ell_core.proofs.lemmas.keeping.OneWorker.{Becomes, workers_become}
@@ -30,6 +30,7 @@ use Rattle.ell_core.proofs.lemmas.stages.LaterKeys.{root_born}
 use Rattle.ell_core.proofs.lemmas.stages.Counts.{counts_unmade, counts_same}
 use Rattle.ell_core.proofs.lemmas.stages.Order.{insert-claimed, delete-claimed, insert_won-insert, delete_won-delete}
 use Rattle.ell_core.proofs.lemmas.outcomes.Decide.{cases_option, some_not_none}
+use Rattle.ell_core.proofs.lemmas.keeping.KeepsInvariant.{KeepsInvariant}
 
 -- nothing was made of a key by a card that was not claimed, or just was
 made_of_none : (o : Op) → (made_by_stage o Unclaimed ≡ None) × (made_by_stage o IClaimed ≡ None) × (made_by_stage o DClaimed ≡ None)

@@ -11,9 +11,9 @@ use Rattle.ell_layout.specs.Cards.{sibling}
 use Rattle.ell_core.specs.acts.Exchanges.{knowing, DChild, expected}
 use Rattle.ell_core.specs.acts.Events.{Happens}
 use Rattle.ell_core.specs.history.Stages.{Stages, DMarked, DCut, is_cut}
-use Rattle.ell_core.specs.history.Invariant.{LeadsTo, LeadsToValue, delete_key, delete_value, WordsAreSound, Invariant}
+use Rattle.ell_core.specs.history.Invariant.{LeadsTo, LeadsToValue, delete_key, WordsAreSound, Invariant}
 use Rattle.ell_core.proofs.lemmas.tree.Reached.{leads_any}
-use Rattle.ell_core.specs.history.Later.{Follows, KeepsInvariant, wins_of}
+use Rattle.ell_core.specs.history.Later.{Follows, wins_of}
 use Rattle.ell_layout.proofs.lemmas.Writes.{put_same}
 use Rattle.ell_core.proofs.lemmas.stages.Order.{cut-marked, marked_cases}
 use Rattle.ell_core.proofs.lemmas.keeping.Learning.{KnowsAllowed, learns_fact, takes_on_knowing, follows_knowing}
@@ -26,6 +26,8 @@ use Rattle.ell_core.proofs.lemmas.stages.Kinds.{kinds_later}
 use Rattle.ell_core.proofs.lemmas.keeping.SameOutcome.{follows_as}
 use Rattle.ell_core.proofs.lemmas.words.Exchanged.{child_found, child_missed}
 use Rattle.ell_core.proofs.lemmas.stages.Advances.{wins_put}
+use Rattle.ell_core.proofs.lemmas.keeping.KeepsInvariant.{KeepsInvariant}
+use Rattle.ell_core.proofs.lemmas.words.Sides.{delete_value}
 
 -- won is not lost
 won_not_lost : Won ≢ Lost

@@ -7,7 +7,7 @@ use Rattle.ell_layout.specs.Words.{Words, relinked}
 use Rattle.ell_layout.specs.Cards.{dflag, marked, exchange_side, sibling}
 use Rattle.ell_trie.specs.Ranges.{IsOrdered, goes}
 use Rattle.ell_core.specs.history.Stages.{Stages, DMarked, is_delete, is_marked, delete_open, delete_waits, Born}
-use Rattle.ell_core.specs.history.Invariant.{top, IsIn, IsOut, LeadsTo, LeadsToValue, IsOnCourse, delete_key, delete_value, delete_side, leaf_side, IsInnerBorn, IsLeafBorn, WordsAreSound}
+use Rattle.ell_core.specs.history.Invariant.{top, IsIn, IsOut, LeadsTo, LeadsToValue, IsOnCourse, delete_key, delete_side, leaf_side, IsInnerBorn, IsLeafBorn, WordsAreSound}
 use Rattle.ell_core.proofs.lemmas.words.Later.{child_there, child_elsewhere}
 use Rattle.ell_trie.proofs.lemmas.order.Bounds.{leaf_is_met}
 use Rattle.ell_trie.proofs.lemmas.order.Removes.{Removes, stays, was_p, was_l, Spans-left, Spans-remove, IsOrdered-remove, Meets-removed, Meets-kept, gone, met_before}
@@ -15,6 +15,7 @@ use Rattle.ell_trie.specs.Tries.{IsTrie}
 use Rattle.ell_trie.proofs.lemmas.Cuts.{trie_cut, course_cut}
 use Rattle.ell_core.specs.tree.Flat.{opening_from}
 use Rattle.ell_core.specs.tree.Rank.{rank}
+use Rattle.ell_core.proofs.lemmas.words.Sides.{delete_value}
 
 -- the words after the delete of card c has cut: its sibling stands at the grandparent in the parent's place
 abbrev pub cut_words : Words → ℕ → Words

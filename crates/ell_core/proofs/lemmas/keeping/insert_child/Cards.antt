@@ -43,14 +43,6 @@ module _ (w : Words) (stage : Stages) (sound : WordsAreSound w stage) (c : ℕ) 
     | inr n ↦ ap f (put_other stage c now d n)
   ]
 
-  -- what is not so of a changed insert is so of another card, and was before
-  pub elsewhere : (f : Stage → Bool) (value : Bool) → f now ≢ value → (d : ℕ) → f (stages d) ≡ value
-      → (d ≢ c) × (f (stage d) ≡ value)
-  elsewhere f value never d h = elim (cases_eq d c) [
-    | inl e ↦ absurd (never (sym (ap f (ap stages e ∙ put_same stage c now)) ∙ h))
-    | inr n ↦ (n, sym (ap f (put_other stage c now d n)) ∙ h)
-  ]
-
   -- what is not so of an insert that waits stays so
   pub still : (f : Stage → Bool) → f IFlagged ≢ true → (d : ℕ) → f (stage d) ≡ true → f (stages d) ≡ true
   still f never d h = elim (cases_eq d c) [

@@ -106,9 +106,6 @@ module _ (w : Words) (stage : Stages) (sound : WordsAreSound w stage) (c : ℕ) 
     new_key : w.key new_leaf ≡ insert_key w c
     new_key = child_key w stage sound c flagged two half ∙ h.own
 
-    old_key : w.key (w.child (internal c) (not half)) ≡ w.key (w.l c)
-    old_key = child_key w stage sound c flagged two (not half) ∙ h.old
-
     leaf_is : new_leaf ≡ leaf_on w stage sound c flagged two half
     leaf_is = own_leaf w stage sound c flagged two half new_key
 

@@ -13,7 +13,7 @@ use Rattle.ell_core.specs.state.Machine.{Machine, Scene, scene, with_scene}
 use Rattle.ell_core.specs.acts.Exchanges.{knowing, IChild, expected}
 use Rattle.ell_core.specs.history.Stages.{Stage, Stages, IFlagged, IChanged, RChanged, is_insert, is_changed}
 use Rattle.ell_core.specs.history.Invariant.{LeadsTo, LeadsToValue, insert_key, insert_value, insert_side, InsertCard, WordsAreSound, Invariant}
-use Rattle.ell_core.specs.history.Later.{Follows, KeepsInvariant, wins_of}
+use Rattle.ell_core.specs.history.Later.{Follows, wins_of}
 use Rattle.ell_layout.proofs.lemmas.Writes.{put_same}
 use Rattle.ell_core.proofs.lemmas.stages.Order.{waits_or_changed, changed-insert}
 use Rattle.ell_core.proofs.lemmas.keeping.Learning.{KnowsAllowed, learns_fact, takes_on_knowing, follows_knowing}
@@ -31,6 +31,7 @@ use Rattle.ell_core.proofs.lemmas.stages.Kinds.{kinds_later}
 use Rattle.ell_core.proofs.lemmas.keeping.SameOutcome.{follows_as}
 use Rattle.ell_core.proofs.lemmas.words.Exchanged.{child_found, child_missed}
 use Rattle.ell_core.proofs.lemmas.stages.Advances.{wins_put}
+use Rattle.ell_core.proofs.lemmas.keeping.KeepsInvariant.{KeepsInvariant}
 
 -- what the worker knows after the child exchange
 abbrev knows_after : Machine → ℕ → ℕ → Knowledge

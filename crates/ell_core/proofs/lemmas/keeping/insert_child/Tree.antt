@@ -6,11 +6,11 @@ use Rattle.ell_layout.specs.Words.{Words, IsLeaf, is_flat}
 use Rattle.ell_layout.specs.Cards.{is_replace_card, stays_below}
 use Rattle.ell_trie.specs.Ranges.{Spans, IsOrdered}
 use Rattle.ell_core.specs.history.Stages.{Stages, IFlagged, IChanged, Born}
-use Rattle.ell_core.specs.history.Invariant.{top, IsIn, IsOut, LeadsTo, LeadsToValue, IsOnCourse, insert_key, insert_value, insert_side, InsertCard, Unborn, WordsAreSound}
+use Rattle.ell_core.specs.history.Invariant.{top, IsIn, IsOut, LeadsTo, LeadsToValue, IsOnCourse, insert_key, insert_value, insert_side, InsertCard, WordsAreSound}
 use Rattle.ell_core.proofs.lemmas.stages.Order.{all-born}
 use Rattle.ell_trie.proofs.lemmas.order.Inserts.{Inserts, Spans-stays, IsOrdered-insert, Meets-inserted, Meets-before, Meets-new, absent_before}
 use Rattle.ell_trie.proofs.lemmas.order.Courses.{OnCourse-insert, stays_out}
-use Rattle.ell_core.proofs.lemmas.keeping.insert_child.Card.{ichild_words, its_card, its_nodes, its_child, its_relinks, parent_in, key_range, leaf_range, closed, not_born, out_kept}
+use Rattle.ell_core.proofs.lemmas.keeping.insert_child.Card.{ichild_words, its_card, its_child, its_relinks, parent_in, key_range, leaf_range, closed, not_born, out_kept}
 use Rattle.ell_core.proofs.lemmas.keeping.insert_child.Nodes.{Adds, its_order, its_keys, key_differs, own_child, new_keys, its_inner, copied_value, own_value}
 use Rattle.ell_core.proofs.lemmas.tree.Blocks.{no_block-plain}
 use Rattle.ell_core.proofs.lemmas.tree.Ranks.{rank_plain}
@@ -33,9 +33,6 @@ module _ (w : Words) (stage : Stages) (sound : WordsAreSound w stage) (c : ℕ) 
     (plain : w.flat_from ≡ 0) where
   abbrev card_said : InsertCard w stage c
   card_said = its_card w stage sound c flagged
-
-  abbrev nodes_said : Unborn w c
-  nodes_said = its_nodes w stage sound c flagged
 
   abbrev node_words : Words
   node_words = ichild_words w c (internal c)

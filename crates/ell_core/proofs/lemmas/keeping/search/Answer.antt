@@ -12,7 +12,7 @@ use Rattle.ell_core.specs.soundness.Holds.{with_made}
 use Rattle.ell_core.specs.soundness.Sound.{WorkerOwns}
 use Rattle.ell_core.specs.history.Stages.{Stage, Stages, insert_open, insert_over, delete_open, delete_over, made_by_stage, effective_at, effective_at_of}
 use Rattle.ell_core.specs.history.Invariant.{Invariant}
-use Rattle.ell_core.specs.history.Later.{Follows, KeepsInvariant}
+use Rattle.ell_core.specs.history.Later.{Follows}
 use Rattle.ell_core.specs.acts.Wins.{wins_by}
 use Rattle.ell_core.proofs.lemmas.outcomes.Decide.{same_value, some_not_none}
 use Rattle.ell_core.proofs.lemmas.keeping.search.Begin.{MayDrop, drops_backed, takes_on_ended}
@@ -23,6 +23,7 @@ use Rattle.ell_core.specs.declared.view.Entry.{Entry}
 use Rattle.ell_core.specs.declared.view.Entry.TheVariants.{Present, Absent}
 use Rattle.ell_ops.specs.declared.reply.Reply.{Reply}
 use Rattle.ell_ops.specs.declared.reply.Reply.TheVariants.{Yes, Found}
+use Rattle.ell_core.proofs.lemmas.keeping.KeepsInvariant.{KeepsInvariant}
 
 -- an option that a failed test gives
 pub gives_else : (test : Bool) (given reply : Reply) → (if test then None else Some given) ≡ Some reply → (test ≡ false) × (reply ≡ given)

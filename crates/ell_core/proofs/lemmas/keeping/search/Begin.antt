@@ -10,7 +10,7 @@ use Rattle.ell_core.specs.acts.Events.{LacksKey}
 use Rattle.ell_core.specs.soundness.Sound.{WorkerOwns, MayChange}
 use Rattle.ell_core.specs.history.Stages.{Stages, insert_open, delete_open, is_backed, effective_at, is_node_born}
 use Rattle.ell_core.specs.history.Invariant.{top, StandIsSound, Invariant}
-use Rattle.ell_core.specs.history.Later.{Follows, KeepsInvariant}
+use Rattle.ell_core.specs.history.Later.{Follows}
 use Rattle.ell_core.specs.acts.Wins.{wins_by}
 use Rattle.ell_core.proofs.lemmas.outcomes.Decide.{same_value, some_not_none}
 use Rattle.ell_trie.specs.Courses.{ordinary}
@@ -18,6 +18,7 @@ use Rattle.ell_trie.proofs.lemmas.order.Courses.{OnCourse-start}
 use Rattle.ell_core.proofs.lemmas.keeping.OneWorker.{HasInHand, TakesOn, follows_worker}
 use Rattle.ell_core.proofs.lemmas.stages.Counts.{counts_unmade}
 use Rattle.ell_core.proofs.lemmas.stages.Order.{backed_made, backed_insert, backed_delete}
+use Rattle.ell_core.proofs.lemmas.keeping.KeepsInvariant.{KeepsInvariant}
 
 -- a worker may drop what it has in hand and have this ledger: it owns the same keys, which count as in its effective ledger,
 -- and no flag of its card stands

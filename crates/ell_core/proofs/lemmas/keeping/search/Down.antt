@@ -12,12 +12,13 @@ use Rattle.ell_core.specs.acts.Searching.{gone_down}
 use Rattle.ell_trie.specs.Ranges.{below}
 use Rattle.ell_core.specs.history.Stages.{Stages}
 use Rattle.ell_core.specs.history.Invariant.{top, IsOnCourse, ChildrenAreSound, TreeIsSound, WordsAreSound, SeenIsSound, StandIsSound, WorkerIsSound, Invariant}
-use Rattle.ell_core.specs.history.Later.{Follows, KeepsInvariant}
+use Rattle.ell_core.specs.history.Later.{Follows}
 use Rattle.ell_core.specs.acts.Wins.{wins_by}
 use Rattle.ell_core.proofs.lemmas.outcomes.Decide.{same_value, some_not_none}
 use Rattle.ell_trie.proofs.lemmas.order.Bounds.{below_of, leaf_key}
 use Rattle.ell_core.proofs.lemmas.tree.Courses.{course_down}
 use Rattle.ell_core.proofs.lemmas.keeping.OneWorker.{TakesOn, follows_worker, takes_on_same}
+use Rattle.ell_core.proofs.lemmas.keeping.KeepsInvariant.{KeepsInvariant}
 
 -- the child on a side has its key on that side
 side_kept : (w : Words) (stage : Stages) (x : ℕ) (right : Bool) → ChildrenAreSound w stage x

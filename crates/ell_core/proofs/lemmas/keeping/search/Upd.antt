@@ -8,13 +8,14 @@ use Rattle.ell_core.specs.state.Machine.{Worker, Machine, with_scene}
 use Rattle.ell_core.specs.acts.Searching.{with_read}
 use Rattle.ell_core.specs.history.Stages.{Stages, Born}
 use Rattle.ell_core.specs.history.Invariant.{StandIsSound, WorkerIsSound, Invariant}
-use Rattle.ell_core.specs.history.Later.{Follows, KeepsInvariant}
+use Rattle.ell_core.specs.history.Later.{Follows}
 use Rattle.ell_core.specs.acts.Wins.{wins_by}
 use Rattle.ell_core.proofs.lemmas.outcomes.Decide.{cases_option, same_value, some_not_none}
 use Rattle.ell_core.proofs.lemmas.keeping.Learning.{KnowsAllowed, learns_word}
 use Rattle.ell_core.proofs.lemmas.keeping.going_on.InHand.{SamePlace, same_goal, unflagged_same, flagged_same, stands_same}
 use Rattle.ell_core.proofs.lemmas.keeping.OneWorker.{TakesOn, follows_worker, takes_on_same}
 use Rattle.ell_core.proofs.lemmas.stages.Advances.{stages_same}
+use Rattle.ell_core.proofs.lemmas.keeping.KeepsInvariant.{KeepsInvariant}
 
 -- a worker that has read an update word, with other knowledge
 abbrev pub reading : Worker → ℕ → Knowledge → Worker

@@ -15,7 +15,7 @@ use Rattle.ell_core.specs.acts.Exchanges.{won_or_lost, flags, flagged_worker}
 use Rattle.ell_trie.specs.Ranges.{at_leaf}
 use Rattle.ell_core.specs.history.Stages.{Stages, Opening, DClaimed, DFlagged, is_claimed, delete_won, insert_open, delete_open}
 use Rattle.ell_core.specs.history.Invariant.{delete_side, DeleteCard, DeleteStage, Markable, UpdateIsSound, SeenIsSound, StandIsSound, DeleteInHand, Invariant}
-use Rattle.ell_core.specs.history.Later.{Follows, KeepsInvariant, wins_of}
+use Rattle.ell_core.specs.history.Later.{Follows, wins_of}
 use Rattle.ell_layout.proofs.lemmas.Writes.{put_same, put_other}
 use Rattle.ell_core.proofs.lemmas.stages.Order.{delete_claimed}
 use Rattle.ell_core.proofs.lemmas.keeping.updates.Cards.{UpdateExchange}
@@ -28,6 +28,7 @@ use Rattle.ell_core.proofs.lemmas.words.CleanWords.{clean_remainder}
 use Rattle.ell_core.specs.declared.view.Entry.TheVariants.{Present}
 use Rattle.ell_core.specs.soundness.Sound.{WorkerOwns}
 use Rattle.ell_core.specs.tree.Rank.{rank}
+use Rattle.ell_core.proofs.lemmas.keeping.KeepsInvariant.{KeepsInvariant}
 
 module _ (m : Machine) (stage : Stages) (i k c : ℕ) (grandparent : Seen) (there : i < m.count) (sound : Invariant m stage)
     (h : HoldsCard m i c (Delete k)) (above : (m.worker i).search.grandparent ≡ Some grandparent) where

@@ -10,7 +10,7 @@ use Rattle.ell_layout.specs.Cards.{dflag, clean}
 use Rattle.ell_core.specs.acts.Exchanges.{DUnflags, knowing, DUnflag, Backtrack}
 use Rattle.ell_core.specs.history.Stages.{Stage, Stages, delete_open, allows, DUnmarkable, DCut, DOver, DBacked, is_marked, is_cut, is_unmarkable, delete_past, delete_over, is_backed, insert_won}
 use Rattle.ell_core.specs.history.Invariant.{DeleteStage, Invariant}
-use Rattle.ell_core.specs.history.Later.{Follows, wins_of, KeepsInvariant}
+use Rattle.ell_core.specs.history.Later.{Follows, wins_of}
 use Rattle.ell_core.specs.acts.Wins.{wins_by}
 use Rattle.ell_core.proofs.lemmas.stages.Order.{delete_not_insert_open, delete_not_opening, delete-claimed, delete_open-delete, delete_open-won, cut_cases, unmarkable_cases}
 use Rattle.ell_core.proofs.lemmas.keeping.Learning.{learns_fact, follows_knowing}
@@ -27,6 +27,7 @@ use Rattle.ell_core.proofs.lemmas.keeping.going_on.Stages.{no_insert}
 use Rattle.ell_core.proofs.lemmas.words.Exchanged.{update_found, update_missed}
 use Rattle.ell_core.proofs.lemmas.stages.Advances.{dunflag_kind, backtrack_kind, StageLater, wins_put, dunflag_later, backtrack_later, SameKind}
 use Rattle.ell_core.specs.tree.Rank.{rank}
+use Rattle.ell_core.proofs.lemmas.keeping.KeepsInvariant.{KeepsInvariant}
 
 -- the unflag of a card with a flag that stands leads to this stage, at which a fact may be known
 pub record Unflags (old new : Stage) (fact : Fact) (c : ℕ) : Type 0 where

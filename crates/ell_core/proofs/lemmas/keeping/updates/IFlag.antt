@@ -22,7 +22,7 @@ use Rattle.ell_core.proofs.lemmas.tree.Paths.{internal_or_leaf}
 use Rattle.ell_core.proofs.lemmas.stages.Edges.{found_block, replaces_leaf}
 use Rattle.ell_core.specs.history.Stages.{Stages, Opening, IClaimed, IFlagged, is_claimed, insert_won, insert_open, delete_open, made_by_stage}
 use Rattle.ell_core.specs.history.Invariant.{IsOnCourse, insert_key, insert_side, InsertCard, InsertStage, UpdateIsSound, SeenIsSound, StandIsSound, InsertInHand, IsPutting, Invariant}
-use Rattle.ell_core.specs.history.Later.{Follows, KeepsInvariant, wins_of}
+use Rattle.ell_core.specs.history.Later.{Follows, wins_of}
 use Rattle.ell_layout.proofs.lemmas.Writes.{put_same}
 use Rattle.ell_core.proofs.lemmas.stages.Order.{insert_claimed}
 use Rattle.ell_core.proofs.lemmas.keeping.updates.Cards.{UpdateExchange}
@@ -38,6 +38,7 @@ use Rattle.ell_core.proofs.lemmas.words.CleanWords.{clean_remainder}
 use Rattle.ell_core.specs.declared.view.Entry.{Entry}
 use Rattle.ell_core.specs.declared.view.Entry.TheVariants.{Present, Absent}
 use Rattle.ell_core.specs.soundness.Sound.{WorkerOwns}
+use Rattle.ell_core.proofs.lemmas.keeping.KeepsInvariant.{KeepsInvariant}
 
 -- of two keys that rise, the one that is not the leaf's is another one
 other_of_two : (left right leaf : ℕ) → left < right → key_of_three left right leaf ≢ leaf

@@ -12,7 +12,7 @@ use Rattle.ell_layout.specs.Cards.{iflag, clean}
 use Rattle.ell_core.specs.acts.Exchanges.{IUnflag, knowing}
 use Rattle.ell_core.specs.history.Stages.{Stage, Stages, is_born, Opening, IChanged, IOver, RChanged, ROver, insert_open, insert_over, insert_waits, delete_open, delete_won, is_changed}
 use Rattle.ell_core.specs.history.Invariant.{InsertStage, Invariant}
-use Rattle.ell_core.specs.history.Later.{Follows, KeepsInvariant, wins_of}
+use Rattle.ell_core.specs.history.Later.{Follows, wins_of}
 use Rattle.ell_layout.proofs.lemmas.Writes.{put_same}
 use Rattle.ell_core.proofs.lemmas.stages.Order.{changed_cases, changed-insert, changed-won, insert-claimed}
 use Rattle.ell_core.proofs.lemmas.keeping.Learning.{learns_fact, follows_knowing}
@@ -23,6 +23,7 @@ use Rattle.ell_core.proofs.lemmas.keeping.SameOutcome.{follows_as}
 use Rattle.ell_core.proofs.lemmas.keeping.going_on.Stages.{no_delete}
 use Rattle.ell_core.proofs.lemmas.words.Exchanged.{update_found, update_missed}
 use Rattle.ell_core.proofs.lemmas.stages.Advances.{iunflag_later, iunflag_kind, runflag_later, runflag_kind, StageLater, wins_put, SameKind}
+use Rattle.ell_core.proofs.lemmas.keeping.KeepsInvariant.{KeepsInvariant}
 
 -- a changed insert and its stage when it is over, of one kind
 pub record Unflags (from to : Stage) : Type 0 where

@@ -11,7 +11,7 @@ use Rattle.ell_layout.specs.Cards.{dflag, marked}
 use Rattle.ell_core.specs.acts.Exchanges.{knowing, Mark, mark_teaches, won_or_lost}
 use Rattle.ell_core.specs.history.Stages.{Stage, Stages, Opening, DFlagged, DUnmarkable, DMarked, is_claimed, is_delete, delete_open, delete_waits, delete_won, is_markable, is_marked, is_unmarkable}
 use Rattle.ell_core.specs.history.Invariant.{DeleteCard, Markable, DeleteStage, Invariant, UpdateIsSound}
-use Rattle.ell_core.specs.history.Later.{Follows, wins_of, KeepsInvariant}
+use Rattle.ell_core.specs.history.Later.{Follows, wins_of}
 use Rattle.ell_layout.proofs.lemmas.Writes.{put_same, put_other}
 use Rattle.ell_core.proofs.lemmas.stages.Order.{delete_not_insert_open, delete_won-delete, flagged_not_marked, unmarkable_not_marked, won_cases}
 use Rattle.ell_core.proofs.lemmas.keeping.Learning.{KnowsAllowed, learns_any, told_allowed, learns_fact, learns_word, follows_knowing}
@@ -27,6 +27,7 @@ use Rattle.ell_core.proofs.lemmas.words.Exchanged.{update_found, update_missed}
 use Rattle.ell_core.proofs.lemmas.stages.Advances.{mark_kind, unmarkable_kind, StageLater, wins_put, wins_kept, mark_later, unmarkable_later, SameKind, stages_put}
 use Rattle.ell_core.proofs.lemmas.words.CleanWords.{clean_remainder}
 use Rattle.ell_core.specs.tree.Rank.{rank}
+use Rattle.ell_core.proofs.lemmas.keeping.KeepsInvariant.{KeepsInvariant}
 
 -- from a flagged delete no flag is set that did not stand
 opens_none : (new : Stage) → is_delete new ≡ true → OpensNone DFlagged new
