@@ -47,6 +47,8 @@ pub mod Inside
 pub mod Stepping
 -- rows of numbers that a pass takes at once
 pub mod Skipping
+-- the kinds of steps of which gates are told
+pub mod StepKinds
 -- what its public clauses cite of the crates below
 pub use Rattle.ell_ops.specs.KeySet
 pub use Rattle.ell_ops.specs.Meaning

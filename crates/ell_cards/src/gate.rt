@@ -1,4 +1,6 @@
 //! What a worker reports of its steps.
+ghost use Rattle.ell_cards.specs.StepKinds.{IsOfKind};
+
 use ell_core::Exchange;
 use ell_runs::Call;
 
@@ -38,7 +40,9 @@ impl StepGate for NoGate {
 
 /// Returns the kind of the step that a call makes.
 #[inline(always)]
-pub(crate) fn kind_of(call: Call) -> StepKind {
+pub(crate) fn kind_of(call: Call) -> StepKind
+    ensures { IsOfKind call result }
+{
     match call {
         Call::Begin(_) | Call::Again | Call::Leave | Call::Answer(_, _) => StepKind::Note,
         Call::Upd(_)
