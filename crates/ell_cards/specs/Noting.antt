@@ -1,7 +1,9 @@
 -- That dead nodes are noted in the words of slots.
-use Rattle.std.specs.Prelude.{◌≡◌, ◌≢◌, ℕ, ◌+◌, ◌*◌, ◌%◌, ◌<◌, if◌then◌else◌, Bool, true, false, Some}
+use Rattle.std.specs.Prelude.{◌≡◌, ◌≢◌, ℕ, ◌+◌, ◌*◌, ◌%◌, ◌<◌, if◌then◌else◌, true, false, Some}
 use Rattle.ell_word.specs.Node.{card}
 use Rattle.ell_cards.specs.declared.card_nodes.CardNodes.{CardNodes}
+use Rattle.ell_cards.specs.declared.retiring.Whose.{Whose}
+use Rattle.ell_cards.specs.declared.retiring.Whose.TheVariants.{TakenOut, Own}
 use Rattle.ell_cards.specs.declared.view.Known.{Known}
 use Rattle.ell_cards.specs.declared.view.Retired.{Retired}
 use Rattle.ell_runs.specs.declared.view.Slots.{Slots}
@@ -32,38 +34,38 @@ abbrev pub AreTakenOut : View → ℕ → CardNodes → Type 0
 AreTakenOut v = AllOfCard (HasTakenOut v)
 
 -- a pass may note these nodes of a card: its card in hand has taken them out, or it is that card, and they never come
-abbrev pub MayRetire : View → Bool → ℕ → CardNodes → Type 0
-MayRetire v true c nodes = AreTakenOut v c nodes
-MayRetire v false c nodes = NeverCome v c nodes × (v.worker.card ≡ Some c)
+abbrev pub MayRetire : View → Whose → ℕ → CardNodes → Type 0
+MayRetire v TakenOut c nodes = AreTakenOut v c nodes
+MayRetire v Own c nodes = NeverCome v c nodes × (v.worker.card ≡ Some c)
 
 -- By the word of its slot, a card whose nodes a pass is to note lies there: it is that of a node which the pass has
 -- met; or it has this number, and the word is of its turn.
-abbrev pub LiesThereStill : View → Bool → ℕ → ℕ → Type 0
-LiesThereStill v true c word = (x : ℕ) × IsTold v (Met x) × (card x ≡ card_by (slot_of c) word)
-LiesThereStill v false c word = turn_in word ≡ turn_of c
+abbrev pub LiesThereStill : View → Whose → ℕ → ℕ → Type 0
+LiesThereStill v TakenOut c word = (x : ℕ) × IsTold v (Met x) × (card x ≡ card_by (slot_of c) word)
+LiesThereStill v Own c word = turn_in word ≡ turn_of c
 
 -- so a pass may note these nodes of the card in that word
-pub record MayNote (v : View) (taken_out : Bool) (c : ℕ) (nodes : CardNodes) (word : ℕ) : Type 0 where
+pub record MayNote (v : View) (whose : Whose) (c : ℕ) (nodes : CardNodes) (word : ℕ) : Type 0 where
   pub used : word % 8 ≢ 0
-  pub there : LiesThereStill v taken_out c word
+  pub there : LiesThereStill v whose c word
   pub dead : KnowsDeadNodes v (card_by (slot_of c) word) nodes
 
 -- and it has read that word in the card's slot
-pub record HasReadToNote (k : Known) (taken_out : Bool) (c : ℕ) (nodes : CardNodes) (word : ℕ) : Type 0 where
-  pub retires : MayRetire (shown k.tree) taken_out c nodes
+pub record HasReadToNote (k : Known) (whose : Whose) (c : ℕ) (nodes : CardNodes) (word : ℕ) : Type 0 where
+  pub retires : MayRetire (shown k.tree) whose c nodes
   pub read : k.period.read ≡ Some (record { slot = slot_of c; word = word })
-  pub may : MayNote k.tree taken_out c nodes word
+  pub may : MayNote k.tree whose c nodes word
 
 -- A pass that was to exchange that word has found another one: if some of the nodes are left by it, the pass may note
 -- them there, and it notes more of the three than the first one does.
-abbrev pub MayNoteNext : View → Bool → ℕ → CardNodes → ℕ → ℕ → Type 0
-MayNoteNext v taken_out c nodes word found =
-    found ≢ word → is_done taken_out c nodes found ≡ false
-    → MayNote v taken_out c nodes found × (how_many_noted word < how_many_noted found)
+abbrev pub MayNoteNext : View → Whose → ℕ → CardNodes → ℕ → ℕ → Type 0
+MayNoteNext v whose c nodes word found =
+    found ≢ word → is_done whose c nodes found ≡ false
+    → MayNote v whose c nodes found × (how_many_noted word < how_many_noted found)
 
 -- what a pass has noted for its card in hand after it has noted these nodes of a card, if that has a slot
-abbrev pub retires_in : Slots → Bool → ℕ → CardNodes → Retired → Retired
-retires_in s taken_out c nodes r = if has_slot_in s.last c then with_retired taken_out nodes r else r
+abbrev pub retires_in : Slots → Whose → ℕ → CardNodes → Retired → Retired
+retires_in s whose c nodes r = if has_slot_in s.last c then with_retired whose nodes r else r
 
 -- all that contracts see of a pass is as it was, but what it has noted for its card in hand
 abbrev pub HasNoted : PassModel → PassModel → Type 0

@@ -5,6 +5,7 @@ use Rattle.atomic_table.specs.Table.{State}
 use Rattle.ell_layout.specs.Layout.{table_size}
 use Rattle.ell_grace.specs.epochs.Grace.{Grace, least_with}
 use Rattle.ell_grace.specs.epochs.Periods.{GraceIsSound}
+use Rattle.ell_cards.specs.declared.retiring.Whose.{Whose}
 use Rattle.ell_cards.specs.declared.card_nodes.CardNodes.{CardNodes}
 use Rattle.ell_cards.specs.declared.view.Known.{Known}
 use Rattle.ell_cards.specs.declared.view.Period.{Period}
@@ -204,14 +205,14 @@ abbrev pub after_read : ℕ → ℕ → Period → Period
 after_read slot n p = record p { read = Some (record { slot = slot; word = n }) }
 
 -- the word of a card's slot was read by a pass that is to note nodes of the card there, and none of them may be left
-abbrev pub after_noting_read : Bool → ℕ → CardNodes → ℕ → Period → Period
-after_noting_read taken_out c nodes n p =
-    record (after_read (slot_of c) n p) { retired = retires_if (is_done taken_out c nodes n) taken_out nodes p.retired }
+abbrev pub after_noting_read : Whose → ℕ → CardNodes → ℕ → Period → Period
+after_noting_read whose c nodes n p =
+    record (after_read (slot_of c) n p) { retired = retires_if (is_done whose c nodes n) whose nodes p.retired }
 
 -- it exchanged that word for one that notes them too; or it found another one, by which it goes on
-abbrev pub after_noting : Bool → Bool → ℕ → CardNodes → ℕ → Period → Period
-after_noting true taken_out c nodes n p = record p { retired = with_retired taken_out nodes p.retired }
-after_noting false taken_out c nodes n p = after_noting_read taken_out c nodes n p
+abbrev pub after_noting : Bool → Whose → ℕ → CardNodes → ℕ → Period → Period
+after_noting true whose c nodes n p = record p { retired = with_retired whose nodes p.retired }
+after_noting false whose c nodes n p = after_noting_read whose c nodes n p
 
 -- the slot of a card was taken, for which nothing was noted yet
 abbrev pub after_taking : ℕ → Period → Period

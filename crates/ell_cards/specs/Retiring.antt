@@ -1,6 +1,8 @@
 -- What a pass notes of the nodes that its card in hand made dead.
-use Rattle.std.specs.Prelude.{ℕ, ◌+◌, ◌==◌, ◌&&◌, ◌||◌, not, if◌then◌else◌, Bool, true, false}
+use Rattle.std.specs.Prelude.{ℕ, ◌+◌, ◌==◌, ◌||◌, not, if◌then◌else◌, Bool, false}
 use Rattle.ell_cards.specs.declared.card_nodes.CardNodes.{CardNodes}
+use Rattle.ell_cards.specs.declared.retiring.Whose.{Whose}
+use Rattle.ell_cards.specs.declared.retiring.Whose.TheVariants.{TakenOut, Own}
 use Rattle.ell_cards.specs.declared.view.Retired.{Retired}
 use Rattle.ell_cards.specs.CardNodes.{all_noted, no_nodes, nodes_of_both}
 use Rattle.ell_cards.specs.SlotWords.{is_noted, turn_in, turn_of}
@@ -11,19 +13,20 @@ none_retired = record { parent = false; leaf = false; own = no_nodes }
 
 -- What a pass has noted for its card in hand, once it has noted these nodes of one card too: nodes that the card in
 -- hand has taken out, of which the internal one is the parent and another one the leaf; or nodes of that card itself.
-abbrev pub with_retired : Bool → CardNodes → Retired → Retired
-with_retired true nodes r =
+abbrev pub with_retired : Whose → CardNodes → Retired → Retired
+with_retired TakenOut nodes r =
     record r { parent = r.parent || nodes.internal; leaf = r.leaf || (nodes.left || nodes.right) }
-with_retired false nodes r = record r { own = nodes_of_both r.own nodes }
+with_retired Own nodes r = record r { own = nodes_of_both r.own nodes }
 
 -- Whether by the word of a card's slot none of these nodes of the card is left to be noted: the word notes them all, as
 -- it does where it sets the slot free; or it is of another turn than the card, which is the one in hand.
-abbrev pub is_done : Bool → ℕ → CardNodes → ℕ → Bool
-is_done taken_out c nodes word = all_noted nodes word || (not taken_out && not (turn_in word == turn_of c))
+abbrev pub is_done : Whose → ℕ → CardNodes → ℕ → Bool
+is_done TakenOut c nodes word = all_noted nodes word
+is_done Own c nodes word = all_noted nodes word || not (turn_in word == turn_of c)
 
 -- a pass has read such a word, or another one
-abbrev pub retires_if : Bool → Bool → CardNodes → Retired → Retired
-retires_if done taken_out nodes r = if done then with_retired taken_out nodes r else r
+abbrev pub retires_if : Bool → Whose → CardNodes → Retired → Retired
+retires_if done whose nodes r = if done then with_retired whose nodes r else r
 
 -- how many of the three nodes a word notes
 abbrev pub one_if : Bool → ℕ

@@ -9,6 +9,7 @@ ghost use Rattle.ell_runs.specs.declared.view.Slots.{Slots};
 ghost use Rattle.ell_runs.specs.Dead.{HasTakenOut};
 ghost use Rattle.ell_runs.specs.Holding.{HasFlagged};
 ghost use Rattle.ell_runs.specs.Views.{Knows};
+ghost use Rattle.ell_cards.specs.declared.retiring.Whose.TheVariants.{TakenOut};
 ghost use Rattle.ell_cards.specs.CardNodes.{NotesToo, has_node, node_alone};
 ghost use Rattle.ell_cards.specs.Ended.{HasCut, HasPut};
 ghost use Rattle.ell_cards.specs.Frames.{IsSeatWithSlotOf, KeepsSafe, LeavesTree, StandsStill};
@@ -24,13 +25,33 @@ use crate::card_nodes::CardNodes;
 use crate::memory::{Memory, Seat};
 use crate::pass::Pass;
 use crate::rule::PeriodTelling;
-use crate::slot_words::{has_slot, is_done, slot_of};
+use crate::slot_words::{has_slot, slot_of, turn_in, turn_of};
 use crate::table::CardTable;
 use crate::view::SlotRead;
 use ell_core::Put;
 use ell_runs::Slots;
 use ell_word::card_of;
 use std::marker::Brand;
+
+/// Which dead nodes a pass notes.
+#[derive(Clone, Copy)]
+pub(crate) enum Whose {
+    /// Nodes that its card in hand has taken out of the tree.
+    TakenOut,
+    /// Nodes of that card itself, which never come into the tree.
+    Own,
+}
+
+// Returns whether by the word of a card's slot none of these nodes of the card is left to be noted.
+#[inline(always)]
+fn is_done(whose: Whose, card: u64, nodes: CardNodes, word: u64) -> bool
+    ensures { result ≡ is_done whose card nodes word }
+{
+    match whose {
+        Whose::TakenOut => nodes.are_noted(word),
+        Whose::Own => nodes.are_noted(word) || turn_in(word) != turn_of(card),
+    }
+}
 
 impl<M: Memory> CardTable<M> {
     // Loads the word of the slot of a card of which the pass is to note nodes, and tells what its caller picked.
@@ -41,14 +62,14 @@ impl<M: Memory> CardTable<M> {
         slots: Slots,
         card: u64,
         nodes: CardNodes,
-        taken_out: bool,
+        whose: Whose,
     ) -> u64
         requires seat { IsSeatWithSlotOf self.now slots card seat.old }
         requires rule { MayGoOn self.now.plan seat.old.me.0 (slot_word slots (slot_of card)) (λ n. n) J.then }
         ensures told { J.then result seat.new.me.0.period }
         ensures leaves { LeavesTree seat.old seat.new }
     {
-        let _ = (nodes, taken_out);
+        let _ = (nodes, whose);
         self.period_load::<J>(seat, self.slot_address(slots, slot_of(card)))
     }
 
@@ -61,7 +82,7 @@ impl<M: Memory> CardTable<M> {
         slots: Slots,
         card: u64,
         nodes: CardNodes,
-        taken_out: bool,
+        whose: Whose,
         word: u64,
         other: u64,
     ) -> u64
@@ -71,7 +92,7 @@ impl<M: Memory> CardTable<M> {
         ensures told { J.then result seat.new.me.0.period }
         ensures leaves { LeavesTree seat.old seat.new }
     {
-        let _ = (nodes, taken_out);
+        let _ = (nodes, whose);
         self.period_exchange::<J>(seat, self.slot_address(slots, slot_of(card)), word, other)
     }
 
@@ -84,16 +105,16 @@ impl<M: Memory> CardTable<M> {
         slots: Slots,
         card: u64,
         nodes: CardNodes,
-        taken_out: bool,
+        whose: Whose,
     ) -> u64
         requires seat { IsSeatWithSlotOf self.now slots card seat.old }
-        requires retires { MayRetire (shown seat.old.me.0.tree) taken_out card nodes }
-        ensures read { seat.new.me.0.period ≡ after_noting_read taken_out card nodes result seat.old.me.0.period }
-        ensures may { is_done taken_out card nodes result ≡ false →
-            MayNote seat.old.me.0.tree taken_out card nodes result }
+        requires retires { MayRetire (shown seat.old.me.0.tree) whose card nodes }
+        ensures read { seat.new.me.0.period ≡ after_noting_read whose card nodes result seat.old.me.0.period }
+        ensures may { is_done whose card nodes result ≡ false →
+            MayNote seat.old.me.0.tree whose card nodes result }
         ensures leaves { LeavesTree seat.old seat.new }
     {
-        self.load_noted::<Brand>(seat, slots, card, nodes, taken_out)
+        self.load_noted::<Brand>(seat, slots, card, nodes, whose)
     }
 
     // Notes such nodes by another word of the slot, not all three of whose nodes it notes, if its word is the one that
@@ -104,20 +125,20 @@ impl<M: Memory> CardTable<M> {
         slots: Slots,
         card: u64,
         nodes: CardNodes,
-        taken_out: bool,
+        whose: Whose,
         word: u64,
         noted: u64,
     ) -> u64
         requires seat { IsSeatWithSlotOf self.now slots card seat.old }
-        requires may { HasReadToNote seat.old.me.0 taken_out card nodes word }
+        requires may { HasReadToNote seat.old.me.0 whose card nodes word }
         requires notes { NotesToo nodes word noted }
         requires left { noted % 8 ≢ 0 }
         ensures period { seat.new.me.0.period ≡
-            after_noting (result == word) taken_out card nodes result seat.old.me.0.period }
-        ensures next { MayNoteNext seat.old.me.0.tree taken_out card nodes word result }
+            after_noting (result == word) whose card nodes result seat.old.me.0.period }
+        ensures next { MayNoteNext seat.old.me.0.tree whose card nodes word result }
         ensures leaves { LeavesTree seat.old seat.new }
     {
-        self.exchange_noted::<Brand>(seat, slots, card, nodes, taken_out, word, noted)
+        self.exchange_noted::<Brand>(seat, slots, card, nodes, whose, word, noted)
     }
 
     // Sets the slot free instead, as these are the last of its card's nodes.
@@ -127,20 +148,20 @@ impl<M: Memory> CardTable<M> {
         slots: Slots,
         card: u64,
         nodes: CardNodes,
-        taken_out: bool,
+        whose: Whose,
         word: u64,
     ) -> u64
         requires seat { IsSeatWithSlotOf self.now slots card seat.old }
-        requires may { HasReadToNote seat.old.me.0 taken_out card nodes word }
+        requires may { HasReadToNote seat.old.me.0 whose card nodes word }
         requires last { (i : ℕ) → i < 3 → (is_noted word i ≡ true) ⊎ (has_node nodes i ≡ true) }
         ensures period { (reading : ℕ) ×
-            (seat.new.me.0.period ≡ after_noting (result == word) taken_out card nodes result
+            (seat.new.me.0.period ≡ after_noting (result == word) whose card nodes result
             (after_stamp (card_by (slot_of card) word) reading seat.old.me.0.period)) }
-        ensures next { MayNoteNext seat.old.me.0.tree taken_out card nodes word result }
+        ensures next { MayNoteNext seat.old.me.0.tree whose card nodes word result }
         ensures leaves { LeavesTree seat.old seat.new }
     {
         let reading = self.stamp(seat, slots, slot_of(card), word);
-        self.exchange_noted::<Brand>(seat, slots, card, nodes, taken_out, word, 8 * reading)
+        self.exchange_noted::<Brand>(seat, slots, card, nodes, whose, word, 8 * reading)
     }
 
     // Notes such nodes by an exchange of the word that was read, which leaves some of them, for one that notes them
@@ -152,52 +173,45 @@ impl<M: Memory> CardTable<M> {
         slots: Slots,
         card: u64,
         nodes: CardNodes,
-        taken_out: bool,
+        whose: Whose,
         word: u64,
     ) -> u64
         requires seat { IsSeatWithSlotOf self.now slots card seat.old }
-        requires may { HasReadToNote seat.old.me.0 taken_out card nodes word }
+        requires may { HasReadToNote seat.old.me.0 whose card nodes word }
         ensures still { StandsStill seat.old.me.0.period seat.new.me.0.period }
         ensures retired { seat.new.me.0.period.retired ≡
-            retires_if (result == word || is_done taken_out card nodes result) taken_out nodes
+            retires_if (result == word || is_done whose card nodes result) whose nodes
             seat.old.me.0.period.retired }
         ensures read { result ≢ word →
             seat.new.me.0.period.read ≡ Some (record { slot = slot_of card; word = result }) }
-        ensures next { MayNoteNext seat.old.me.0.tree taken_out card nodes word result }
+        ensures next { MayNoteNext seat.old.me.0.tree whose card nodes word result }
         ensures keeps { KeepsSafe seat.old.me.0.period seat.new.me.0.period }
         ensures leaves { LeavesTree seat.old seat.new }
     {
         let noted = nodes.noted_in(word);
         if noted % 8 == 0 {
-            self.note_last(seat, slots, card, nodes, taken_out, word)
+            self.note_last(seat, slots, card, nodes, whose, word)
         } else {
-            self.note_more(seat, slots, card, nodes, taken_out, word, noted)
+            self.note_more(seat, slots, card, nodes, whose, word, noted)
         }
     }
 
     // Notes such nodes in the word of their card's slot. If another pass changes the word meanwhile, it goes on by
     // the word that it found: that happens at most twice, as each such word notes more of the three nodes.
-    fn note_dead(
-        &self,
-        seat: &mut Seat<M>,
-        slots: Slots,
-        card: u64,
-        nodes: CardNodes,
-        taken_out: bool,
-    )
+    fn note_dead(&self, seat: &mut Seat<M>, slots: Slots, card: u64, nodes: CardNodes, whose: Whose)
         requires seat { IsSeatWithSlotOf self.now slots card seat.old }
-        requires retires { MayRetire (shown seat.old.me.0.tree) taken_out card nodes }
+        requires retires { MayRetire (shown seat.old.me.0.tree) whose card nodes }
         ensures still { StandsStill seat.old.me.0.period seat.new.me.0.period }
-        ensures retired { seat.new.me.0.period.retired ≡ with_retired taken_out nodes seat.old.me.0.period.retired }
+        ensures retired { seat.new.me.0.period.retired ≡ with_retired whose nodes seat.old.me.0.period.retired }
         ensures keeps { KeepsSafe seat.old.me.0.period seat.new.me.0.period }
         ensures leaves { LeavesTree seat.old seat.new }
     {
-        let mut word = self.read_to_note(seat, slots, card, nodes, taken_out);
+        let mut word = self.read_to_note(seat, slots, card, nodes, whose);
         for _ in 0..3u64 {
-            if is_done(taken_out, card, nodes, word) {
+            if is_done(whose, card, nodes, word) {
                 return;
             }
-            let found = self.note_word(seat, slots, card, nodes, taken_out, word);
+            let found = self.note_word(seat, slots, card, nodes, whose, word);
             if found == word {
                 return;
             }
@@ -208,18 +222,18 @@ impl<M: Memory> CardTable<M> {
     // Notes nodes of one card: nodes that the card in hand, which is over, has taken out of the tree, of which the pass
     // knows the low 38 bits, and so of their card the low 41; or nodes of the card in hand that never come. It notes
     // all by one exchange, or by up to three if other passes change the word meanwhile.
-    fn retire_nodes(&self, pass: &mut Pass<M>, card: u64, nodes: CardNodes, taken_out: bool)
+    fn retire_nodes(&self, pass: &mut Pass<M>, card: u64, nodes: CardNodes, whose: Whose)
         requires own { pass.old.table ≡ self.now.id }
-        requires retires { MayRetire pass.old.view taken_out card nodes }
+        requires retires { MayRetire pass.old.view whose card nodes }
         ensures same { HasNoted pass.old pass.new }
         ensures noted { IfSome self.now.plan.slots (λ s. pass.new.memory.retired ≡
-            retires_in s taken_out card nodes pass.old.memory.retired) }
+            retires_in s whose card nodes pass.old.memory.retired) }
     {
         let Some(slots) = self.slots else {
             return;
         };
         if has_slot(slots, card) {
-            self.note_dead(&mut pass.seat, slots, card, nodes, taken_out);
+            self.note_dead(&mut pass.seat, slots, card, nodes, whose);
         }
     }
 
@@ -229,9 +243,9 @@ impl<M: Memory> CardTable<M> {
         requires taken { HasTakenOut pass.old.view node }
         ensures same { HasNoted pass.old pass.new }
         ensures noted { IfSome self.now.plan.slots (λ s. pass.new.memory.retired ≡
-            retires_in s true (card node) (node_alone (node % 4)) pass.old.memory.retired) }
+            retires_in s TakenOut (card node) (node_alone (node % 4)) pass.old.memory.retired) }
     {
-        self.retire_nodes(pass, card_of(node), CardNodes::only(node), true);
+        self.retire_nodes(pass, card_of(node), CardNodes::only(node), Whose::TakenOut);
     }
 
     // Notes the parent and the leaf that the card in hand of a delete has cut out, by one step where they lie on one
@@ -246,7 +260,7 @@ impl<M: Memory> CardTable<M> {
         let above = card_of(parent);
         if card_of(leaf) == above {
             let both = CardNodes::only(parent).and(CardNodes::only(leaf));
-            self.retire_nodes(pass, above, both, true);
+            self.retire_nodes(pass, above, both, Whose::TakenOut);
         } else {
             self.retire_taken_out(pass, parent);
             self.retire_taken_out(pass, leaf);
@@ -271,7 +285,7 @@ impl<M: Memory> CardTable<M> {
                 left: key < what.key,
                 right: what.key < key,
             };
-            self.retire_nodes(pass, card, unused, false);
+            self.retire_nodes(pass, card, unused, Whose::Own);
             return;
         }
         self.retire_taken_out(pass, node);
@@ -280,7 +294,7 @@ impl<M: Memory> CardTable<M> {
             left: true,
             right: false,
         };
-        self.retire_nodes(pass, card, left_out, false);
+        self.retire_nodes(pass, card, left_out, Whose::Own);
     }
 
     /// Notes what the card in hand of a delete that has cut made dead: the parent and the leaf that it took out, and its
@@ -295,7 +309,7 @@ impl<M: Memory> CardTable<M> {
         ensures lets_go { LetsGo self.now.plan pass.new }
     {
         self.retire_cut(pass, card, parent, leaf);
-        self.retire_nodes(pass, card, CardNodes::all(), false);
+        self.retire_nodes(pass, card, CardNodes::all(), Whose::Own);
     }
 
     /// Notes what the card in hand of a delete that lost its mark made dead: its own nodes, none of which comes.
@@ -309,6 +323,6 @@ impl<M: Memory> CardTable<M> {
         // The pass may let its card go.
         ensures lets_go { LetsGo self.now.plan pass.new }
     {
-        self.retire_nodes(pass, card, CardNodes::all(), false);
+        self.retire_nodes(pass, card, CardNodes::all(), Whose::Own);
     }
 }

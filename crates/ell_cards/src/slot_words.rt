@@ -3,10 +3,8 @@
 ghost use Rattle.std.specs.Prelude.{◌==◌, ◌≡◌, ◌+◌, ◌*◌, ◌<◌, ◌≤◌, ◌%◌, ◌||◌, nat_le, ℕ, true};
 ghost use Rattle.ell_word.specs.Node.{card, greatest_card, greatest_number, turn_size};
 ghost use Rattle.ell_cards.specs.Periods.{clock_word, has_slot, slot_word, spread};
-ghost use Rattle.ell_cards.specs.Retiring.{is_done};
 ghost use Rattle.ell_cards.specs.SlotWords.{could_take, has_slot_in, has_slots, slot_of, stamp_in, turn_in, turn_of};
 
-use crate::card_nodes::CardNodes;
 use crate::period::clock_word;
 use ell_runs::Slots;
 use ell_word::TURN_SIZE;
@@ -47,9 +45,9 @@ fn has_slots(turn: u64) -> bool
     turn == 0 || turn % TURNS_TOLD_APART != 0
 }
 
-// Returns the turn of the card in a slot in use, by the slot's word.
+/// Returns the turn of the card in a slot in use, by the slot's word.
 #[inline(always)]
-fn turn_in(word: u64) -> u64
+pub(crate) fn turn_in(word: u64) -> u64
     ensures { result ≡ turn_in word }
 {
     word / 8
@@ -61,14 +59,6 @@ fn stamp_in(word: u64) -> u64
     ensures { result ≡ stamp_in word }
 {
     word / 8
-}
-
-/// Returns whether by the word of a card's slot none of these nodes of the card is left to be noted.
-#[inline(always)]
-pub(crate) fn is_done(taken_out: bool, card: u64, nodes: CardNodes, word: u64) -> bool
-    ensures { result ≡ is_done taken_out card nodes word }
-{
-    nodes.are_noted(word) || (!taken_out && turn_in(word) != turn_of(card))
 }
 
 /// Returns whether a slot was set free with a stamp below a safe number, by the slot's word.

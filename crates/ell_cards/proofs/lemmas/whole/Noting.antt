@@ -1,6 +1,6 @@
 -- A pass notes dead nodes of a card in the word of the card's slot: nodes that its card in hand has taken out, or nodes of that
 -- card that never come.
-use Rattle.std.proofs.Common.{◌≡◌, ◌≢◌, ℕ, ◌+◌, ◌*◌, ◌%◌, ◌<◌, ◌≤◌, ◌==◌, ◌||◌, Bool, true, false, Some, List, length, get_or, set, inl, inr, ◌⊎◌, refl, sym, ap, ◌∙◌, subst, arith, eq-eqb, ne_eqb, true≢false, get_or-set_same}
+use Rattle.std.proofs.Common.{◌≡◌, ◌≢◌, ℕ, ◌+◌, ◌*◌, ◌%◌, ◌<◌, ◌≤◌, ◌==◌, ◌||◌, Bool, true, false, Some, List, length, get_or, set, inl, inr, ◌⊎◌, refl, sym, ap, ◌∙◌, subst, arith, eq-eqb, ne_eqb, get_or-set_same}
 use Rattle.ell_core.proofs.lemmas.stages.Below.{goes-leaf}
 use Rattle.std.proofs.lemmas.Bool.{cases_eq}
 use Rattle.std.proofs.lemmas.Option.{same_Some}
@@ -15,6 +15,8 @@ use Rattle.ell_core.specs.history.Stages.{Stages, is_cut}
 use Rattle.ell_core.proofs.lemmas.stages.Order.{cut-delete, changed-insert}
 use Rattle.ell_grace.specs.Gone.{TakesOut}
 use Rattle.ell_cards.specs.declared.card_nodes.CardNodes.{CardNodes}
+use Rattle.ell_cards.specs.declared.retiring.Whose.{Whose}
+use Rattle.ell_cards.specs.declared.retiring.Whose.TheVariants.{TakenOut, Own}
 use Rattle.ell_cards.specs.declared.view.Known.{Known}
 use Rattle.ell_cards.specs.declared.view.Period.{Period}
 use Rattle.ell_runs.specs.declared.view.Slots.{Slots}
@@ -95,8 +97,8 @@ module _ (plan : TablePlan) (s : Slots) (tree : TableState) (t : WholeState) (id
   keeps_noted words = (x : ℕ) → IsOut plan tree h.ages.now.machine h.ages.now.uses x → IsNotedThere s t.words h.lie x → IsNotedThere s words h.lie x
 
   -- by these words of slots, each of these nodes of a card is noted; if they were taken out, whichever card has that slot
-  abbrev ShowsAll : Bool → ℕ → CardNodes → List ℕ → Type 0
-  ShowsAll taken_out c nodes words = (d i : ℕ) → has_node nodes i ≡ true → slot_of d ≡ slot_of c → (taken_out ≡ false → d ≡ c) → NotesThere s words h.lie d i
+  abbrev ShowsAll : Whose → ℕ → CardNodes → List ℕ → Type 0
+  ShowsAll whose c nodes words = (d i : ℕ) → has_node nodes i ≡ true → slot_of d ≡ slot_of c → (whose ≡ Own → d ≡ c) → NotesThere s words h.lie d i
 
   -- what was retired is so
   retired_still : (words : List ℕ) → keeps_noted words → (d : ℕ) → k.period.slot ≡ Some d → k.tree.worker.card ≡ Some d
@@ -108,23 +110,23 @@ module _ (plan : TablePlan) (s : Slots) (tree : TableState) (t : WholeState) (id
   }
 
   -- a node that was taken out is noted
-  taken_noted : (c : ℕ) (nodes : CardNodes) (words : List ℕ) → ShowsAll true c nodes words → (i : ℕ) → has_node nodes i ≡ true → (was : WasTakenOut k.tree (4 * c + i))
+  taken_noted : (c : ℕ) (nodes : CardNodes) (words : List ℕ) → ShowsAll TakenOut c nodes words → (i : ℕ) → has_node nodes i ≡ true → (was : WasTakenOut k.tree (4 * c + i))
       → OutThere words was.whole
   taken_noted c nodes words shows i has was =
       let few = few_nodes nodes i has in
       let place : was.whole % 4 ≡ i = sym (place_whole was.whole (4 * c + i) was.is) ∙ omega (arith, few) in
       let lies : slot_of (card was.whole) ≡ slot_of c = low_slot plan s tree t id k here there h size reached was.whole (4 * c + i) was.is ∙ ap slot_of (card_at c i few) in (
         dead_by plan s tree t id k here there h size reached was.whole (was.taker, inl was.knows),
-        subst (NotesThere s words h.lie (card was.whole)) (sym place) (shows (card was.whole) i has lies (λ no. absurd (true≢false no))),
+        subst (NotesThere s words h.lie (card was.whole)) (sym place) (shows (card was.whole) i has lies (λ no. absurd cc)),
       )
     where
       card_at : (c i : ℕ) → i < 3 → card (4 * c + i) ≡ c
       card_at c i few = omega (arith, few)
 
   -- so they are retired
-  retired_now : (taken_out : Bool) (c : ℕ) (nodes : CardNodes) → MayRetire (shown k.tree) taken_out c nodes → (words : List ℕ) → keeps_noted words → ShowsAll taken_out c nodes words
-      → HasRetired plan s tree t id k here there h size reached words (with_retired taken_out nodes k.period.retired)
-  retired_now true c nodes may words keeps shows d at hand =
+  retired_now : (whose : Whose) (c : ℕ) (nodes : CardNodes) → MayRetire (shown k.tree) whose c nodes → (words : List ℕ) → keeps_noted words → ShowsAll whose c nodes words
+      → HasRetired plan s tree t id k here there h size reached words (with_retired whose nodes k.period.retired)
+  retired_now TakenOut c nodes may words keeps shows d at hand =
       let old = retired_still words keeps d at hand in record {
         parent = λ is. elim (of_either k.period.retired.parent nodes.internal is) [
           | inl was ↦ old.parent was
@@ -145,7 +147,7 @@ module _ (plan : TablePlan) (s : Slots) (tree : TableState) (t : WholeState) (id
         ];
         own = old.own;
       }
-  retired_now false c nodes may words keeps shows d at hand =
+  retired_now Own c nodes may words keeps shows d at hand =
       let old = retired_still words keeps d at hand in
       let same : c ≡ d = same_Some c d (sym may.1 ∙ hand) in record {
         parent = old.parent;
@@ -168,8 +170,8 @@ module _ (plan : TablePlan) (s : Slots) (tree : TableState) (t : WholeState) (id
   lies_now c inside used = h.lies (slot_of c) inside used
 
   -- if by that word none of the nodes is left, they are noted there
-  shows_done : (taken_out : Bool) (c : ℕ) (nodes : CardNodes) → slot_of c ≤ s.last → is_done taken_out c nodes (word_now c) ≡ true → ShowsAll taken_out c nodes t.words
-  shows_done taken_out c nodes inside done d i has at own low lies used = elim (done_by taken_out c nodes (word_now c) done) [
+  shows_done : (whose : Whose) (c : ℕ) (nodes : CardNodes) → slot_of c ≤ s.last → is_done whose c nodes (word_now c) ≡ true → ShowsAll whose c nodes t.words
+  shows_done whose c nodes inside done d i has at own low lies used = elim (done_by whose c nodes (word_now c) done) [
     | inl all ↦ subst (λ n. is_noted n i ≡ true) (sym stands) (all_some nodes (word_now c) i all has)
     | inr other ↦
         let mine : d ≡ c = own other.0 in
@@ -185,11 +187,11 @@ module _ (plan : TablePlan) (s : Slots) (tree : TableState) (t : WholeState) (id
       turn_by c n is = omega (arith, is)
 
   -- if some are left, the pass may note them
-  may_note : (taken_out : Bool) (c : ℕ) (nodes : CardNodes) → plan.slots ≡ Some s → slot_of c ≤ s.last → MayRetire (shown k.tree) taken_out c nodes
-      → is_done taken_out c nodes (word_now c) ≡ false → MayNote k.tree taken_out c nodes (word_now c)
-  may_note true c nodes placed inside may left =
-      let used = left_used true c nodes (word_now c) left in
-      let one = left_some true c nodes (word_now c) left in
+  may_note : (whose : Whose) (c : ℕ) (nodes : CardNodes) → plan.slots ≡ Some s → slot_of c ≤ s.last → MayRetire (shown k.tree) whose c nodes
+      → is_done whose c nodes (word_now c) ≡ false → MayNote k.tree whose c nodes (word_now c)
+  may_note TakenOut c nodes placed inside may left =
+      let used = left_used TakenOut c nodes (word_now c) left in
+      let one = left_some TakenOut c nodes (word_now c) left in
       let few = few_nodes nodes one.0 one.1 in
       let it = taken (4 * c + one.0) (may one.0 one.1) in
       let at : slot_of (card it.whole) ≡ slot_of c = low_slot plan s tree t id k here there h size reached it.whole (4 * c + one.0) it.is ∙ slot_there c one.0 few in
@@ -207,30 +209,30 @@ module _ (plan : TablePlan) (s : Slots) (tree : TableState) (t : WholeState) (id
 
       at_place : (c i : ℕ) → i < 3 → (d : ℕ) → 4 * d + (4 * c + i) % 4 ≡ 4 * d + i
       at_place c i few d = omega (arith, few)
-  may_note false c nodes placed inside may left =
+  may_note Own c nodes placed inside may left =
       let turn = left_turn c nodes (word_now c) left in record {
-        used = left_used false c nodes (word_now c) left;
+        used = left_used Own c nodes (word_now c) left;
         there = turn;
         dead = subst (λ d. KnowsDeadNodes k.tree d nodes) (sym (lies_by c (slot_of c) (word_now c) refl turn)) (nodes_never_come k.tree c nodes may.0);
       }
 
   -- a word that stands there instead of one that was read notes more than that, if some are left by it
-  turn_there : (taken_out : Bool) (c n : ℕ) → slot_of c ≤ s.last → word_now c % 8 ≢ 0 → LiesThereStill k.tree taken_out c n → LiesThereStill k.tree taken_out c (word_now c)
+  turn_there : (whose : Whose) (c n : ℕ) → slot_of c ≤ s.last → word_now c % 8 ≢ 0 → LiesThereStill k.tree whose c n → LiesThereStill k.tree whose c (word_now c)
       → h.lie (slot_of c) ≡ card_by (slot_of c) n
-  turn_there true c n inside used was now =
+  turn_there TakenOut c n inside used was now =
       let lies = met_lies plan s tree t h.ages.now.machine h.lie h.dead h.was_dead h.tied id k here there (ready_there plan s tree t h id k here) was.0 was.1 in
       let at : slot_of (card was.0) ≡ slot_of c = ap slot_of was.2 ∙ at_home c n in
       sym (ap h.lie at) ∙ (lies.1 ∙ was.2)
     where
       at_home : (c n : ℕ) → slot_of (card_by (slot_of c) n) ≡ slot_of c
       at_home c n = omega arith
-  turn_there false c n inside used was now = lies_now c inside used ∙ ap (λ u. turn_size * u + slot_of c) (now ∙ sym was)
+  turn_there Own c n inside used was now = lies_now c inside used ∙ ap (λ u. turn_size * u + slot_of c) (now ∙ sym was)
 
-  notes_next : (taken_out : Bool) (c : ℕ) (nodes : CardNodes) → plan.slots ≡ Some s → slot_of c ≤ s.last → MayRetire (shown k.tree) taken_out c nodes
-      → (n : ℕ) → k.period.read ≡ Some (record { slot = slot_of c; word = n }) → MayNote k.tree taken_out c nodes n → MayNoteNext k.tree taken_out c nodes n (word_now c)
-  notes_next taken_out c nodes placed inside may n read note other left =
-      let next = may_note taken_out c nodes placed inside may left in
-      let lies = turn_there taken_out c n inside next.used note.there next.there in
+  notes_next : (whose : Whose) (c : ℕ) (nodes : CardNodes) → plan.slots ≡ Some s → slot_of c ≤ s.last → MayRetire (shown k.tree) whose c nodes
+      → (n : ℕ) → k.period.read ≡ Some (record { slot = slot_of c; word = n }) → MayNote k.tree whose c nodes n → MayNoteNext k.tree whose c nodes n (word_now c)
+  notes_next whose c nodes placed inside may n read note other left =
+      let next = may_note whose c nodes placed inside may left in
+      let lies = turn_there whose c n inside next.used note.there next.there in
       let same : card_by (slot_of c) (word_now c) ≡ card_by (slot_of c) n = sym (lies_now c inside next.used) ∙ lies in (
         next,
         notes_more n (word_now c) (turn_same (slot_of c) (word_now c) n same) (λ i was. kept i was lies next.used) other,
@@ -247,24 +249,24 @@ module _ (plan : TablePlan) (s : Slots) (tree : TableState) (t : WholeState) (id
           (there (subst (λ y. y ≤ s.last) (sym at) inside) (ap h.lie at ∙ lies) (subst (λ y. get_or t.words (slot_word s y) 0 % 8 ≢ 0) (sym at) used))
 
   -- the pass reads the word
-  pub notes_read : (taken_out : Bool) (c : ℕ) (nodes : CardNodes) → slot_of c ≤ s.last → MayRetire (shown k.tree) taken_out c nodes
-      → GoesTo plan s tree t h (turned_to t id k (after_noting_read taken_out c nodes (word_now c) k.period) (slot_word s (slot_of c)) (word_now c))
-  notes_read taken_out c nodes inside may =
-      reads_now plan s tree t id k here there h size reached (slot_of c) inside (retires_if (is_done taken_out c nodes (word_now c)) taken_out nodes k.period.retired)
-      (by (is_done taken_out c nodes (word_now c)) refl)
+  pub notes_read : (whose : Whose) (c : ℕ) (nodes : CardNodes) → slot_of c ≤ s.last → MayRetire (shown k.tree) whose c nodes
+      → GoesTo plan s tree t h (turned_to t id k (after_noting_read whose c nodes (word_now c) k.period) (slot_word s (slot_of c)) (word_now c))
+  notes_read whose c nodes inside may =
+      reads_now plan s tree t id k here there h size reached (slot_of c) inside (retires_if (is_done whose c nodes (word_now c)) whose nodes k.period.retired)
+      (by (is_done whose c nodes (word_now c)) refl)
     where
-      by : (b : Bool) → is_done taken_out c nodes (word_now c) ≡ b → HasRetired plan s tree t id k here there h size reached t.words (retires_if b taken_out nodes k.period.retired)
-      by true done = retired_now taken_out c nodes may t.words (λ x out is. is) (shows_done taken_out c nodes inside done)
+      by : (b : Bool) → is_done whose c nodes (word_now c) ≡ b → HasRetired plan s tree t id k here there h size reached t.words (retires_if b whose nodes k.period.retired)
+      by true done = retired_now whose c nodes may t.words (λ x out is. is) (shows_done whose c nodes inside done)
       by false left = λ d at hand. h.retired id d k here at hand
 
   -- and exchanges it for one that notes them too
-  pub notes_them : (taken_out : Bool) (c : ℕ) (nodes : CardNodes) (n m : ℕ) → slot_of c ≤ s.last → MayRetire (shown k.tree) taken_out c nodes → MayNote k.tree taken_out c nodes n
+  pub notes_them : (whose : Whose) (c : ℕ) (nodes : CardNodes) (n m : ℕ) → slot_of c ≤ s.last → MayRetire (shown k.tree) whose c nodes → MayNote k.tree whose c nodes n
       → NotesToo nodes n m → m % 8 ≢ 0 → word_now c ≡ n
-      → GoesTo plan s tree t h (turned_to t id k (record (k.period) { retired = with_retired taken_out nodes k.period.retired }) (slot_word s (slot_of c)) m)
-  notes_them taken_out c nodes n m inside may note too left is =
-      notes_now plan s tree t id k here there h size reached (slot_of c) n m (with_retired taken_out nodes k.period.retired) inside is too.turn note.used left
+      → GoesTo plan s tree t h (turned_to t id k (record (k.period) { retired = with_retired whose nodes k.period.retired }) (slot_word s (slot_of c)) m)
+  notes_them whose c nodes n m inside may note too left is =
+      notes_now plan s tree t id k here there h size reached (slot_of c) n m (with_retired whose nodes k.period.retired) inside is too.turn note.used left
       (λ i was. (too.each i).1 (inl was)) (λ i noted. elim ((too.each i).0 noted) [ inl was ↦ inl was | inr new ↦ inr (note.dead i new) ])
-      (retired_now taken_out c nodes may W keeps (λ d i has at own low lies used.
+      (retired_now whose c nodes may W keeps (λ d i has at own low lies used.
       subst (λ x. is_noted x i ≡ true) (sym (stands d at)) ((too.each i).1 (inr has))))
     where
       W : List ℕ
@@ -278,12 +280,12 @@ module _ (plan : TablePlan) (s : Slots) (tree : TableState) (t : WholeState) (id
       stands d at = ap (λ y. get_or W (slot_word s y) 0) at ∙ get_or-set_same t.words (slot_word s (slot_of c)) m 0 (omega arith)
 
   -- or it sets the slot free, as they are the last
-  pub notes_last : (taken_out : Bool) (c : ℕ) (nodes : CardNodes) (n reading : ℕ) → slot_of c ≤ s.last → MayRetire (shown k.tree) taken_out c nodes → n % 8 ≢ 0
+  pub notes_last : (whose : Whose) (c : ℕ) (nodes : CardNodes) (n reading : ℕ) → slot_of c ≤ s.last → MayRetire (shown k.tree) whose c nodes → n % 8 ≢ 0
       → k.period.stamp ≡ Some (record { card = card_by (slot_of c) n; reading = reading }) → word_now c ≡ n
-      → GoesTo plan s tree t h (turned_to t id k (record (k.period) { retired = with_retired taken_out nodes k.period.retired }) (slot_word s (slot_of c)) (free_word reading))
-  notes_last taken_out c nodes n reading inside may used stamp is =
-      frees_now plan s tree t id k here there h size reached (slot_of c) reading (with_retired taken_out nodes k.period.retired) inside n is used stamp
-      (retired_now taken_out c nodes may W keeps (λ d i has at own low lies used. absurd (used (ap (λ n. n % 8) (stands d at) ∙ omega arith))))
+      → GoesTo plan s tree t h (turned_to t id k (record (k.period) { retired = with_retired whose nodes k.period.retired }) (slot_word s (slot_of c)) (free_word reading))
+  notes_last whose c nodes n reading inside may used stamp is =
+      frees_now plan s tree t id k here there h size reached (slot_of c) reading (with_retired whose nodes k.period.retired) inside n is used stamp
+      (retired_now whose c nodes may W keeps (λ d i has at own low lies used. absurd (used (ap (λ n. n % 8) (stands d at) ∙ omega arith))))
     where
       W : List ℕ
       W = set t.words (slot_word s (slot_of c)) (free_word reading)
@@ -296,63 +298,63 @@ module _ (plan : TablePlan) (s : Slots) (tree : TableState) (t : WholeState) (id
       stands d at = ap (λ y. get_or W (slot_word s y) 0) at ∙ get_or-set_same t.words (slot_word s (slot_of c)) (free_word reading) 0 (omega arith)
 
 -- these steps are steps of the table
-module _ (plan : TablePlan) (s : Slots) (placed : plan.slots ≡ Some s) (taken_out : Bool) (c : ℕ) (nodes : CardNodes) (inside : slot_of c ≤ s.last) (k : Known)
-    (may : MayRetire (shown k.tree) taken_out c nodes) where
+module _ (plan : TablePlan) (s : Slots) (placed : plan.slots ≡ Some s) (whose : Whose) (c : ℕ) (nodes : CardNodes) (inside : slot_of c ≤ s.last) (k : Known)
+    (may : MayRetire (shown k.tree) whose c nodes) where
   abbrev at : ℕ
   at = slot_word s (slot_of c)
 
   -- a pass reads the word of the card's slot
-  pub reads_to_note : MayGoOn plan k (slot_word s (slot_of c)) (λ n. n) (λ n p. (p ≡ after_noting_read taken_out c nodes n k.period)
-      × (is_done taken_out c nodes n ≡ false → MayNote k.tree taken_out c nodes n))
+  pub reads_to_note : MayGoOn plan k (slot_word s (slot_of c)) (λ n. n) (λ n p. (p ≡ after_noting_read whose c nodes n k.period)
+      × (is_done whose c nodes n ≡ false → MayNote k.tree whose c nodes n))
   reads_to_note =
-      goes_on_there plan s placed k at (λ n. n) (λ n p. (p ≡ after_noting_read taken_out c nodes n k.period) × (is_done taken_out c nodes n ≡ false → MayNote k.tree taken_out c nodes n))
-      (λ t. after_noting_read taken_out c nodes (get_or t.words at 0) k.period)
+      goes_on_there plan s placed k at (λ n. n) (λ n p. (p ≡ after_noting_read whose c nodes n k.period) × (is_done whose c nodes n ≡ false → MayNote k.tree whose c nodes n))
+      (λ t. after_noting_read whose c nodes (get_or t.words at 0) k.period)
       (λ tree t id reached here there h size. (
-        notes_read plan s tree t id k here there h size reached taken_out c nodes inside may,
-        (refl, may_note plan s tree t id k here there h size reached taken_out c nodes placed inside may),
+        notes_read plan s tree t id k here there h size reached whose c nodes inside may,
+        (refl, may_note plan s tree t id k here there h size reached whose c nodes placed inside may),
       ))
 
   -- what the pass knows after an exchange
   abbrev Tells : ℕ → ℕ → Period → Type 0
-  Tells n found p = (p ≡ after_noting (found == n) taken_out c nodes found k.period) × MayNoteNext k.tree taken_out c nodes n found
+  Tells n found p = (p ≡ after_noting (found == n) whose c nodes found k.period) × MayNoteNext k.tree whose c nodes n found
 
-  exchanges : (n m : ℕ) → k.period.read ≡ Some (record { slot = slot_of c; word = n }) → MayNote k.tree taken_out c nodes n
+  exchanges : (n m : ℕ) → k.period.read ≡ Some (record { slot = slot_of c; word = n }) → MayNote k.tree whose c nodes n
       → ((tree : TableState) (t : WholeState) (id : ℕ) → IsReached plan tree → get_elem? t.views id ≡ some k → get_elem? tree.views id ≡ some k.tree → (h : HasPeriods plan s tree t) → length t.words ≡ slots_size s
-      → get_or t.words at 0 ≡ n → GoesTo plan s tree t h (turned_to t id k (record (k.period) { retired = with_retired taken_out nodes k.period.retired }) at m))
+      → get_or t.words at 0 ≡ n → GoesTo plan s tree t h (turned_to t id k (record (k.period) { retired = with_retired whose nodes k.period.retired }) at m))
       → MayGoOn plan k at (λ x. either (x == n) m x) (Tells n)
   exchanges n m read note wins =
-      goes_on_there plan s placed k at (λ x. either (x == n) m x) (Tells n) (λ t. after_noting (get_or t.words at 0 == n) taken_out c nodes (get_or t.words at 0) k.period)
+      goes_on_there plan s placed k at (λ x. either (x == n) m x) (Tells n) (λ t. after_noting (get_or t.words at 0 == n) whose c nodes (get_or t.words at 0) k.period)
       (λ tree t id reached here there h size. (
         by tree t id reached here there h size (cases_eq (get_or t.words at 0) n),
-        (refl, notes_next plan s tree t id k here there h size reached taken_out c nodes placed inside may n read note),
+        (refl, notes_next plan s tree t id k here there h size reached whose c nodes placed inside may n read note),
       ))
     where
       after : (tree : TableState) (t : WholeState) → HasPeriods plan s tree t → (id : ℕ) → Bool → Type 0
-      after tree t h id b = GoesTo plan s tree t h (turned_to t id k (after_noting b taken_out c nodes (get_or t.words at 0) k.period) at (either b m (get_or t.words at 0)))
+      after tree t h id b = GoesTo plan s tree t h (turned_to t id k (after_noting b whose c nodes (get_or t.words at 0) k.period) at (either b m (get_or t.words at 0)))
 
       by : (tree : TableState) (t : WholeState) (id : ℕ) → IsReached plan tree → get_elem? t.views id ≡ some k → get_elem? tree.views id ≡ some k.tree → (h : HasPeriods plan s tree t) → length t.words ≡ slots_size s
           → (get_or t.words at 0 ≡ n) ⊎ (get_or t.words at 0 ≢ n) → after tree t h id (get_or t.words at 0 == n)
       by tree t id reached here there h size (inl is) = subst (after tree t h id) (sym (eq-eqb (get_or t.words at 0) n is)) (wins tree t id reached here there h size is)
       by tree t id reached here there h size (inr other) =
-          subst (after tree t h id) (sym (ne_eqb (get_or t.words at 0) n other)) (notes_read plan s tree t id k here there h size reached taken_out c nodes inside may)
+          subst (after tree t h id) (sym (ne_eqb (get_or t.words at 0) n other)) (notes_read plan s tree t id k here there h size reached whose c nodes inside may)
 
   -- it exchanges that word for one that notes the nodes too
-  pub notes_nodes : (n m : ℕ) → k.period.read ≡ Some (record { slot = slot_of c; word = n }) → MayNote k.tree taken_out c nodes n → NotesToo nodes n m → m % 8 ≢ 0
+  pub notes_nodes : (n m : ℕ) → k.period.read ≡ Some (record { slot = slot_of c; word = n }) → MayNote k.tree whose c nodes n → NotesToo nodes n m → m % 8 ≢ 0
       → MayGoOn plan k at (λ x. either (x == n) m x) (Tells n)
   notes_nodes n m read note too left =
-      exchanges n m read note (λ tree t id reached here there h size is. notes_them plan s tree t id k here there h size reached taken_out c nodes n m inside may note too left is)
+      exchanges n m read note (λ tree t id reached here there h size is. notes_them plan s tree t id k here there h size reached whose c nodes n m inside may note too left is)
 
   -- or that sets the slot free
-  pub frees_slot : (n reading : ℕ) → k.period.read ≡ Some (record { slot = slot_of c; word = n }) → MayNote k.tree taken_out c nodes n
+  pub frees_slot : (n reading : ℕ) → k.period.read ≡ Some (record { slot = slot_of c; word = n }) → MayNote k.tree whose c nodes n
       → k.period.stamp ≡ Some (record { card = card_by (slot_of c) n; reading = reading })
       → MayGoOn plan k at (λ x. either (x == n) (free_word reading) x) (Tells n)
   frees_slot n reading read note stamp =
-      exchanges n (free_word reading) read note (λ tree t id reached here there h size is. notes_last plan s tree t id k here there h size reached taken_out c nodes n reading inside may note.used stamp is)
+      exchanges n (free_word reading) read note (λ tree t id reached here there h size is. notes_last plan s tree t id k here there h size reached whose c nodes n reading inside may note.used stamp is)
 
 -- all three nodes of the card in a slot are noted by the word that a pass has read there, or known to be dead
-pub may_stamp : (k : Known) (taken_out : Bool) (c : ℕ) (nodes : CardNodes) (n slot : ℕ) → slot ≡ slot_of c → k.period.read ≡ Some (record { slot = slot_of c; word = n })
-    → MayNote k.tree taken_out c nodes n → ((i : ℕ) → i < 3 → (is_noted n i ≡ true) ⊎ (has_node nodes i ≡ true)) → MayStamp k (card_by slot n)
-may_stamp k taken_out c nodes n slot at read note last = subst (λ y. MayStamp k (card_by y n)) (sym at) (inl record {
+pub may_stamp : (k : Known) (whose : Whose) (c : ℕ) (nodes : CardNodes) (n slot : ℕ) → slot ≡ slot_of c → k.period.read ≡ Some (record { slot = slot_of c; word = n })
+    → MayNote k.tree whose c nodes n → ((i : ℕ) → i < 3 → (is_noted n i ≡ true) ⊎ (has_node nodes i ≡ true)) → MayStamp k (card_by slot n)
+may_stamp k whose c nodes n slot at read note last = subst (λ y. MayStamp k (card_by y n)) (sym at) (inl record {
   read = record { slot = slot_of c; word = n };
   has = read;
   used = note.used;

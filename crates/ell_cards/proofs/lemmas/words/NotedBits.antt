@@ -3,6 +3,8 @@ use Rattle.std.proofs.Common.{◌≡◌, ◌≢◌, ℕ, zero, suc, ◌+◌, ◌
 use Rattle.std.proofs.lemmas.Bool.{false≢true}
 use Rattle.std.proofs.lemmas.Bool.Decides.{nat_tests}
 use Rattle.ell_cards.specs.declared.card_nodes.CardNodes.{CardNodes}
+use Rattle.ell_cards.specs.declared.retiring.Whose.{Whose}
+use Rattle.ell_cards.specs.declared.retiring.Whose.TheVariants.{TakenOut, Own}
 use Rattle.ell_cards.specs.CardNodes.{NotesToo, all_noted, has_node, noting_first, noting_second, noting_third}
 use Rattle.ell_cards.specs.Retiring.{how_many_noted, is_done, one_if}
 use Rattle.ell_cards.specs.SlotWords.{is_noted, taken_word, turn_in, turn_of}
@@ -227,27 +229,31 @@ or_false : (a b : Bool) → (a || b) ≡ false → (a ≡ false) × (b ≡ false
 or_false true b e = absurd (false≢true (sym e))
 or_false false b e = (refl, e)
 
-pub left_used : (taken_out : Bool) (c : ℕ) (nodes : CardNodes) (n : ℕ) → is_done taken_out c nodes n ≡ false → n % 8 ≢ 0
-left_used taken_out c nodes n left full =
-    false≢true (sym (or_false (all_noted nodes n) _ left).0 ∙ all_of_full nodes n full)
+not_all : (whose : Whose) (c : ℕ) (nodes : CardNodes) (n : ℕ) → is_done whose c nodes n ≡ false → all_noted nodes n ≡ false
+not_all TakenOut c nodes n left = left
+not_all Own c nodes n left = (or_false (all_noted nodes n) _ left).0
 
-pub left_turn : (c : ℕ) (nodes : CardNodes) (n : ℕ) → is_done false c nodes n ≡ false → turn_in n ≡ turn_of c
+pub left_used : (whose : Whose) (c : ℕ) (nodes : CardNodes) (n : ℕ) → is_done whose c nodes n ≡ false → n % 8 ≢ 0
+left_used whose c nodes n left full =
+    false≢true (sym (not_all whose c nodes n left) ∙ all_of_full nodes n full)
+
+pub left_turn : (c : ℕ) (nodes : CardNodes) (n : ℕ) → is_done Own c nodes n ≡ false → turn_in n ≡ turn_of c
 left_turn c nodes n left = eqb-true (turn_in n) (turn_of c) (not_not (turn_in n == turn_of c) (or_false (all_noted nodes n) _ left).1)
   where
     not_not : (b : Bool) → not b ≡ false → b ≡ true
     not_not true e = refl
     not_not false e = absurd (false≢true (sym e))
 
-pub left_some : (taken_out : Bool) (c : ℕ) (nodes : CardNodes) (n : ℕ) → is_done taken_out c nodes n ≡ false → (i : ℕ) × (has_node nodes i ≡ true)
-left_some taken_out c nodes n left = by nodes.internal nodes.left nodes.right refl refl refl
+pub left_some : (whose : Whose) (c : ℕ) (nodes : CardNodes) (n : ℕ) → is_done whose c nodes n ≡ false → (i : ℕ) × (has_node nodes i ≡ true)
+left_some whose c nodes n left = by nodes.internal nodes.left nodes.right refl refl refl
   where
     by : (x y z : Bool) → nodes.internal ≡ x → nodes.left ≡ y → nodes.right ≡ z → (i : ℕ) × (has_node nodes i ≡ true)
     by true y z a b c = (0, a)
     by false true z a b c = (1, b)
     by false false true a b c = (2, c)
-    by false false false a b c =
-        absurd (false≢true (sym (or_false (all_noted nodes n) _ left).0
-        ∙ (λ i. (not (a i) || is_noted n 0) && (not (b i) || is_noted n 1) && (not (c i) || is_noted n 2))))
+    by false false false p q r =
+        absurd (false≢true (sym (not_all whose c nodes n left)
+        ∙ (λ i. (not (p i) || is_noted n 0) && (not (q i) || is_noted n 1) && (not (r i) || is_noted n 2))))
 
 -- of a card there are three nodes
 pub few_nodes : (nodes : CardNodes) (i : ℕ) → has_node nodes i ≡ true → i < 3
@@ -281,14 +287,14 @@ all_some nodes n i all has = by i has
     by (suc (suc (suc i))) has = absurd (false≢true has)
 
 -- where none is left, they are noted, or the word is of another turn than the card in hand
-pub done_by : (taken_out : Bool) (c : ℕ) (nodes : CardNodes) (n : ℕ) → is_done taken_out c nodes n ≡ true → (all_noted nodes n ≡ true) ⊎ ((taken_out ≡ false) × (turn_in n ≢ turn_of c))
-done_by taken_out c nodes n done = by (all_noted nodes n) taken_out (turn_in n == turn_of c) refl refl done
+pub done_by : (whose : Whose) (c : ℕ) (nodes : CardNodes) (n : ℕ) → is_done whose c nodes n ≡ true → (all_noted nodes n ≡ true) ⊎ ((whose ≡ Own) × (turn_in n ≢ turn_of c))
+done_by TakenOut c nodes n done = inl done
+done_by Own c nodes n done = by (all_noted nodes n) (turn_in n == turn_of c) refl done
   where
-    by : (a b e : Bool) → taken_out ≡ b → (turn_in n == turn_of c) ≡ e → (a || (not b && not e)) ≡ true → (a ≡ true) ⊎ ((taken_out ≡ false) × (turn_in n ≢ turn_of c))
-    by true b e x y done = inl refl
-    by false true e x y done = absurd (false≢true done)
-    by false false true x y done = absurd (false≢true done)
-    by false false false x y done = inr (x, λ same. false≢true (sym y ∙ eq-eqb (turn_in n) (turn_of c) same))
+    by : (a e : Bool) → (turn_in n == turn_of c) ≡ e → (a || not e) ≡ true → (a ≡ true) ⊎ ((Own ≡ Own) × (turn_in n ≢ turn_of c))
+    by true e y done = inl refl
+    by false true y done = absurd (false≢true done)
+    by false false y done = inr (refl, λ same. false≢true (sym y ∙ eq-eqb (turn_in n) (turn_of c) same))
 
 -- the word of a slot that was just taken notes nothing
 pub none_noted : (turn k : ℕ) → is_noted (taken_word turn) k ≡ true → ⊥

@@ -13,7 +13,7 @@ invariant-loop g l = record {
   still : StandsStill l.fn.seat.me.0.period l.seat.me.0.period;
   keeps : KeepsSafe l.fn.seat.me.0.period l.seat.me.0.period;
   read : l.seat.me.0.period.read ≡ Some (record { slot = slot_of l.fn.card; word = l.word });
-  retired : l.seat.me.0.period.retired ≡ retires_if (is_done l.fn.taken_out l.fn.card l.fn.nodes l.word) l.fn.taken_out l.fn.nodes l.fn.seat.me.0.period.retired;
-  may : is_done l.fn.taken_out l.fn.card l.fn.nodes l.word ≡ false → MayNote l.fn.seat.me.0.tree l.fn.taken_out l.fn.card l.fn.nodes l.word;
-  more : is_done l.fn.taken_out l.fn.card l.fn.nodes l.word ≡ false → l.counter ≤ how_many_noted l.word;
+  retired : l.seat.me.0.period.retired ≡ retires_if (is_done l.fn.whose l.fn.card l.fn.nodes l.word) l.fn.whose l.fn.nodes l.fn.seat.me.0.period.retired;
+  may : is_done l.fn.whose l.fn.card l.fn.nodes l.word ≡ false → MayNote l.fn.seat.me.0.tree l.fn.whose l.fn.card l.fn.nodes l.word;
+  more : is_done l.fn.whose l.fn.card l.fn.nodes l.word ≡ false → l.counter ≤ how_many_noted l.word;
 }

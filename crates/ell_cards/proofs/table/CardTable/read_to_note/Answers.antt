@@ -3,7 +3,7 @@ use Rattle.ell_cards.proofs.table.CardTable.read_to_note.Goals as goal
 
 pub load_noted-requires-clause-rule : goal.load_noted-requires-clause-rule
 load_noted-requires-clause-rule g c =
-    reads_to_note c.args.self.now.plan c.args.slots c.requires.seat.slots c.args.taken_out c.args.card c.args.nodes c.requires.seat.inside c.args.seat.now.me.0 c.requires.retires
+    reads_to_note c.args.self.now.plan c.args.slots c.requires.seat.slots c.args.whose c.args.card c.args.nodes c.requires.seat.inside c.args.seat.now.me.0 c.requires.retires
 
 pub returns-clause-read : goal.returns-clause-read
 returns-clause-read g c = c.load_noted.ensures.told.0

@@ -5,4 +5,4 @@ use Rattle.ell_cards.proofs.table.CardTable.retire_nodes.Goals as goal
 
 pub note_dead-requires-clause-retires : goal.note_dead-requires-clause-retires
 note_dead-requires-clause-retires g c =
-    subst (λ (m : PassModel). MayRetire m.view c.args.taken_out c.args.card c.args.nodes) (sym c.pass.view_is) c.requires.retires
+    subst (λ (m : PassModel). MayRetire m.view c.args.whose c.args.card c.args.nodes) (sym c.pass.view_is) c.requires.retires
