@@ -17,7 +17,7 @@ pub struct CardNodes {
 impl CardNodes {
     /// Returns all three.
     #[inline(always)]
-    pub fn all() -> CardNodes
+    pub(crate) fn all() -> CardNodes
         ensures { result ≡ all_nodes }
     {
         CardNodes {
@@ -29,7 +29,7 @@ impl CardNodes {
 
     /// Returns this node alone, by its place on its card: none if the number is no node's.
     #[inline(always)]
-    pub fn only(node: u64) -> CardNodes
+    pub(crate) fn only(node: u64) -> CardNodes
         ensures { result ≡ node_alone (node % 4) }
     {
         CardNodes {
@@ -41,7 +41,7 @@ impl CardNodes {
 
     /// Returns these and others.
     #[inline(always)]
-    pub fn and(self, others: CardNodes) -> CardNodes
+    pub(crate) fn and(self, others: CardNodes) -> CardNodes
         ensures { result ≡ nodes_of_both self others }
     {
         CardNodes {

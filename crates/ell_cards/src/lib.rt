@@ -28,7 +28,6 @@ mod table;
 mod view;
 mod walking;
 
-pub use card_nodes::CardNodes;
 pub use closed::Closed;
 pub use ell_runs::{Answered, Call, Glance, Hindrance, Stretch, Told, View};
 pub use fault::{CardFault, SplitFault};

@@ -28,9 +28,3 @@ both nodes others zero is = of_either nodes.internal others.internal is
 both nodes others (suc zero) is = of_either nodes.left others.left is
 both nodes others (suc (suc zero)) is = of_either nodes.right others.right is
 both nodes others (suc (suc (suc i))) is = absurd (false≢true is)
-
-pub so_both : (P : ℕ → Type 0) (c : ℕ) (nodes others : CardNodes) → AllOfCard P c nodes → AllOfCard P c others → AllOfCard P c (nodes_of_both nodes others)
-so_both P c nodes others so others_so i is = elim (both nodes others i is) [
-  | inl one ↦ so i one
-  | inr other ↦ others_so i other
-]
