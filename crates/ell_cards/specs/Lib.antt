@@ -49,6 +49,8 @@ pub mod Stepping
 pub mod Skipping
 -- the kinds of steps of which gates are told
 pub mod StepKinds
+-- how a pass asks for a card, and what comes of that
+pub mod Claiming
 -- what its public clauses cite of the crates below
 pub use Rattle.ell_ops.specs.KeySet
 pub use Rattle.ell_ops.specs.Meaning

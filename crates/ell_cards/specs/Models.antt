@@ -142,18 +142,6 @@ abbrev pub LooksAround : PassModel → PassModel → Type 0
 LooksAround old new =
     new ≡ record old { memory = record (old.memory) { safe = new.memory.safe; surveyed = new.memory.surveyed } }
 
--- or the slot that it took last and what it noted for it, too
-abbrev pub LooksForSlot : PassModel → PassModel → Type 0
-LooksForSlot old new =
-    new ≡ record old {
-      memory = record (old.memory) {
-        safe = new.memory.safe;
-        surveyed = new.memory.surveyed;
-        slot = new.memory.slot;
-        retired = new.memory.retired;
-      };
-    }
-
 -- the pass came from another one by a step that both count, and knows this; it is in no period, has looked at no place
 -- yet, has taken no slot, and has seen of the history what the other one has
 abbrev pub StepsOut : PassModel → PassModel → View → Type 0

@@ -15,7 +15,7 @@ use Rattle.ell_cards.specs.declared.view.Survey.{Survey}
 use Rattle.ell_runs.specs.Plans.{TablePlan}
 use Rattle.ell_cards.specs.Models.{no_survey}
 use Rattle.ell_cards.specs.Retiring.{is_done, none_retired, retires_if, with_retired}
-use Rattle.ell_cards.specs.SlotWords.{slot_of, card_by, free_word, freed_by, has_slot_in, taken_word}
+use Rattle.ell_cards.specs.SlotWords.{slot_of, card_by, free_word, freed_by, taken_word}
 use Rattle.ell_runs.specs.Touching.{IsAtRest}
 
 -- the state of a table, with all that its passes know
@@ -99,17 +99,6 @@ size_by (Some s) last = slots_size s
 
 abbrev pub whole_size : TablePlan → ℕ
 whole_size plan = size_by plan.slots plan.last_card
-
--- how often a pass claims cards at most until it has one whose slot it takes, or finds that it can take none: where
--- cards lie in slots, once more than there are, as other passes may take each of them before it
-abbrev pub most_claims : Option Slots → ℕ
-most_claims None = 1
-most_claims (Some s) = s.last + 2
-
--- whether a card has a slot
-abbrev pub has_slot : Option Slots → ℕ → Bool
-has_slot None c = true
-has_slot (Some s) c = has_slot_in s.last c
 
 -- The word of a place is 0 if no pass has it, 1 if its pass is in no period, and else the reading of the clock that
 -- its pass announces, and 2.

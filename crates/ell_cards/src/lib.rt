@@ -25,6 +25,7 @@ mod slots;
 mod steps;
 mod story;
 mod table;
+mod taking;
 mod view;
 mod walking;
 
@@ -40,4 +41,5 @@ pub use memory::Memory;
 pub use pass::Pass;
 pub use steps::TableSteps;
 pub use table::CardTable;
+pub use taking::Claimed;
 pub use view::{Known, Plan};

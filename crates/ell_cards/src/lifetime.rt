@@ -17,7 +17,7 @@ ghost use Rattle.ell_runs.specs.Views.{IsFree, MayPart};
 ghost use Rattle.ell_runs.specs.Changes.{left_view, right_view, joined_view};
 ghost use Rattle.ell_cards.specs.Inside.{IsNewTable};
 ghost use Rattle.ell_cards.specs.Stepping.{MaySplit, MayHave, PartsShare};
-ghost use Rattle.ell_cards.specs.Periods.{AreWholeWords, most_claims, slot_word, slots_size, whole_size, words_of_free_slots};
+ghost use Rattle.ell_cards.specs.Periods.{AreWholeWords, slot_word, slots_size, whole_size, words_of_free_slots};
 ghost use Rattle.ell_cards.specs.Shown.{IsWord};
 ghost use Rattle.ell_runs.specs.Sights.{joined_sight};
 ghost use Rattle.ell_cards.specs.SlotWords.{taken_word};
@@ -157,17 +157,6 @@ impl<M: Memory> CardTable<M> {
         ensures { result ≡ is_some self.now.plan.slots }
     {
         self.slots.is_some()
-    }
-
-    /// Returns how often to claim cards at most until the slot of one is taken: once, if there are no places.
-    pub fn most_claims(&self) -> u64
-        // Returns one without places, and otherwise two more than the number of the last slot.
-        ensures { result ≡ most_claims self.now.plan.slots }
-    {
-        match self.slots {
-            None => 1,
-            Some(slots) => slots.last + 2,
-        }
     }
 
     /// Returns `true` if the tree is flat.

@@ -6,7 +6,7 @@ ghost use Rattle.ell_core.specs.declared.exchange.Exchange.TheVariants as exchan
 ghost use Rattle.ell_cards.specs.Models.{Steps};
 ghost use Rattle.ell_runs.specs.Plans.{flat_from, new_node};
 ghost use Rattle.ell_runs.specs.Changes.{after_fill, after_flag, if_won, exchanged, found_update, found_word};
-ghost use Rattle.ell_cards.specs.Skipping.{IsFresh, after_claimed_row};
+ghost use Rattle.ell_cards.specs.Skipping.{IsFresh, IsRow, after_claimed_row};
 ghost use Rattle.ell_cards.specs.Shown.{shown_word};
 ghost use Rattle.ell_runs.specs.declared.call.Call.TheVariants as call;
 ghost use Rattle.ell_runs.specs.Sayings.{delete_says, put_says};
@@ -25,44 +25,20 @@ use ell_word::{State, Update, pack};
 use std::marker::Brand;
 
 impl<M: Memory, G: StepGate> TableSteps<'_, M, G> {
-    /// Takes the card that `next` read in this try, if it is still the next one. Returns `true` if it did. The node
-    /// of an insert's or a swap's card gets this key: the greater one of its two keys, in a flat tree their branch. In
-    /// a flat tree the pass may have a card in hand that has not won its flag, which it lays aside if it takes this one.
-    #[inline(always)]
-    pub fn claim(self, pass: &mut Pass<M>, card: u64, node_key: u64) -> bool
-        requires own { pass.old.table ≡ self.table.now.id }
-        requires may { MayClaim (flat_from self.table.now.plan) pass.old.view card
-            (new_node self.table.now.plan node_key) }
-        // A card in hand that it lays aside is none whose slot it has taken.
-        requires kept { MayInTable self.table.now.plan pass.old
-            (call.Claim card (new_node self.table.now.plan node_key)) }
-        requires room { card ≤ self.table.now.plan.last_card }
-        // It makes one step and counts it. The pass then knows exactly what this call tells.
-        ensures step { Steps pass.old pass.new
-            (after_claimed_row result card card (new_node self.entry.table.now.plan node_key) pass.old.view) }
-        // If it took the card, it has not taken that one's slot yet.
-        ensures fresh { IsFresh self.entry.table.now.plan pass.old.memory.slot result card }
-    {
-        self.table.names(pass);
-        self.table
-            .exchange_claim::<Brand, G>(pass, card, node_key, card + 1, self.gate)
-            == card
-    }
-
     /// Takes all numbers from the card that `next` read in this try to a later one at once, if the card is still the next
     /// one. Returns `true` if it did: then each of them was laid aside but the last one, which is in hand, as after so many
-    /// claims in a row with `next` between two of them. A pass may have a card in hand, as for `claim`.
+    /// claims in a row with `next` between two of them. Where each card has words of its own, it takes the one card. The
+    /// node of an insert's or a swap's card gets this key: the greater one of its two keys, in a flat tree their branch.
+    /// In a flat tree the pass may have a card in hand that has not won its flag, which it lays aside if it takes these.
     #[inline(always)]
-    pub fn claim_row(self, pass: &mut Pass<M>, first: u64, last: u64, node_key: u64) -> bool
+    pub(crate) fn claim_row(self, pass: &mut Pass<M>, first: u64, last: u64, node_key: u64) -> bool
         requires own { pass.old.table ≡ self.table.now.id }
         requires may { MayClaim (flat_from self.table.now.plan) pass.old.view first
             (new_node self.table.now.plan node_key) }
         // A card in hand that it lays aside is none whose slot it has taken.
         requires kept { MayInTable self.table.now.plan pass.old
             (call.Claim first (new_node self.table.now.plan node_key)) }
-        requires places { self.table.now.plan.slots ≢ None }
-        requires order { first ≤ last }
-        requires room { last ≤ self.table.now.plan.last_card }
+        requires row { IsRow self.table.now.plan first last }
         // It makes one step and counts it. The pass then knows exactly what these claims tell.
         ensures step { Steps pass.old pass.new
             (after_claimed_row result first last (new_node self.entry.table.now.plan node_key) pass.old.view) }

@@ -2,7 +2,7 @@
 //! nodes of that which are not known to be dead, and a free slot's word the stamp with which it was set free.
 ghost use Rattle.std.specs.Prelude.{◌==◌, ◌≡◌, ◌+◌, ◌*◌, ◌<◌, ◌≤◌, ◌%◌, ◌||◌, nat_le, ℕ, true};
 ghost use Rattle.ell_word.specs.Node.{card, greatest_card, greatest_number, turn_size};
-ghost use Rattle.ell_cards.specs.Periods.{clock_word, has_slot, slot_word, spread};
+ghost use Rattle.ell_cards.specs.Periods.{clock_word, slot_word, spread};
 ghost use Rattle.ell_cards.specs.SlotWords.{could_take, has_slot_in, has_slots, slot_of, stamp_in, turn_in, turn_of};
 
 use crate::period::clock_word;

@@ -2,25 +2,16 @@
 //! of the three nodes of the card are dead. Once all three are, the slot is set free: the word then has a reading of
 //! the clock as its stamp, and a pass takes the slot for another card once that stamp is safe. The numbers of a later
 //! turn that child words do not tell from the first have no slots. The steps are not counted.
-ghost use Rattle.std.specs.Prelude.{◌≡◌, ◌≢◌, ◌<◌, ◌≤◌, ◌%◌, ℕ, IfSome, None, Some, true, false};
-ghost use Rattle.ell_word.specs.Node.{turn_size};
+ghost use Rattle.std.specs.Prelude.{◌≡◌, ◌<◌, ◌≤◌, ℕ, Some};
 ghost use Rattle.ell_cards.specs.Ages.{MayStamp};
 ghost use Rattle.ell_cards.specs.Frames.{IsSeatOf, IsSeatWithSlots, KeepsSafe, LeavesTree, StandsStill};
-ghost use Rattle.ell_runs.specs.Guards.{MayFill};
-ghost use Rattle.ell_cards.specs.Periods.{clock_word, LostIs, after_freeing, after_read, after_stamp, after_taking, has_slot, last_reading, slot_word};
-ghost use Rattle.ell_cards.specs.Retiring.{none_retired};
-ghost use Rattle.ell_cards.specs.Models.{LooksAround, LooksForSlot};
-ghost use Rattle.ell_cards.specs.SlotWords.{card_by, has_slot_in, slot_of, stamp_in, turn_of};
+ghost use Rattle.ell_cards.specs.Periods.{clock_word, LostIs, after_freeing, after_read, after_stamp, last_reading, slot_word};
+ghost use Rattle.ell_cards.specs.SlotWords.{card_by, slot_of};
 ghost use Rattle.ell_cards.specs.Stepping.{MayGoOn};
-ghost use Rattle.ell_runs.specs.Holding.{HoldsWaiting};
 
 use crate::memory::{Memory, Seat};
-use crate::pass::Pass;
 use crate::rule::PeriodTelling;
-use crate::slot_words::{
-    has_slot, is_for_all, is_free_before, next_with_slot, numbers_per_look, slot_of, slot_word,
-    turn_of,
-};
+use crate::slot_words::{slot_of, slot_word, turn_of};
 use crate::table::CardTable;
 use ell_runs::Slots;
 use std::marker::Brand;
@@ -38,9 +29,9 @@ impl<M: Memory> CardTable<M> {
         slot_word(slots, slot)
     }
 
-    // Reads the word of a slot.
+    /// Reads the word of a slot.
     #[inline(always)]
-    fn read_slot(&self, seat: &mut Seat<M>, slots: Slots, slot: u64) -> u64
+    pub(crate) fn read_slot(&self, seat: &mut Seat<M>, slots: Slots, slot: u64) -> u64
         requires seat { IsSeatWithSlots self.now slots seat.old }
         requires slot { slot ≤ slots.last }
         ensures read { seat.new.me.0.period ≡ after_read slot result seat.old.me.0.period }
@@ -112,145 +103,5 @@ impl<M: Memory> CardTable<M> {
         if lost {
             self.set_free(seat, slots, card);
         }
-    }
-
-    // Takes the slot of a card in hand that was set free with a stamp below the pass's safe number, if the slot's
-    // word is this still. Returns `true` if it was.
-    fn take_free(&self, seat: &mut Seat<M>, slots: Slots, card: u64, word: u64) -> bool
-        requires seat { IsSeatWithSlots self.now slots seat.old }
-        requires slot { has_slot_in slots.last card ≡ true }
-        requires low { slots.last < turn_size }
-        requires hand { HoldsWaiting seat.old.me.0.tree card }
-        requires free { word % 8 ≡ 0 }
-        requires safe { stamp_in word < seat.old.me.0.period.safe }
-        requires unlost { seat.old.me.0.period.lost ≡ None }
-        ensures taken { result ≡ true → seat.new.me.0.period ≡ after_taking card seat.old.me.0.period }
-        ensures lost { result ≡ false →
-            (n : ℕ) × (seat.new.me.0.period ≡ after_read (slot_of card) n seat.old.me.0.period) }
-        ensures leaves { LeavesTree seat.old seat.new }
-    {
-        let address = self.slot_address(slots, slot_of(card));
-        self.period_exchange::<Brand>(seat, address, word, 8 * turn_of(card) + 7) == word
-    }
-
-    // Counts the number of a card whose slot the pass is to take, and lets the clock go on and looks at all places
-    // once in so many numbers that it went by. It does so for each of the next takings where it went by many at once,
-    // as few slots are free, and for each slot that is for deletes alone: then the slots that these changes set free
-    // have different stamps, of which the next change can take the oldest.
-    fn look_now_and_then(&self, pass: &mut Pass<M>, slots: Slots, card: u64)
-        requires own { pass.old.table ≡ self.now.id }
-        ensures same { LooksAround pass.old pass.new }
-        ensures more { pass.old.memory.safe ≤ pass.new.memory.safe }
-    {
-        let numbers = pass.standing.numbers.saturating_add(1);
-        let per_look = numbers_per_look(slots);
-        if numbers < per_look && is_for_all(slots, slot_of(card)) {
-            pass.standing.numbers = numbers;
-            return;
-        }
-        pass.standing.numbers = numbers.saturating_sub(per_look).min(slots.last);
-        self.safe_number(pass);
-    }
-
-    // Reads the word of the slot of a card by a search for a delete or another change. Returns `true` if the pass could
-    // take the slot for that change: it was set free with a stamp below the pass's safe number, and it is for deletes
-    // alone only if the change is one.
-    fn is_takeable(&self, pass: &mut Pass<M>, slots: Slots, card: u64, for_delete: bool) -> bool
-        requires own { pass.old.table ≡ self.now.id }
-        requires slots { self.now.plan.slots ≡ Some slots }
-        requires slot { has_slot_in slots.last card ≡ true }
-        ensures same { pass.new ≡ pass.old }
-    {
-        let word = self.read_slot(&mut pass.seat, slots, slot_of(card));
-        is_free_before(word, pass.standing.safe) && (for_delete || is_for_all(slots, slot_of(card)))
-    }
-
-    // Returns the least number of a card, from this card on, whose slot the pass could take for a delete, or for
-    // another change. It reads the word of each slot once at most.
-    fn seek_takeable(
-        &self,
-        pass: &mut Pass<M>,
-        slots: Slots,
-        card: u64,
-        for_delete: bool,
-    ) -> Option<u64>
-        requires own { pass.old.table ≡ self.now.id }
-        requires slots { self.now.plan.slots ≡ Some slots }
-        requires room { card ≤ self.now.plan.last_card }
-        ensures same { pass.new ≡ pass.old }
-        ensures found { IfSome result (λ c. (card ≤ c) × (c ≤ self.now.plan.last_card) × (has_slot_in slots.last c ≡ true)) }
-    {
-        let _ = &self.table;
-        let mut next = next_with_slot(slots, card);
-        for read in 0..slots.last + 1 {
-            if self.last_card < next {
-                return None;
-            }
-            if self.is_takeable(pass, slots, next, for_delete) {
-                pass.standing.numbers = pass.standing.numbers.saturating_add(read);
-                return Some(next);
-            }
-            next = next_with_slot(slots, next + 1);
-        }
-        None
-    }
-
-    /// Returns the least number of a card, from this card on, whose slot the pass could take by `take_slot` as it
-    /// read the slots' words: at most one round of them, and one more if there was none, and the places then tell of
-    /// a greater safe number. Returns `None` if there is none, or none that the table has. The last two slots of the
-    /// table are for deletes alone, so some are left to them even if keys fill all others. Without places, each card
-    /// has words of its own, and this is the card itself. Its steps are not counted.
-    pub fn next_takeable(&self, pass: &mut Pass<M>, card: u64, for_delete: bool) -> Option<u64>
-        requires own { pass.old.table ≡ self.now.id }
-        requires room { card ≤ self.now.plan.last_card }
-        // What the pass knows of the tree is as it was, and it has made no step that is counted.
-        ensures same { LooksAround pass.old pass.new }
-        // It is a card of the table that has a slot, and none before the one from which it was sought.
-        ensures found { IfSome result (λ c. (card ≤ c) × (c ≤ self.now.plan.last_card) × (has_slot self.now.plan.slots c ≡ true)) }
-        // A table without places has no slots to be read.
-        ensures plain { self.now.plan.slots ≡ None → (result ≡ Some card) × (pass.new ≡ pass.old) }
-    {
-        let Some(slots) = self.slots else {
-            return Some(card);
-        };
-        self.look_first(pass);
-        let before = pass.standing.safe;
-        if let Some(found) = self.seek_takeable(pass, slots, card, for_delete) {
-            return Some(found);
-        }
-        if before < self.safe_number(pass) {
-            self.seek_takeable(pass, slots, card, for_delete)
-        } else {
-            None
-        }
-    }
-
-    /// Takes the slot of the card in hand, if that was set free with a stamp below the pass's safe number. Returns
-    /// `true` if it did: in a table without places always, and never where the card has no slot. Its steps are not
-    /// counted.
-    pub fn take_slot(&self, pass: &mut Pass<M>, card: u64) -> bool
-        requires own { pass.old.table ≡ self.now.id }
-        requires may { MayFill pass.old.view card }
-        // The pass has taken the slot of its card, if the table has places.
-        ensures took { result ≡ true → self.now.plan.slots ≢ None → pass.new.memory.slot ≡ Some card }
-        // What the pass knows of the tree is as it was, and it has made no step that is counted.
-        ensures same { LooksForSlot pass.old pass.new }
-        // If it did not take the slot, it has the slot that it had.
-        ensures kept { result ≡ false → LooksAround pass.old pass.new }
-        // If it did, it has noted nothing for the card yet.
-        ensures anew { result ≡ true → self.now.plan.slots ≢ None → pass.new.memory.retired ≡ none_retired }
-        // A table without places has no slots to be taken.
-        ensures none { self.now.plan.slots ≡ None → (result ≡ true) × (pass.new ≡ pass.old) }
-    {
-        let Some(slots) = self.slots else {
-            return true;
-        };
-        if !has_slot(slots, card) {
-            return false;
-        }
-        self.look_now_and_then(pass, slots, card);
-        let word = self.read_slot(&mut pass.seat, slots, slot_of(card));
-        let safe = pass.standing.safe;
-        is_free_before(word, safe) && self.take_free(&mut pass.seat, slots, card, word)
     }
 }

@@ -83,10 +83,9 @@ impl<M: Memory> CardTable<M> {
         self.names(pass);
     }
 
-    /// A law, as the ones before: the tree of a table with places is flat.
+    // A law, as the ones before: the tree of a table with places is flat.
     #[inline(always)]
-    pub fn places_are_in_flat_trees(&self)
-        // Where there are places, the tree is flat.
+    pub(crate) fn places_are_in_flat_trees(&self)
         ensures { self.now.plan.slots ≢ None → self.now.plan.flat ≡ true }
     {
         let _ = &self.table;

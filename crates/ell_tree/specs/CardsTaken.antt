@@ -4,10 +4,6 @@ use Rattle.ell_runs.specs.Contention.{is_claim}
 use Rattle.ell_ops.specs.declared.op.Op.{Op}
 use Rattle.ell_cards.specs.Models.{PassModel}
 use Rattle.ell_tree.specs.Ends.{changes_by}
-use Rattle.ell_tree.specs.declared.trying.Claimed.{Claimed}
-use Rattle.ell_tree.specs.declared.trying.Claimed.TheVariants as claimed
-use Rattle.ell_tree.specs.declared.trying.Next.{Next}
-use Rattle.ell_tree.specs.declared.trying.Next.TheVariants as next
 use Rattle.ell_tree.specs.declared.trying.Tried.{Tried}
 use Rattle.ell_tree.specs.declared.trying.Tried.TheVariants as tried
 
@@ -59,16 +55,3 @@ abbrev pub TryTakes : Op → PassModel → PassModel → Tried → Type 0
 TryTakes op old new (tried.Answered had) = TakesOneIf (changes_by op had) old new
 TryTakes op old new tried.Spent = TakesNoCard old new
 TryTakes op old new tried.Hindered = TakesAtMost 1 old new
-
--- which cards it takes to ask for one
-abbrev pub AskTakes : PassModel → PassModel → Claimed → Type 0
-AskTakes old new (claimed.Card c) = TakesOneCard old new
-AskTakes old new claimed.NoneLeft = TakesNoCard old new
-AskTakes old new claimed.Lost = TakesNoCard old new
-
--- and to claim the next one
-abbrev pub NextTakes : PassModel → PassModel → Next → Type 0
-NextTakes old new (next.Taken c) = TakesOneCard old new
-NextTakes old new next.NoneLeft = TakesNoCard old new
-NextTakes old new next.Lost = TakesNoCard old new
-NextTakes old new next.InUse = Unit {0}

@@ -1,4 +1,4 @@
-use Rattle.std.specs.Prelude.{◌≡◌, ℕ, ◌+◌, ◌*◌, ◌≤◌, ◌↔◌, ◌==◌, Bool, true, false, Option, None, Some, is_some, IfSome, Result, Ok, Err}
+use Rattle.std.specs.Prelude.{◌≡◌, ℕ, ◌+◌, ◌*◌, ◌≤◌, ◌↔◌, ◌==◌, Bool, false, Option, None, Some, is_some, IfSome, Result, Ok, Err}
 use Rattle.ell_core.specs.statements.Effects.{reply_of_change}
 use Rattle.ell_ops.specs.declared.op.Op.{Op}
 use Rattle.ell_ops.specs.declared.op.Op.TheVariants.{Find, Insert, Delete, Swap}
@@ -56,11 +56,6 @@ pub record LaidDown (t : TreeModel) (op : Op) (old new : PassModel) : Type 0 whe
   pub outside : new.memory.inside ≡ false
   pub no_card : new.view.worker.card ≡ None
   pub sees : HasSeenMore old.sight new.sight
-
--- whether an operation is a delete
-abbrev pub is_delete : Op → Bool
-is_delete (Delete key) = true
-is_delete _ = false
 
 -- No card is left, if each has words of its own: the claim word, as the pass read it last, says that all are given out.
 -- Where cards lie in slots, it says nothing of when a pass found none to take.
@@ -157,12 +152,6 @@ rest_steps most = 4 * most + 22
 -- the most steps of so many tries
 abbrev pub change_steps : ℕ → ℕ → ℕ
 change_steps most tries = tries * try_steps most + 1
-
--- the most steps in which a try asks for a card: two, where each card has words of its own; where cards lie in slots,
--- two for each time that another pass may take the slot first, two more times than the number of the last slot
-abbrev pub claim_steps : Option Slots → ℕ
-claim_steps None = 2
-claim_steps (Some s) = 2 * s.last + 4
 
 -- how many steps more a try takes at most where cards lie in slots
 abbrev pub slot_steps : Option Slots → ℕ

@@ -10,11 +10,10 @@ use Rattle.ell_runs.specs.declared.view.Told.{Told}
 use Rattle.ell_runs.specs.declared.view.Told.TheVariants.{Met, Info}
 use Rattle.ell_runs.specs.declared.view.Hindrance.{Hindrance}
 use Rattle.ell_runs.specs.declared.view.View.{View}
-use Rattle.ell_runs.specs.Plans.{TablePlan}
 use Rattle.ell_cards.specs.Models.{KeepsItsOwn, PassModel}
 use Rattle.ell_runs.specs.Views.{InTable, IsTold, Knows}
 use Rattle.ell_runs.specs.Views.{SameShare}
-use Rattle.ell_tree.specs.Counts.{Took, TookIn}
+use Rattle.ell_tree.specs.Counts.{Took}
 use Rattle.ell_tree.specs.CardsTaken.{TakesNoCard}
 
 -- ledger, operation and share stay, and nothing is forgotten; no try is given up, so what was in the way
@@ -37,13 +36,6 @@ pub record Keeps (old new : PassModel) (n : ℕ) : Type 0 where
   pub sight : new.sight ≡ old.sight
   pub view : LosesNothing old.view new.view
   pub took : Took old new n
-
--- the same in a table, but for the slot
-pub record KeepsIn (plan : TablePlan) (old new : PassModel) (n : ℕ) : Type 0 where
-  pub own : KeepsItsOwn old new
-  pub sight : new.sight ≡ old.sight
-  pub view : LosesNothing old.view new.view
-  pub took : TookIn plan old new n
 
 -- and took no card, has the same card in hand, and met nothing in its way
 pub record KeepsAllButSearch (old new : PassModel) (n : ℕ) : Type 0 where

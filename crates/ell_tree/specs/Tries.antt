@@ -1,4 +1,4 @@
-use Rattle.std.specs.Prelude.{◌<◌, ◌≡◌, ◌≢◌, ℕ, ◌+◌, ◌≤◌, ◌++◌, true, false, Some, None, List, [], ◌∷◌, Result, Ok, Err, length, Option, is_some}
+use Rattle.std.specs.Prelude.{◌≡◌, ℕ, ◌+◌, ◌≤◌, ◌++◌, true, false, Some, None, List, [], ◌∷◌, Result, Ok, Err, length, Option, is_some}
 use Rattle.ell_ops.specs.declared.op.Op.{Op}
 use Rattle.ell_ops.specs.declared.op.Op.TheVariants.{Find, Insert, Delete, Swap}
 use Rattle.ell_ops.specs.Meaning.{key_of, reply_of, yes_if}
@@ -6,7 +6,7 @@ use Rattle.ell_ops.specs.declared.reply.Reply.{Reply}
 use Rattle.ell_ops.specs.declared.reply.Reply.TheVariants.{Yes}
 use Rattle.ell_ops.specs.declared.reply.Reply.TheVariants as replaced
 use Rattle.ell_core.specs.declared.put.Put.{Put}
-use Rattle.ell_core.specs.acts.Searching.{MayTake, put_of}
+use Rattle.ell_core.specs.acts.Searching.{put_of}
 use Rattle.ell_layout.specs.Cards.{put_filling}
 use Rattle.ell_core.specs.statements.Effects.{reply_of_change}
 use Rattle.ell_word.specs.declared.update.Update.{Update}
@@ -18,29 +18,24 @@ use Rattle.ell_runs.specs.declared.view.Told.TheVariants.{Expects}
 use Rattle.ell_runs.specs.declared.view.Hindrance.{Hindrance}
 use Rattle.ell_runs.specs.declared.view.Hindrance.TheVariants.{Found}
 use Rattle.ell_runs.specs.declared.view.View.{View}
-use Rattle.ell_runs.specs.Plans.{flat_from, TablePlan, new_node}
 use Rattle.ell_cards.specs.Models.{KeepsItsOwn, PassModel}
 use Rattle.ell_runs.specs.Views.{Has, IsTold, Knows, Does, StandsAt}
-use Rattle.ell_runs.specs.Changes.{value_told, expected_tag, told_filling, filling_of, tagged, with_stores, tries_hindered}
+use Rattle.ell_runs.specs.Changes.{told_filling, tagged, with_stores, tries_hindered}
 use Rattle.ell_runs.specs.Guards.{IsFilled, MayFill}
 use Rattle.ell_runs.specs.Seeing.{SeesEnd}
 use Rattle.ell_cards.specs.Shown.{shown_words}
 use Rattle.ell_tree.specs.declared.searching.Place.{Place}
-use Rattle.ell_tree.specs.declared.trying.Claimed.{Claimed}
-use Rattle.ell_tree.specs.declared.trying.Claimed.TheVariants as claimed
-use Rattle.ell_tree.specs.declared.trying.Next.{Next}
-use Rattle.ell_tree.specs.declared.trying.Next.TheVariants as next
 use Rattle.ell_tree.specs.declared.trying.Tried.{Tried}
 use Rattle.ell_tree.specs.declared.trying.Tried.TheVariants as tried
 use Rattle.ell_tree.specs.Ledgers.{TreeModel, Owns, present_in, IsIdle}
-use Rattle.ell_cards.specs.Stepping.{HasSlotOf, LetsGo}
+use Rattle.ell_cards.specs.Stepping.{LetsGo}
 use Rattle.ell_runs.specs.Views.{SameShare}
 use Rattle.ell_tree.specs.Counts.{Took}
 use Rattle.ell_tree.specs.CardsTaken.{TakesNoCard}
 use Rattle.ell_tree.specs.Ends.{AnswersAs, NoneIsLeft, TakesValue, reply_by}
 use Rattle.ell_tree.specs.Hindrances.{AreOver, Meets, StillKnows, way_of}
 use Rattle.ell_tree.specs.Keeping.{IsSeenAt}
-use Rattle.ell_tree.specs.Milestones.{GivesOut, SeesMilestone}
+use Rattle.ell_tree.specs.Milestones.{SeesMilestone}
 use Rattle.ell_tree.specs.Searches.{AtRoot, seen, seen_any, there_at}
 use Rattle.ell_runs.specs.declared.call.NewNode.{NewNode}
 
@@ -167,46 +162,6 @@ pub record HasCardToPut (what : Put) (place : Place) (node : NewNode) (v : View)
   pub card : HasCard op place place.parent.tag
       (put_filling node.flat c what.key what.value node.key place.parent.node place.node place.key place.value) v c
 
--- no card was taken, but some that were laid aside, of which the last may be in hand; and the search stands where it
--- stood
-pub record HasNone (old new : PassModel) : Type 0 where
-  pub unflagged : (c : ℕ) → new.view.worker.card ≡ Some c → new.view.worker.flagged ≡ false
-  pub search : new.view.worker.search ≡ old.view.worker.search
-
--- what comes of asking for a card, whose node gets this key
-abbrev pub Claims : TablePlan → Op → Place → ℕ → PassModel → PassModel → Claimed → Type 0
-Claims plan op place node_key old new (claimed.Card c) =
-    HasCard op place (expected_tag old.view) (filling_of c (new_node plan node_key) old.view) new.view c × (c ≤ plan.last_card)
-    × (new.view.hindrances ≡ old.view.hindrances) × GivesOut plan.last_card old.view new.view × HasSlotOf plan c new
-Claims plan op place node_key old new claimed.NoneLeft =
-    HasNone old new × NoneIsLeft plan new × (new.view.hindrances ≡ old.view.hindrances) × LetsGo plan new
-Claims plan op place node_key old new claimed.Lost =
-    HasNone old new × Meets old.view new.view × (length old.view.hindrances + 1 ≤ length new.view.hindrances)
-    × GivesOut plan.last_card old.view new.view × LetsGo plan new
-
--- a pass may take a card: it has none in hand, or, in a flat tree, one that it lays aside, which is not flagged, of
--- which it knows that it is given out, and whose slot it has not taken
-pub record HoldsAside (plan : TablePlan) (p : PassModel) : Type 0 where
-  pub ready : MayTake (flat_from plan) p.view.worker
-  pub below : (c : ℕ) → p.view.worker.card ≡ Some c → c < p.view.next_at_least
-  pub aside : plan.slots ≢ None → (c : ℕ) → p.view.worker.card ≡ Some c → p.memory.slot ≢ Some c
-
--- a card was claimed in vain, whose slot could not be taken: the pass stands where it stood, and would fill a card with
--- what it would have filled it
-pub record ClaimsInVain (plan : TablePlan) (old new : PassModel) : Type 0 where
-  pub slots : plan.slots ≢ None
-  pub hand : HoldsAside plan new
-  pub search : new.view.worker.search ≡ old.view.worker.search
-  pub here : new.view.here ≡ old.view.here
-  pub values : value_told new.view.told ≡ value_told old.view.told
-  pub hindrances : new.view.hindrances ≡ old.view.hindrances
-
--- what comes of claiming the next card
-abbrev pub ClaimsNext : TablePlan → Op → Place → ℕ → PassModel → PassModel → Next → Type 0
-ClaimsNext plan op place node_key old new (next.Taken c) = Claims plan op place node_key old new (claimed.Card c)
-ClaimsNext plan op place node_key old new next.NoneLeft = Claims plan op place node_key old new claimed.NoneLeft
-ClaimsNext plan op place node_key old new next.Lost = Claims plan op place node_key old new claimed.Lost
-ClaimsNext plan op place node_key old new next.InUse = ClaimsInVain plan old new
 
 -- the card in hand was filled in so many steps, and nothing else was done
 pub record Fills (old new : PassModel) (n : ℕ) : Type 0 where

@@ -24,8 +24,8 @@ ghost use Rattle.ell_cards.specs.Stepping.{HasSlotOf, IsWholeIn};
 use crate::helping::{DeleteFlag, Ending, finish_delete, help, help_delete};
 use crate::searching::{Passed, Place, node_with, search};
 use crate::steps::answer;
-use crate::trying::{Claimed, Tried, take_card};
-use ell_cards::{Memory, Pass, StepGate, TableSteps};
+use crate::trying::Tried;
+use ell_cards::{Claimed, Memory, Pass, StepGate, TableSteps};
 use ell_layout::Field;
 use ell_ops::{Op, Reply};
 use ell_word::{State, Update, pack};
@@ -88,7 +88,7 @@ pub(crate) fn delete_at<M: Memory, G: StepGate>(
         help(steps, pass, parent.node, parent.update);
         return Tried::Hindered;
     }
-    let card = match take_card(steps, pass, Op::Delete(key), place, 0) {
+    let card = match steps.take_card(pass, true, 0) {
         Claimed::Card(card) => card,
         Claimed::NoneLeft => return Tried::Spent,
         Claimed::Lost => return Tried::Hindered,

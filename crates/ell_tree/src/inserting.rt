@@ -17,9 +17,9 @@ ghost use Rattle.ell_cards.specs.Stepping.{HasSlotOf, IsWholeIn};
 use crate::helping::{finish_insert, help};
 use crate::searching::{Place, node_with, search};
 use crate::steps::answer;
-use crate::trying::{Claimed, Tried, take_card};
+use crate::trying::Tried;
 use ell_block::branch;
-use ell_cards::{CardTable, Memory, Pass, StepGate, TableSteps};
+use ell_cards::{CardTable, Claimed, Memory, Pass, StepGate, TableSteps};
 use ell_core::Put;
 use ell_layout::{Field, card_children, update_word};
 use ell_ops::{Op, Reply};
@@ -55,7 +55,7 @@ pub(crate) fn try_put<M: Memory, G: StepGate>(
         return Tried::Hindered;
     }
     let node_key = node_key(steps.table, what.key, place.key);
-    let card = match take_card(steps, pass, op, place, node_key) {
+    let card = match steps.take_card(pass, false, node_key) {
         Claimed::Card(card) => card,
         Claimed::NoneLeft => return Tried::Spent,
         Claimed::Lost => return Tried::Hindered,

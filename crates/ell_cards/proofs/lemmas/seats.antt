@@ -4,3 +4,5 @@ pub mod Placed
 pub mod Taken
 -- the insides of a table and a pass, where the generic step opens them
 pub mod Opened
+-- a pass in whose seat a slot was taken
+pub mod SlotTaken

@@ -36,10 +36,6 @@ pub no_claims : (won : Bool) (k : Exchange) (c : ℕ) (es : List (Exchange × �
 no_claims true k c es other = ap (λ (b : Bool). if b then claims_in es + 1 else claims_in es) other
 no_claims false k c es other = refl
 
--- a step to a view with the same claims
-pub takes_none : (old new : PassModel) (v : View) → Steps old new v → claims_in v.won ≡ claims_in old.view.won → TakesNoCard old new
-takes_none old new v s same = ap (λ (p : PassModel). cards_taken p) s ∙ same
-
 -- an answer that changes nothing is not that of a change
 reply_unchanged : (op : Op) (had : Option ℕ) → IsChange op → changes_by op had ≡ false → reply_by op had ≢ reply_of_change op
 reply_unchanged (Find k) had is none e = is

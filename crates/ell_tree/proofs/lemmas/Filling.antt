@@ -21,12 +21,16 @@ use Rattle.ell_runs.specs.Changes.{expected_tag, tag_of_claim, value_told, filli
 use Rattle.ell_runs.specs.Guards.{Wants}
 use Rattle.ell_runs.proofs.lemmas.words.Updates.{clean_word}
 use Rattle.ell_runs.proofs.lemmas.views.SeenNodes.{filling_at}
+use Rattle.ell_runs.specs.Plans.{TablePlan}
+use Rattle.ell_cards.specs.Claiming.{AsksForCard, TakesCard}
+use Rattle.ell_cards.specs.Models.{PassModel}
 use Rattle.ell_tree.specs.declared.searching.Passed.{Passed}
 use Rattle.ell_tree.specs.declared.searching.Place.{Place}
 use Rattle.ell_tree.specs.Keeping.{LosesNothing, IsInnerMet}
 use Rattle.ell_tree.specs.Searches.{seen, seen_any, node_with, IsAt}
 use Rattle.ell_tree.specs.Helps.{IsInsert, IsParent}
 use Rattle.ell_tree.specs.Tries.{HasCard}
+use Rattle.ell_tree.proofs.lemmas.Claiming.{has_card}
 use Rattle.ell_tree.proofs.lemmas.Keeping.{inner_kept}
 use Rattle.ell_runs.specs.declared.call.NewNode.{NewNode}
 
@@ -57,25 +61,27 @@ put_tag (Insert k value) what is parent above = refl
 put_tag (Delete k) what is parent above = absurd cc
 put_tag (Swap k was value) what is parent above = refl
 
--- so that is the card
-pub put_card : (v t : View) (c : ℕ) (node : NewNode) (op : Op) (what : Put) (place : Place) → put_of op ≡ Some what → Does v op → IsAt v place
-    → HasCard op place (expected_tag v) (filling_of c node v) t c
-    → HasCard op place place.parent.tag (layout.put_filling node.flat c what.key what.value node.key place.parent.node place.node place.key place.value) t c
-put_card v t c node op what place is busy at h =
-    subst (λ tag. HasCard op place tag (layout.put_filling node.flat c what.key what.value node.key place.parent.node place.node place.key place.value) t c)
-    (tag_there op v place busy at ∙ put_tag op what is (seen place.parent) (seen_any place.grandparent))
-    (subst (λ (es : List (Field × ℕ)). HasCard op place (expected_tag v) es t c) (put_fills c node op what v place is busy at) h)
+-- so that is the card that was taken
+pub put_card : (plan : TablePlan) (node : NewNode) (n : ℕ) (a t : PassModel) → AsksForCard plan node n a t → (c : ℕ) → TakesCard plan node c a t → (op : Op) (what : Put) (place : Place)
+    → put_of op ≡ Some what → Does a.view op → IsAt a.view place
+    → HasCard op place place.parent.tag (layout.put_filling node.flat c what.key what.value node.key place.parent.node place.node place.key place.value) t.view c
+put_card plan node n a t asks c taken op what place is busy at =
+    subst (λ tag. HasCard op place tag (layout.put_filling node.flat c what.key what.value node.key place.parent.node place.node place.key place.value) t.view c)
+    (tag_there op a.view place busy at ∙ put_tag op what is (seen place.parent) (seen_any place.grandparent))
+    (subst (λ (es : List (Field × ℕ)). HasCard op place (expected_tag a.view) es t.view c) (put_fills c node op what a.view place is busy at)
+    (has_card plan node n a t asks c taken op place busy at))
 
 -- for a delete it is the grandparent's
-pub delete_card : (v t : View) (c : ℕ) (node : NewNode) (k : ℕ) (place : Place) (above : Passed) → place.grandparent ≡ Some above → Does v (Delete k) → IsAt v place
-    → HasCard (Delete k) place (expected_tag v) (filling_of c node v) t c
-    → HasCard (Delete k) place above.tag (delete_filling above.node place.parent.node place.node (packed place.parent.update)) t c
-delete_card v t c node k place above is busy at h =
-    subst (λ tag. HasCard (Delete k) place tag (delete_filling above.node place.parent.node place.node (packed place.parent.update)) t c)
-    (tag_there (Delete k) v place busy at ∙ ap (λ (o : Option Passed). tag_of_claim (Some (Delete k)) (Some (seen place.parent)) (seen_any o)) is)
-    (subst (λ (es : List (Field × ℕ)). HasCard (Delete k) place (expected_tag v) es t c)
-    (filling_there c node (Delete k) v place busy at
-    ∙ ap (λ (o : Option Passed). filling_for c node (Some (Delete k)) (Some place.node) (Some (seen place.parent)) (seen_any o) place.key (value_told v.told)) is) h)
+pub delete_card : (plan : TablePlan) (node : NewNode) (n : ℕ) (a t : PassModel) → AsksForCard plan node n a t → (c : ℕ) → TakesCard plan node c a t → (k : ℕ) (place : Place) (above : Passed)
+    → place.grandparent ≡ Some above → Does a.view (Delete k) → IsAt a.view place
+    → HasCard (Delete k) place above.tag (delete_filling above.node place.parent.node place.node (packed place.parent.update)) t.view c
+delete_card plan node n a t asks c taken k place above is busy at =
+    subst (λ tag. HasCard (Delete k) place tag (delete_filling above.node place.parent.node place.node (packed place.parent.update)) t.view c)
+    (tag_there (Delete k) a.view place busy at ∙ ap (λ (o : Option Passed). tag_of_claim (Some (Delete k)) (Some (seen place.parent)) (seen_any o)) is)
+    (subst (λ (es : List (Field × ℕ)). HasCard (Delete k) place (expected_tag a.view) es t.view c)
+    (filling_there c node (Delete k) a.view place busy at
+    ∙ ap (λ (o : Option Passed). filling_for c node (Some (Delete k)) (Some place.node) (Some (seen place.parent)) (seen_any o) place.key (value_told a.view.told)) is)
+    (has_card plan node n a t asks c taken (Delete k) place busy at))
 
 -- a delete wants a card at a leaf of its key whose grandparent was read clean
 pub delete_wants : (from node_key : ℕ) (v : View) (k : ℕ) (place : Place) (above : Passed) → IsAt v place → IsLeaf place.node → place.key ≡ k → place.grandparent ≡ Some above

@@ -5,19 +5,15 @@ use Rattle.ell_core.specs.state.Facts.{known_of}
 use Rattle.ell_runs.specs.declared.view.Hindrance.{Hindrance}
 use Rattle.ell_runs.specs.declared.view.Hindrance.TheVariants.{Found}
 use Rattle.ell_runs.specs.declared.view.View.{View}
-use Rattle.ell_runs.specs.Plans.{TablePlan}
 use Rattle.ell_cards.specs.Models.{PassModel}
 use Rattle.ell_tree.specs.Hindrances.{IsEnded, AreOver, StillKnows, Meets}
-use Rattle.ell_tree.specs.Keeping.{Keeps, KeepsIn, KeepsAllButSearch, KeepsAll}
+use Rattle.ell_tree.specs.Keeping.{Keeps, KeepsAllButSearch, KeepsAll}
 use Rattle.ell_tree.specs.Tries.{LosesFlag}
 use Rattle.ell_tree.proofs.lemmas.Meeting.{meets_none, meets_these, meets_trans, meets_more, over_still, over_together}
 
 -- steps that met nothing
 pub keeps_meets : (a b : PassModel) (n : ℕ) → Keeps a b n → b.view.hindrances ≡ a.view.hindrances → Meets a.view b.view
 keeps_meets a b n h e = meets_none a.view b.view e h.view.knows
-
-pub keeps_in_meets : (plan : TablePlan) (a b : PassModel) (n : ℕ) → KeepsIn plan a b n → b.view.hindrances ≡ a.view.hindrances → Meets a.view b.view
-keeps_in_meets plan a b n h e = meets_none a.view b.view e h.view.knows
 
 pub seek_meets : (a b : PassModel) (n : ℕ) → KeepsAllButSearch a b n → Meets a.view b.view
 seek_meets a b n h = keeps_meets a b n h.keeps h.hindrances

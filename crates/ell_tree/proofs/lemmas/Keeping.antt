@@ -11,22 +11,21 @@ use Rattle.ell_core.specs.state.Facts.{known_of}
 use Rattle.ell_runs.specs.declared.view.Told.{Told}
 use Rattle.ell_runs.specs.declared.view.Told.TheVariants.{Met, Info}
 use Rattle.ell_runs.specs.declared.view.View.{View}
-use Rattle.ell_runs.specs.Plans.{TablePlan}
 use Rattle.ell_cards.specs.Models.{PassModel, Counts, Sees, Steps, some_more}
 use Rattle.ell_runs.specs.Views.{Has, latest, earlier, IsTold, Knows}
 use Rattle.ell_runs.specs.Depths.{depth_of}
 use Rattle.ell_word.specs.Link.{link_in}
 use Rattle.ell_runs.specs.Changes.{depth_there, facts_by, places_by, with_fact, exchanged, after_upd}
-use Rattle.ell_runs.proofs.lemmas.views.Afters.{after_down, after_key_of, after_value_of, after_info, after_frozen_child, after_next}
+use Rattle.ell_runs.proofs.lemmas.views.Afters.{after_down, after_key_of, after_value_of, after_info, after_frozen_child}
 use Rattle.ell_runs.proofs.lemmas.views.Facts.{knows_new, knows_more, facts_by_more}
 use Rattle.ell_runs.proofs.lemmas.views.Depths.{met_more}
 use Rattle.ell_runs.proofs.lemmas.views.Entries.{places_more, info_more}
 use Rattle.ell_cards.proofs.lemmas.views.Steps.{own_same, own_trans}
 use Rattle.ell_runs.specs.Views.{SameShare}
-use Rattle.ell_tree.proofs.lemmas.Counts.{took_none, took_one, took_unseen, took_counted, took_within, took_trans, took_in, took_in_trans}
+use Rattle.ell_tree.proofs.lemmas.Counts.{took_none, took_one, took_unseen, took_counted, took_within, took_trans}
 use Rattle.ell_tree.specs.Counts.{HasUncounted}
 use Rattle.ell_tree.specs.CardsTaken.{claims_in}
-use Rattle.ell_tree.specs.Keeping.{LosesNothing, Keeps, KeepsIn, KeepsAllButSearch, KeepsAllButMet, KeepsAll, IsInnerMet, TellsPlace, IsSeenAt}
+use Rattle.ell_tree.specs.Keeping.{LosesNothing, Keeps, KeepsAllButSearch, KeepsAllButMet, KeepsAll, IsInnerMet, TellsPlace, IsSeenAt}
 
 -- a share that is the same in two steps is the same
 pub share_trans : (u v w : View) → SameShare u v → SameShare v w → SameShare u w
@@ -52,18 +51,6 @@ keeps_trans a b c m n k h h' le = record {
   slot = h'.slot ∙ h.slot;
   view = loses_trans a.view b.view c.view h.view h'.view;
   took = took_trans a b c m n k h.took h'.took le;
-}
-
--- the same in a table
-pub keeps_in : (plan : TablePlan) (a b : PassModel) (n : ℕ) → Keeps a b n → KeepsIn plan a b n
-keeps_in plan a b n h = record { own = h.own; sight = h.sight; view = h.view; took = took_in plan a b n h.took }
-
-pub keeps_in_trans : (plan : TablePlan) (a b c : PassModel) (m n k : ℕ) → KeepsIn plan a b m → KeepsIn plan b c n → m + n ≤ k → KeepsIn plan a c k
-keeps_in_trans plan a b c m n k h h' le = record {
-  own = own_trans a b c h.own h'.own;
-  sight = h'.sight ∙ h.sight;
-  view = loses_trans a.view b.view c.view h.view h'.view;
-  took = took_in_trans plan a b c m n k h.took h'.took le;
 }
 
 pub keeps_but_search_trans : (a b c : PassModel) (m n k : ℕ) → KeepsAllButSearch a b m → KeepsAllButSearch b c n → m + n ≤ k → KeepsAllButSearch a c k
@@ -160,11 +147,7 @@ place_told x state.Mark c v w f t = (
 )
 place_told x state.Clean c v w f t = tt
 
--- a step to a view that keeps these
-pub keeps_step : (old new : PassModel) (v : View) → Steps old new v → LosesNothing old.view v → v.made ≡ old.view.made + 1 → Keeps old new 1
-keeps_step old new v s k made = subst (λ (m : PassModel). Keeps old m 1) (sym s) (record { own = own_same old; sight = refl; slot = refl; view = k; took = took_one old v made })
-
--- a step that is not counted yet, to such a view
+-- a step that is not counted yet, to a view that keeps these
 pub keeps_but_search_unseen : (old new : PassModel) (v : View) → Sees old new v → LosesNothing old.view v → v.made ≡ old.view.made + 1 → claims_in v.won ≡ claims_in old.view.won → v.worker.card ≡ old.view.worker.card
     → v.worker.flagged ≡ old.view.worker.flagged → v.hindrances ≡ old.view.hindrances → KeepsAllButSearch old new 1
 keeps_but_search_unseen old new v s k made taken card flagged hindrances =
@@ -240,6 +223,3 @@ learning_keeps wins n f v = record {
   hindered = refl;
   earlier = λ hs e. e;
 }
-
-pub next_keeps : (n : ℕ) (v : View) → LosesNothing v (after_next n v)
-next_keeps n v = record { ledger = refl; operation = refl; share = record { share = refl; ownable = refl }; knows = λ f h. h; told = λ e h. h; before = refl; least = omega arith; hindered = refl; earlier = λ hs e. e }

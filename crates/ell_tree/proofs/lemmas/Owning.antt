@@ -13,6 +13,8 @@ use Rattle.ell_core.specs.declared.put.Put.{Put}
 use Rattle.ell_core.specs.acts.Searching.{put_of, TakesPut}
 use Rattle.ell_core.proofs.lemmas.keeping.Puts.{added, replacing}
 use Rattle.ell_runs.specs.Plans.{TablePlan}
+use Rattle.ell_runs.specs.declared.call.NewNode.{NewNode}
+use Rattle.ell_cards.specs.Claiming.{AsksForCard}
 use Rattle.ell_cards.specs.Models.{KeepsItsOwn, PassModel, ledger}
 use Rattle.ell_runs.specs.Seeing.{SeesBegin, SeesCall, SeesEnd}
 use Rattle.ell_runs.specs.Views.{SameShare}
@@ -23,7 +25,7 @@ use Rattle.ell_tree.specs.declared.trying.Tried.TheVariants.{Answered}
 use Rattle.ell_tree.specs.Called.{ByItsTake}
 use Rattle.ell_tree.specs.Ends.{Answers, AnswersAs, TakesIfDelete, TakesValue}
 use Rattle.ell_tree.specs.Tries.{TryTakesValue}
-use Rattle.ell_tree.specs.Keeping.{Keeps, KeepsIn}
+use Rattle.ell_tree.specs.Keeping.{Keeps}
 use Rattle.ell_tree.specs.Ledgers.{Owns, TreeModel, present_in}
 use Rattle.ell_tree.specs.Searches.{EndsAt, there_at}
 use Rattle.ell_cards.proofs.lemmas.views.Steps.{own_trans}
@@ -86,8 +88,8 @@ pub keeps_answers : (t : TreeModel) (op : Op) (said : Reply) (p q r : PassModel)
 keeps_answers t op said p q r n keeps h =
     answers_before SeesEnd SeesEnd t op said p q r keeps.own keeps.view.ledger (ap (λ (g : Sight). g.mine) keeps.sight) keeps.view.share (ends_before op said p q r keeps.sight h.sees) h
 
-pub keeps_in_answers : (t : TreeModel) (op : Op) (said : Reply) (p q r : PassModel) (n : ℕ) → KeepsIn t.plan p q n → AnswersAs SeesEnd t op said q r → AnswersAs SeesEnd t op said p r
-keeps_in_answers t op said p q r n keeps h =
+pub asks_answers : (t : TreeModel) (op : Op) (said : Reply) (p q r : PassModel) (node : NewNode) (n : ℕ) → AsksForCard t.plan node n p q → AnswersAs SeesEnd t op said q r → AnswersAs SeesEnd t op said p r
+asks_answers t op said p q r node n keeps h =
     answers_before SeesEnd SeesEnd t op said p q r keeps.own keeps.view.ledger (ap (λ (g : Sight). g.mine) keeps.sight) keeps.view.share (ends_before op said p q r keeps.sight h.sees) h
 
 -- a try that was answered, of an operation that the pass began before

@@ -225,11 +225,6 @@ root_asked from op a b key root s tells = (
 pub asked_depth : (a b : PassModel) (x key y : ℕ) → Sees a b (after_key_of x key a.view) → depth_of b.view y ≡ depth_of a.view y
 asked_depth a b x key y s = ap (λ (v : View). depth_of v y) (view_seen a b (after_key_of x key a.view) s)
 
-pub asked_shallow : (most : ℕ) (a b : PassModel) (x key y : ℕ) → Sees a b (after_key_of x key a.view) → IsShallow most a.view y → IsShallow most b.view y
-asked_shallow most a b x key y s h =
-    let same = asked_depth a b x key y s in
-    record { inner = λ inner. (let low = h.inner inner in omega arith); any = let low = h.any in omega arith }
-
 -- what a ledger has of a key, if it has it where the place has the key, and with the place's value then
 there_by : (o : Option ℕ) (place : Place) (k : ℕ) → is_some o ≡ (place.key == k) → (place.key ≡ k → o ≡ Some place.value) → o ≡ there_at place k
 there_by o place k some same = by (place.key == k) refl

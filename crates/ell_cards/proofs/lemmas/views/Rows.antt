@@ -1,7 +1,8 @@
 -- What a pass knows after a row of claims, in which each card but the last one is laid aside.
-use Rattle.std.proofs.Common.{◌≢◌, ◌<◌, unwrap_or, ◌≡◌, ◌⊎◌, ℕ, zero, suc, ◌+◌, ◌==◌, ◌%◌, if◌then◌else◌, Bool, true, false, List, [], ◌∷◌, inl, inr, refl, sym, ap, ◌∙◌, subst, arith}
+use Rattle.std.proofs.Common.{◌≢◌, ◌<◌, ◌≤◌, ◌-◌, ◌*◌, unwrap_or, ◌≡◌, ◌⊎◌, ℕ, zero, suc, ◌+◌, ◌==◌, ◌%◌, if◌then◌else◌, Bool, true, false, Some, List, [], ◌∷◌, inl, inr, refl, sym, ap, ◌∙◌, subst, arith}
 use Rattle.std.proofs.lemmas.Bool.{cases_eq}
 use Rattle.std.proofs.lemmas.Option.{same_Some}
+use Rattle.ell_core.specs.declared.exchange.Exchange.{Exchange}
 use Rattle.ell_core.specs.declared.exchange.Exchange.TheVariants as exchange
 use Rattle.ell_core.specs.declared.view.Search.{Search}
 use Rattle.ell_core.specs.statements.Told.{is_fixed}
@@ -17,7 +18,8 @@ use Rattle.ell_runs.specs.Changes.{expected_tag, filling_for, filling_of, ledger
 use Rattle.ell_runs.specs.Calls.{after}
 use Rattle.ell_runs.specs.Guards.{Wants, MayClaim}
 use Rattle.ell_runs.specs.Views.{Has, latest, earlier, IsTold}
-use Rattle.ell_cards.specs.Skipping.{after_one, after_row, told_of_claim, IsAfterRow}
+use Rattle.ell_cards.specs.Claiming.{IsToldOfClaims, told_of_claim}
+use Rattle.ell_cards.specs.Skipping.{after_one, after_row}
 use Rattle.ell_cards.specs.Shown.{cut_planned, shown_words}
 use Rattle.ell_runs.specs.Views.{SameShare}
 use Rattle.ell_runs.proofs.lemmas.views.Entries.{filling_more}
@@ -88,6 +90,40 @@ claim_only c tag es told e (earlier _ _ _ h) = elim (filling_only c es told e h)
   | inr new ↦ inr (earlier e (Expects c tag) (told_filling c es []) new)
 ]
 
+-- What a pass knows after a row of claims, from a first card to a last one: that is in hand, not flagged, and nothing
+-- of it is stored; it is to say what it would have been to say had it been the first, cut to 64 bits; and beside what
+-- was told before, what was told is of the cards of the row, and no leaf's value. It has won a claim for each of
+-- these, and has made a call between two of them. All else is as it was.
+pub record IsAfterRow (first last : ℕ) (node : NewNode) (old new : View) : Type 0 where
+  pub operation : new.worker.operation ≡ old.worker.operation
+  pub search : new.worker.search ≡ old.worker.search
+  pub knows : new.worker.knows ≡ old.worker.knows
+  pub ledger : new.worker.ledger ≡ old.worker.ledger
+  pub shared : new.worker.shared ≡ old.worker.shared
+  pub card : new.worker.card ≡ Some last
+  pub unflagged : new.worker.flagged ≡ false
+  pub planned : new.planned ≡ shown_words (tagged (expected_tag old) (filling_of last node old))
+  pub stores : new.stores ≡ []
+  pub here : new.here ≡ old.here
+  pub least : new.next_at_least ≡ last + 1
+  pub found : new.found ≡ old.found
+  pub share : new.share ≡ old.share
+  pub looks : new.looks ≡ old.looks
+  pub glances : new.glances ≡ old.glances
+  pub answered : new.answered ≡ old.answered
+  pub laid_down : new.laid_down ≡ old.laid_down
+  pub knew_before : new.knew_before ≡ old.knew_before
+  pub hindrances : new.hindrances ≡ old.hindrances
+  pub hindered : new.hindered ≡ old.hindered
+  pub met : new.met ≡ old.met
+  pub won : (w : Exchange × ℕ) → Has old.won w → Has new.won w
+  pub claimed : (c : ℕ) → first ≤ c → c ≤ last → Has new.won (exchange.Claim, c)
+  pub made : new.made ≡ old.made + 2 * (last - first) + 1
+  pub told : (e : Told) → IsTold old e → IsTold new e
+  pub values : value_told new.told ≡ value_told old.told
+  pub says : (e : Told) → Has (told_of_claim last node old) e → IsTold new e
+  pub only : (e : Told) → IsTold new e → IsTold old e ⊎ IsToldOfClaims first (last + 1) node old e
+
 -- what a pass knows after a row of claims
 pub rows_keep : (n c : ℕ) (node : NewNode) (v : View) → IsAfterRow c (c + n) node v (cut_planned (after_row n c node v))
 rows_keep zero c node v = subst (λ m. IsAfterRow c m node v (cut_planned (after_row zero c node v))) (omega arith) (record {
@@ -101,7 +137,6 @@ rows_keep zero c node v = subst (λ m. IsAfterRow c m node v (cut_planned (after
   planned = refl;
   stores = refl;
   here = refl;
-  next = λ at. at;
   least = refl;
   found = refl;
   share = refl;
@@ -121,7 +156,7 @@ rows_keep zero c node v = subst (λ m. IsAfterRow c m node v (cut_planned (after
   says = claim_says c (expected_tag v) (filling_of c node v) v.told;
   only = λ e h. elim (claim_only c (expected_tag v) (filling_of c node v) v.told e h) [
     | inl old ↦ inl old
-    | inr new ↦ inr (record { card = c; from = omega arith; upto = omega arith; among = new })
+    | inr new ↦ inr (record { card = c; from = omega arith; before = omega arith; among = new })
   ];
 })
 rows_keep (suc n) c node v =
@@ -139,7 +174,6 @@ rows_keep (suc n) c node v =
       planned = h.planned ∙ ap (λ es. shown_words (tagged (expected_tag v) es)) (filling_on c (c + 1 + n) node v);
       stores = h.stores;
       here = h.here;
-      next = λ at. h.next refl;
       least = h.least;
       found = h.found;
       share = h.share;
@@ -164,12 +198,12 @@ rows_keep (suc n) c node v =
       only = λ e has. elim (h.only e has) [
         | inl old ↦ elim (claim_only c (expected_tag v) (filling_of c node v) v.told e old) [
           | inl older ↦ inl older
-          | inr new ↦ inr (record { card = c; from = omega arith; upto = omega arith; among = new })
+          | inr new ↦ inr (record { card = c; from = omega arith; before = omega arith; among = new })
         ]
         | inr new ↦ inr (record {
           card = new.card;
           from = let low = new.from in omega arith;
-          upto = new.upto;
+          before = let low = new.before in omega (arith, low);
           among = subst (λ es. Has es e) (same new.card) new.among;
         })
       ];

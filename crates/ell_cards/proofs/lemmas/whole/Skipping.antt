@@ -13,6 +13,7 @@ use Rattle.ell_cards.specs.Ages.{HasPeriods}
 use Rattle.ell_runs.specs.Holding.{HoldsWaiting}
 use Rattle.std.proofs.lemmas.Bool.{false≢true}
 use Rattle.std.proofs.lemmas.Option.{same_Some}
+use Rattle.ell_core.proofs.lemmas.outcomes.Decide.{some_not_none}
 use Rattle.ell_runs.specs.Calls.{after, May}
 use Rattle.ell_runs.specs.Changes.{ledger_keys, after_claim}
 use Rattle.ell_runs.specs.Guards.{MayClaim}
@@ -22,7 +23,7 @@ use Rattle.ell_cards.specs.InSlots.{IsPlaced}
 use Rattle.ell_cards.specs.Periods.{whole_size, WholeState}
 use Rattle.ell_cards.specs.Apart.{IsApart}
 use Rattle.ell_cards.specs.Shown.{IsWord, cut_word, cut_planned, shown}
-use Rattle.ell_cards.specs.Skipping.{after_one, after_row, after_claimed_row, IsFresh, MayStepOn}
+use Rattle.ell_cards.specs.Skipping.{after_one, after_row, after_claimed_row, IsFresh, IsRow, MayStepOn}
 use Rattle.ell_runs.specs.Starts.{SlotsFit}
 use Rattle.ell_cards.specs.Stepping.{IsInside, KeepsPass, MayInTable, MayTell}
 use Rattle.ell_runs.specs.Views.{SameShare}
@@ -235,22 +236,12 @@ module _ (plan : TablePlan) (s : Slots) (placed : plan.slots ≡ Some s) (flat :
         goes false (after_claim false first node k.tree) (claim_lost plan s placed t h id k here unlost first node by_tree aside lost small)
         (ap (after_claim false first node) is) (λ there yes. absurd (false≢true yes))
 
-  pub row_goes : MayStepOn plan p 0 (λ n. either (n == first) (last + 1) n) (RowTells plan first last node p)
+  row_goes : MayStepOn plan p 0 (λ n. either (n == first) (last + 1) n) (RowTells plan first last node p)
   row_goes k is slotted unlost id t h homes here small = by k is slotted unlost id t h here small (get_or t.words 0 0 == first) refl
 
 -- the number before the one behind the last
 pub one_back : (last : ℕ) → last + 1 - 1 ≡ last
 one_back last = omega arith
-
--- whichever places there are
-pub row_goes_any : (plan : TablePlan) → plan.slots ≢ None → plan.flat ≡ true → (p : PassModel) (first last : ℕ) (node : NewNode) → first ≤ last → last ≤ plan.last_card
-    → MayClaim (flat_from plan) p.view first node → MayInTable plan p (call.Claim first node)
-    → MayStepOn plan p 0 (λ n. either (n == first) (last + 1) n) (RowTells plan first last node p)
-row_goes_any plan there flat p first last node order room may lays = by plan.slots refl
-  where
-    by : (o : Option Slots) → plan.slots ≡ o → MayStepOn plan p 0 (λ n. either (n == first) (last + 1) n) (RowTells plan first last node p)
-    by None none = absurd (there none)
-    by (Some s) placed = row_goes plan s placed flat p first last node order room may (lays s placed)
 
 -- the pass has the keys and the share that it had, and names what is in the table
 pub row_keeps_pass : (plan : TablePlan) (p : PassModel) (first last : ℕ) (node : NewNode) → KeepsPass plan p.view (RowTells plan first last node p)
@@ -293,7 +284,7 @@ claim_tells plan c node v s h id w here is apart (call.Claim d key) same may can
 claim_tells plan c node v s h id w here is apart _ same may can placed later = absurd cc
 
 -- so a claim is a step that the rule allows
-pub claim_goes : (plan : TablePlan) (p : PassModel) (c : ℕ) (node : NewNode) → May plan (call.Claim c node) p.view → c + 1 < 2 ^ 64 → MayInTable plan p (call.Claim c node)
+claim_goes : (plan : TablePlan) (p : PassModel) (c : ℕ) (node : NewNode) → May plan (call.Claim c node) p.view → c + 1 < 2 ^ 64 → MayInTable plan p (call.Claim c node)
     → MayStepOn plan p 0 (λ n. either (n == c) (c + 1) n) (RowTells plan c c node p)
 claim_goes plan p c node may low lays k is slotted unlost id t h homes here small =
     let x = tree_step plan k (call.Claim c node) (λ n. either (n == c) (c + 1) n) (λ n w. (w ≡ after_claimed_row (n == c) c c node p.view) × IsInside plan w) (λ n. k.period) tt
@@ -317,6 +308,18 @@ claim_goes plan p c node may low lays k is slotted unlost id t h homes here smal
 
     fresh : IsFresh plan p.memory.slot (get_or t.words 0 0 == c) c
     fresh there won at = by plan.slots refl won there at
+
+-- so is a row of them, whichever places there are
+pub row_goes_any : (plan : TablePlan) → (plan.slots ≢ None → plan.flat ≡ true) → (p : PassModel) (first last : ℕ) (node : NewNode) → IsRow plan first last → first + 1 < 2 ^ 64
+    → MayClaim (flat_from plan) p.view first node → MayInTable plan p (call.Claim first node)
+    → MayStepOn plan p 0 (λ n. either (n == first) (last + 1) n) (RowTells plan first last node p)
+row_goes_any plan flat p first last node row low may lays = by plan.slots refl
+  where
+    by : (o : Option Slots) → plan.slots ≡ o → MayStepOn plan p 0 (λ n. either (n == first) (last + 1) n) (RowTells plan first last node p)
+    by None none =
+        subst (λ m. MayStepOn plan p 0 (λ n. either (n == first) (m + 1) n) (RowTells plan first m node p)) (sym (row.one none))
+        (claim_goes plan p first node (may, omega (arith, row.order, row.room)) low lays)
+    by (Some s) placed = row_goes plan s placed (flat (λ none. some_not_none placed none)) p first last node row.order row.room may (lays s placed)
 
 -- what a step on the claim word owes that the rule allows, by what its caller says of the table and the pass
 module _ (t u : TableModel) (p q : PassModel) (same_table : t ≡ u) (same_pass : p ≡ q) (own : q.table ≡ u.id) (size : t.id.words ≡ whole_size t.plan) (fit : SlotsFit t.plan t.plan.slots) where

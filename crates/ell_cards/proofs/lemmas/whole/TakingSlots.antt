@@ -1,5 +1,5 @@
 -- A pass takes the slot of its card in hand, which was set free with a stamp below the pass's safe number.
-use Rattle.std.proofs.Common.{◌≡◌, ◌≢◌, ℕ, ◌%◌, ◌<◌, ◌≤◌, ◌==◌, if◌then◌else◌, Bool, true, false, Some, None, length, get_or, inl, inr, ◌⊎◌, refl, sym, ap, ◌∙◌, subst, arith, eq-eqb, ne_eqb}
+use Rattle.std.proofs.Common.{◌≡◌, ◌≢◌, ℕ, ◌%◌, ◌<◌, ◌≤◌, ◌==◌, if◌then◌else◌, Bool, true, Some, None, length, get_or, inl, inr, ◌⊎◌, refl, sym, ap, ◌∙◌, subst, arith, eq-eqb, ne_eqb}
 use Rattle.std.proofs.lemmas.Bool.{cases_eq}
 use Rattle.std.proofs.lemmas.Option.{same_Some}
 use Rattle.ell_word.specs.Node.{turn_size}
@@ -24,13 +24,6 @@ use Rattle.ell_cards.proofs.lemmas.whole.Freeing.{reads_now}
 use Rattle.ell_cards.proofs.lemmas.whole.Going.{GoesTo, turned_to, goes_on_whole}
 use Rattle.ell_cards.proofs.lemmas.whole.Slots.{slot_taken, taken_is_dead, taken_was_dead_for, lie_taken}
 use Rattle.ell_cards.proofs.lemmas.whole.Trees.{tree_at}
-
--- what the pass knows of periods, by whether the word was as it was
-pub word_was : (b : Bool) (p taken old : Period) → p ≡ (if b then taken else old) → b ≡ true → p ≡ taken
-word_was b p taken old is same = is ∙ ap (λ x. if x then taken else old) same
-
-pub word_changed : (b : Bool) (p taken old : Period) → p ≡ (if b then taken else old) → b ≡ false → p ≡ old
-word_changed b p taken old is other = is ∙ ap (λ x. if x then taken else old) other
 
 -- the periods of a table where a pass takes the slot of its card in hand
 module _ (plan : TablePlan) (s : Slots) (tree : TableState) (t : WholeState) (id : ℕ) (k : Known) (here : get_elem? t.views id ≡ some k) (same : trees_of t.views ≡ tree.views)

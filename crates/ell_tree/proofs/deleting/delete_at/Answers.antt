@@ -1,11 +1,11 @@
-use Rattle.std.proofs.Common.{◌+◌, ◌≡◌, ◌≢◌, Some, refl, ap, ◌∙◌, rules, arith}
+use Rattle.std.proofs.Common.{◌+◌, ◌≡◌, ◌≢◌, Some, length, refl, ap, ◌∙◌, rules, arith}
 use Rattle.ell_ops.specs.declared.op.Op.TheVariants.{Delete}
 use Rattle.ell_ops.specs.declared.reply.Reply.TheVariants.{Yes}
 use Rattle.ell_word.specs.declared.update.State.TheVariants.{Clean}
 use Rattle.ell_core.specs.declared.view.Search.{Search}
 use Rattle.ell_runs.specs.Depths.{deepest}
 use Rattle.ell_cards.specs.Models.{PassModel}
-use Rattle.ell_runs.specs.Plans.{flat_from, new_node}
+use Rattle.ell_runs.specs.Plans.{flat_from}
 use Rattle.ell_runs.specs.Views.{Does}
 use Rattle.ell_cards.proofs.lemmas.shown.InRuns.{deletes_take_what_they_tell}
 use Rattle.ell_tree.specs.CardsTaken.{cards_taken, TakesNoCard}
@@ -16,21 +16,25 @@ use Rattle.ell_tree.specs.Searches.{seen_any, below}
 use Rattle.ell_runs.specs.Changes.{answered_so}
 use Rattle.ell_runs.specs.Guards.{TakesBy}
 use Rattle.ell_tree.proofs.lemmas.Sights.{ends_from}
-use Rattle.ell_tree.proofs.lemmas.Keeping.{inner_kept, share_trans}
+use Rattle.ell_tree.proofs.lemmas.Keeping.{share_trans}
+use Rattle.ell_tree.proofs.lemmas.Claiming.{asks_inner, lost_given, lost_meets, may_ask, taken_given, takes_no, takes_one}
 use Rattle.ell_tree.proofs.lemmas.LettingGo.{lets_none_go}
-use Rattle.ell_tree.proofs.lemmas.Owning.{keeps_answers, keeps_in_answers, had_value, would_delete}
+use Rattle.ell_tree.proofs.lemmas.Owning.{keeps_answers, asks_answers, had_value, would_delete}
 use Rattle.ell_tree.proofs.lemmas.Meeting.{meets_trans, meets_more, above_way, parent_way, nowhere_way, way_over, way_free, no_way}
-use Rattle.ell_tree.proofs.lemmas.Halting.{keeps_meets, keeps_in_meets, said_meets, flag_lost}
+use Rattle.ell_tree.proofs.lemmas.Halting.{keeps_meets, said_meets, flag_lost}
 use Rattle.ell_tree.proofs.lemmas.Filling.{delete_card, delete_wants, told_grandparent, told_leaf, told_parent, told_was}
 use Rattle.ell_tree.proofs.lemmas.Milestones.{sees_end, gives_out}
 use Rattle.ell_tree.proofs.lemmas.Retiring.{keeps_but_met_noted}
 use Rattle.ell_tree.proofs.lemmas.Searches.{unknown_above, named_above, passed_above, searched_in_try}
 use Rattle.ell_tree.proofs.deleting.delete_at.Goals as goal
 
-pub take_card-requires-clause-wants : goal.take_card-requires-clause-wants
-take_card-requires-clause-wants g c =
+pub take_card-requires-clause-stands : goal.take_card-requires-clause-stands
+take_card-requires-clause-stands g c =
     let calm : c.in-Some.above.update.state ≡ Clean = search rules in
-    delete_wants (flat_from c.args.steps.table.now.plan) 0 c.args.pass.now.view c.args.key c.args.place c.in-Some.above c.requires.searched.ends.at (c.requires.searched.ends.outer c.requires.key) c.requires.key c.in-Some.is calm
+    let free : c.args.place.parent.update.state ≡ Clean = search rules in
+    let ends = c.requires.searched.ends in
+    may_ask c.args.steps.table.now.plan c.args.pass.now.view (Delete c.args.key) c.args.place 0 c.requires.searched.busy ends.at free
+    (delete_wants (flat_from c.args.steps.table.now.plan) 0 c.args.pass.now.view c.args.key c.args.place c.in-Some.above ends.at (ends.outer c.requires.key) c.requires.key c.in-Some.is calm)
 
 pub flag_delete-requires-clause-tag : goal.flag_delete-requires-clause-tag
 flag_delete-requires-clause-tag g c =
@@ -40,31 +44,31 @@ pub flag_delete-requires-clause-card : goal.flag_delete-requires-clause-card
 flag_delete-requires-clause-card g c =
     let a = c.args.pass.now in (
       c.args.key,
-      delete_card a.view c.take_card.new.pass.view c.in-Card.card (new_node c.args.steps.table.now.plan 0) c.args.key c.args.place c.in-Some.above c.in-Some.is c.requires.searched.busy
-          c.requires.searched.ends.at c.in-Card.ensures.claims.0,
+      delete_card _ _ _ _ _ c.take_card.ensures.asks _ c.in-Card.ensures.claimed c.args.key c.args.place c.in-Some.above c.in-Some.is c.requires.searched.busy
+          c.requires.searched.ends.at,
     )
 
 pub finish_own-requires-clause-grandparent : goal.finish_own-requires-clause-grandparent
 finish_own-requires-clause-grandparent g c =
     let a = c.args.pass.now in
-    let card = delete_card a.view c.take_card.new.pass.view c.in-Card.card (new_node c.args.steps.table.now.plan 0) c.args.key c.args.place c.in-Some.above c.in-Some.is c.requires.searched.busy
-    c.requires.searched.ends.at c.in-Card.ensures.claims.0 in
+    let card = delete_card _ _ _ _ _ c.take_card.ensures.asks _ c.in-Card.ensures.claimed c.args.key c.args.place c.in-Some.above c.in-Some.is c.requires.searched.busy
+    c.requires.searched.ends.at in
     told_grandparent c.take_card.new.pass.view c.flag_delete.new.pass.view c.in-Card.card c.args.place c.flag_delete.ensures.keeps.view c.args.key c.in-Some.above card
 
 pub finish_own-requires-clause-parent : goal.finish_own-requires-clause-parent
 finish_own-requires-clause-parent g c =
     let a = c.args.pass.now in
     let cards = c.args.steps.table.now.plan.last_card in
-    let card = delete_card a.view c.take_card.new.pass.view c.in-Card.card (new_node c.args.steps.table.now.plan 0) c.args.key c.args.place c.in-Some.above c.in-Some.is c.requires.searched.busy
-    c.requires.searched.ends.at c.in-Card.ensures.claims.0 in
+    let card = delete_card _ _ _ _ _ c.take_card.ensures.asks _ c.in-Card.ensures.claimed c.args.key c.args.place c.in-Some.above c.in-Some.is c.requires.searched.busy
+    c.requires.searched.ends.at in
     told_parent c.take_card.new.pass.view c.flag_delete.new.pass.view c.in-Card.card c.args.place c.flag_delete.ensures.keeps.view c.args.key c.in-Some.above card cards
-    (inner_kept cards a.view c.take_card.new.pass.view c.args.place.parent.node c.take_card.ensures.keeps.view c.requires.searched.ends.passed.seen.node)
+    (asks_inner _ _ _ _ _ c.take_card.ensures.asks cards c.args.place.parent.node c.requires.searched.ends.passed.seen.node)
 
 pub finish_own-requires-clause-read : goal.finish_own-requires-clause-read
 finish_own-requires-clause-read g c =
     let a = c.args.pass.now in
-    let card = delete_card a.view c.take_card.new.pass.view c.in-Card.card (new_node c.args.steps.table.now.plan 0) c.args.key c.args.place c.in-Some.above c.in-Some.is c.requires.searched.busy
-    c.requires.searched.ends.at c.in-Card.ensures.claims.0 in
+    let card = delete_card _ _ _ _ _ c.take_card.ensures.asks _ c.in-Card.ensures.claimed c.args.key c.args.place c.in-Some.above c.in-Some.is c.requires.searched.busy
+    c.requires.searched.ends.at in
     told_was c.take_card.new.pass.view c.flag_delete.new.pass.view c.in-Card.card c.args.place c.flag_delete.ensures.keeps.view c.args.key c.in-Some.above card
 
 -- what its card told of the parent, an internal node, and of the leaf is known once it is over
@@ -80,10 +84,10 @@ retire_deleted-requires-clause-cut g c =
     let keeps = c.flag_delete.ensures.keeps.view in
     let above = c.in-Some.above in
     let cards = c.args.steps.table.now.plan.last_card in
-    let card = delete_card a.view t.view hand (new_node c.args.steps.table.now.plan 0) c.args.key place above c.in-Some.is c.requires.searched.busy
-    c.requires.searched.ends.at c.in-Card.ensures.claims.0 in
+    let card = delete_card _ _ _ _ _ c.take_card.ensures.asks _ c.in-Card.ensures.claimed c.args.key place above c.in-Some.is c.requires.searched.busy
+    c.requires.searched.ends.at in
     let parent = told_parent t.view f.view hand place keeps c.args.key above card cards
-    (inner_kept cards a.view t.view place.parent.node c.take_card.ensures.keeps.view c.requires.searched.ends.passed.seen.node) in record {
+    (asks_inner _ _ _ _ _ c.take_card.ensures.asks cards place.parent.node c.requires.searched.ends.passed.seen.node) in record {
       hand = record { holds = kept.card ∙ flags.card; flagged = kept.flagged ∙ flags.flagged };
       over = search rules;
       above = kept.keeps.view.told _ parent.told;
@@ -102,8 +106,8 @@ answer-requires-clause-may g c =
     let place = c.args.place in
     let card = c.in-Card.card in
     let leaf = told_leaf t.view f.view card place c.flag_delete.ensures.keeps.view c.args.key c.in-Some.above
-    (delete_card a.view t.view card (new_node c.args.steps.table.now.plan 0) c.args.key place c.in-Some.above c.in-Some.is c.requires.searched.busy ends.at c.in-Card.ensures.claims.0) in
-    let value = c.flag_delete.ensures.keeps.view.told _ (c.take_card.ensures.keeps.view.told _ (ends.at.leaf (ends.outer c.requires.key))) in
+    (delete_card _ _ _ _ _ c.take_card.ensures.asks _ c.in-Card.ensures.claimed c.args.key place c.in-Some.above c.in-Some.is c.requires.searched.busy ends.at) in
+    let value = c.flag_delete.ensures.keeps.view.told _ (c.take_card.ensures.asks.view.told _ (ends.at.leaf (ends.outer c.requires.key))) in
     let on = c.finish_own.ensures.keeps_but_met.keeps.view.told in
     let takes : TakesBy c.finish_own.new.pass.view (Delete c.args.key) Yes place.value = record {
       key = c.args.key;
@@ -199,25 +203,25 @@ returns-in-NoneLeft-clause-ends g c =
     let above = c.in-Some.above in
     let update = place.parent.update in
     let new = c.take_card.new.pass in
-    let claims = c.in-NoneLeft.ensures.claims in
+    let claims = c.in-NoneLeft.ensures.claimed in
     let calm : above.update.state ≡ Clean = search rules in
     let free : update.state ≡ Clean = search rules in
     let way = way_free new.view update.state update.card (way_of (Delete c.args.key) new.view)
     (parent_way c.args.key place.node place.parent above new.view
-    (claims.0.search ∙ (ends.at.search ∙ ap (λ o. below place.node place.parent (seen_any o)) c.in-Some.is)) calm) free in (
+    (c.take_card.ensures.asks.view.search ∙ (ends.at.search ∙ ap (λ o. below place.node place.parent (seen_any o)) c.in-Some.is)) calm) free in (
       record {
         own = search rules;
         sight = search rules;
         ledger = search rules;
-        share = c.take_card.ensures.keeps.view.share;
-        meets = keeps_in_meets c.args.steps.table.now.plan a new _ c.in-NoneLeft.ensures.keeps claims.2;
-        in_try = c.take_card.ensures.keeps.view.earlier a.view.hindrances (searched_in_try c.args.steps.table.now.plan (Delete c.args.key) place a.view c.requires.searched);
+        share = c.take_card.ensures.asks.view.share;
+        meets = said_meets a.view new.view claims.1 c.take_card.ensures.asks.view.knows;
+        in_try = c.take_card.ensures.asks.view.earlier a.view.hindrances (searched_in_try c.args.steps.table.now.plan (Delete c.args.key) place a.view c.requires.searched);
         way = way;
         would = would_delete c.args.steps.table.now.plan a a refl place c.args.key ends c.requires.key;
         stops = search rules;
       },
-      claims.1,
-      claims.3,
+      claims.2,
+      claims.0.go,
     )
 
 -- another pass took the card
@@ -230,26 +234,26 @@ returns-in-Lost-clause-ends g c =
     let above = c.in-Some.above in
     let update = place.parent.update in
     let new = c.take_card.new.pass in
-    let claims = c.in-Lost.ensures.claims in
+    let claims = c.in-Lost.ensures.claimed in
     let calm : above.update.state ≡ Clean = search rules in
     let free : update.state ≡ Clean = search rules in
     let way = way_free new.view update.state update.card (way_of (Delete c.args.key) new.view)
     (parent_way c.args.key place.node place.parent above new.view
-    (claims.0.search ∙ (ends.at.search ∙ ap (λ o. below place.node place.parent (seen_any o)) c.in-Some.is)) calm) free in (
+    (c.take_card.ensures.asks.view.search ∙ (ends.at.search ∙ ap (λ o. below place.node place.parent (seen_any o)) c.in-Some.is)) calm) free in (
       record {
         own = search rules;
         sight = search rules;
         ledger = search rules;
-        share = c.take_card.ensures.keeps.view.share;
-        meets = claims.1;
-        in_try = c.take_card.ensures.keeps.view.earlier a.view.hindrances (searched_in_try c.args.steps.table.now.plan (Delete c.args.key) place a.view c.requires.searched);
+        share = c.take_card.ensures.asks.view.share;
+        meets = lost_meets _ _ _ _ _ c.take_card.ensures.asks claims.1;
+        in_try = c.take_card.ensures.asks.view.earlier a.view.hindrances (searched_in_try c.args.steps.table.now.plan (Delete c.args.key) place a.view c.requires.searched);
         way = way;
         would = would_delete c.args.steps.table.now.plan a a refl place c.args.key ends c.requires.key;
         stops = search rules;
       },
-      omega (arith, claims.2),
-      gives_out cards a.view a.view new.view new.view (omega arith) claims.3 (omega arith),
-      claims.4,
+      omega (arith, ap length claims.1.hindrances),
+      gives_out cards a.view a.view new.view new.view (omega arith) (lost_given _ _ _ claims.1) (omega arith),
+      claims.0.go,
     )
 
 -- the flag was lost
@@ -263,19 +267,19 @@ returns-in-Err-clause-ends g c =
     let help = c.help-in-Err in
     let new = help.new.pass in
     let flags = c.in-Err.ensures.flags in
-    let taken = keeps_in_meets c.args.steps.table.now.plan a t _ c.take_card.ensures.keeps c.in-Card.ensures.claims.2 in
+    let taken = said_meets a.view t.view c.in-Card.ensures.claimed.hindrances c.take_card.ensures.asks.view.knows in
     let lost = flag_lost cards c.in-Some.above.node c.in-Err.found t.view f.view new.view flags c.flag_delete.ensures.keeps.view.knows
     help.ensures.meets help.ensures.ended in
     let way = no_way new.view (way_of (Delete c.args.key) new.view)
     (nowhere_way (Delete c.args.key) new.view (ap (λ (r : Search). r.node) help.ensures.keeps_but_met.search ∙ flags.nowhere)) in
     let in_try = help.ensures.keeps_but_met.keeps.view.earlier a.view.hindrances (c.flag_delete.ensures.keeps.view.earlier a.view.hindrances
-    (c.take_card.ensures.keeps.view.earlier a.view.hindrances (searched_in_try c.args.steps.table.now.plan (Delete c.args.key) c.args.place a.view c.requires.searched))) in
+    (c.take_card.ensures.asks.view.earlier a.view.hindrances (searched_in_try c.args.steps.table.now.plan (Delete c.args.key) c.args.place a.view c.requires.searched))) in
     let more = meets_more a.view t.view taken in (
       record {
         own = search rules;
         sight = search rules;
         ledger = search rules;
-        share = share_trans a.view f.view new.view (share_trans a.view t.view f.view c.take_card.ensures.keeps.view.share c.flag_delete.ensures.keeps.view.share)
+        share = share_trans a.view f.view new.view (share_trans a.view t.view f.view c.take_card.ensures.asks.view.share c.flag_delete.ensures.keeps.view.share)
             help.ensures.keeps_but_met.keeps.view.share;
         meets = meets_trans a.view t.view new.view taken lost.0;
         in_try = in_try;
@@ -284,7 +288,7 @@ returns-in-Err-clause-ends g c =
         stops = search rules;
       },
       omega (arith, lost.1, more),
-      gives_out cards a.view a.view t.view new.view (omega arith) c.in-Card.ensures.claims.3
+      gives_out cards a.view a.view t.view new.view (omega arith) (taken_given _ _ _ _ _ c.in-Card.ensures.claimed)
           (omega (arith, c.flag_delete.ensures.keeps.view.least, help.ensures.keeps_but_met.keeps.view.least)),
       lets_none_go c.args.steps.table.now.plan new (help.ensures.keeps_but_met.card ∙ flags.no_card),
     )
@@ -299,12 +303,12 @@ returns-clause-ends g c =
     let met : KeepsAllButMet f m (help_steps (deepest c.args.steps.table.now.plan) + 2) = keeps_but_met_noted f c.finish_own.new.pass m (help_steps (deepest c.args.steps.table.now.plan) + 2) c.finish_own.ensures.keeps_but_met c.retire_deleted.ensures.same in
     let said = c.answer in
     let op = Delete c.args.key in
-    let taken = keeps_in_meets c.args.steps.table.now.plan a t _ c.take_card.ensures.keeps c.in-Card.ensures.claims.2 in
+    let taken = said_meets a.view t.view c.in-Card.ensures.claimed.hindrances c.take_card.ensures.asks.view.knows in
     let flagged = meets_trans a.view t.view f.view taken (keeps_meets t f _ c.flag_delete.ensures.keeps c.in_default-flag_delete.ensures.flags.hindrances) in
     let meets : Meets f.view m.view = rw c.retire_deleted.ensures.same c.finish_own.ensures.meets in
     let finished = meets_trans a.view f.view m.view flagged meets in
     let answers = said.ensures.answers op (search rules) in (
-      keeps_in_answers c.args.steps.table.now op _ a t said.new.pass _ c.take_card.ensures.keeps
+      asks_answers c.args.steps.table.now op _ a t said.new.pass _ _ c.take_card.ensures.asks
           (keeps_answers c.args.steps.table.now op _ t f said.new.pass _ c.flag_delete.ensures.keeps
           (keeps_answers c.args.steps.table.now op _ f m said.new.pass _ met.keeps answers)),
       meets_trans a.view m.view said.new.pass.view finished (said_meets m.view said.new.pass.view said.ensures.hindrances said.ensures.facts),
@@ -333,7 +337,7 @@ returns-clause-took g c =
         mine = had_value c.args.steps.table.now.plan a a refl place c.args.key ends c.requires.key;
         took = deletes_take_what_they_tell c.args.steps.table.now.plan new.view c.args.key (Some card) place.value said_so;
       },
-      ends_from op Yes (Some place.value) a.sight m.sight new.sight (met.keeps.sight ∙ (c.flag_delete.ensures.keeps.sight ∙ c.take_card.ensures.keeps.sight)) (said.ensures.ended op busy),
+      ends_from op Yes (Some place.value) a.sight m.sight new.sight (met.keeps.sight ∙ (c.flag_delete.ensures.keeps.sight ∙ c.take_card.ensures.asks.sight)) (said.ensures.ended op busy),
     )
 
 -- the cards of each
@@ -349,12 +353,12 @@ returns-then-ne-2-clause-taken g c = λ plain.
 
 pub returns-in-Lost-clause-taken : goal.returns-in-Lost-clause-taken
 returns-in-Lost-clause-taken g c = λ plain.
-    let taken = c.in-Lost.ensures.taken plain in
+    let taken = takes_no _ _ _ c.in-Lost.ensures.claimed.0 plain in
     record { least = omega (arith, taken); most = omega (arith, taken) }
 
 pub returns-in-Err-clause-taken : goal.returns-in-Err-clause-taken
 returns-in-Err-clause-taken g c = λ plain.
-    let one = c.in-Card.ensures.taken plain in
+    let one = takes_one _ _ _ _ _ c.in-Card.ensures.claimed plain in
     let taken : cards_taken c.help-in-Err.new.pass ≡ cards_taken c.args.pass.now + 1 =
     omega (arith, c.help-in-Err.ensures.keeps_but_met.taken, c.flag_delete.ensures.taken, one) in
     record { least = omega (arith, taken); most = omega (arith, taken) }
@@ -363,5 +367,5 @@ pub returns-clause-taken : goal.returns-clause-taken
 returns-clause-taken g c = λ plain.
     let said : TakesNoCard c.finish_own.new.pass c.answer.new.pass =
     c.answer.ensures.taken ∙ ap (λ (p : PassModel). cards_taken p) c.retire_deleted.ensures.same in
-    let one = c.in-Card.ensures.taken plain in
+    let one = takes_one _ _ _ _ _ c.in-Card.ensures.claimed plain in
     omega (arith, said, c.finish_own.ensures.keeps_but_met.taken, c.flag_delete.ensures.taken, one)

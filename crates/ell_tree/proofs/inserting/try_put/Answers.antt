@@ -14,10 +14,11 @@ use Rattle.ell_tree.specs.Keeping.{KeepsAll}
 use Rattle.ell_tree.proofs.lemmas.Searches.{may_answer}
 use Rattle.ell_tree.proofs.lemmas.Filling.{put_card, is_insert}
 use Rattle.ell_tree.proofs.lemmas.Keeping.{share_trans}
+use Rattle.ell_tree.proofs.lemmas.Claiming.{lost_given, lost_meets, may_ask, taken_given, takes_no, takes_one}
 use Rattle.ell_tree.proofs.lemmas.LettingGo.{lets_none_go}
-use Rattle.ell_tree.proofs.lemmas.Owning.{keeps_answers, keeps_in_answers, would_put}
+use Rattle.ell_tree.proofs.lemmas.Owning.{keeps_answers, asks_answers, would_put}
 use Rattle.ell_tree.proofs.lemmas.Meeting.{meets_trans, meets_more, put_way, nowhere_way, way_over, way_free, no_way}
-use Rattle.ell_tree.proofs.lemmas.Halting.{keeps_meets, keeps_in_meets, seek_meets, walk_meets, said_meets, flag_lost}
+use Rattle.ell_tree.proofs.lemmas.Halting.{keeps_meets, seek_meets, walk_meets, said_meets, flag_lost}
 use Rattle.ell_tree.proofs.lemmas.Hindrances.{root_in_try}
 use Rattle.ell_tree.proofs.lemmas.Putting.{put_wants, put_refused, put_done, refused_outer}
 use Rattle.ell_tree.proofs.lemmas.Retiring.{has_put, keeps_all_noted}
@@ -25,10 +26,12 @@ use Rattle.ell_tree.proofs.lemmas.Milestones.{sees_end, gives_out}
 use Rattle.ell_runs.specs.Seeing.{SeesEnd}
 use Rattle.ell_tree.proofs.inserting.try_put.Goals as goal
 
-pub take_card-requires-clause-wants : goal.take_card-requires-clause-wants
-take_card-requires-clause-wants g c =
+pub take_card-requires-clause-stands : goal.take_card-requires-clause-stands
+take_card-requires-clause-stands g c =
     let s = c.search-place in
-    put_wants s.result c.args.steps.table.now.plan c.args.op c.args.what c.requires.puts c.node_key-node_key.result s.new.pass.view s.ensures.ends (search rules) c.node_key-node_key.ensures
+    let calm : s.result.parent.update.state ≡ Clean = search rules in
+    may_ask c.args.steps.table.now.plan s.new.pass.view c.args.op s.result c.node_key-node_key.result (s.ensures.keeps_but_search.keeps.view.operation ∙ c.requires.root.busy) s.ensures.ends.at calm
+    (put_wants s.result c.args.steps.table.now.plan c.args.op c.args.what c.requires.puts c.node_key-node_key.result s.new.pass.view s.ensures.ends (search rules) c.node_key-node_key.ensures)
 
 pub answer-requires-clause-may : goal.answer-requires-clause-may
 answer-requires-clause-may g c =
@@ -53,8 +56,8 @@ flag_insert-requires-clause-card g c =
     let s = c.search-place in record {
       op = c.args.op;
       puts = c.requires.puts;
-      card = put_card s.new.pass.view c.take_card.new.pass.view c.in-Card.card (new_node c.args.steps.table.now.plan c.node_key-node_key.result) c.args.op c.args.what s.result c.requires.puts
-          (s.ensures.keeps_but_search.keeps.view.operation ∙ c.requires.root.busy) s.ensures.ends.at c.in-Card.ensures.claims.0;
+      card = put_card _ _ _ _ _ c.take_card.ensures.asks _ c.in-Card.ensures.claimed c.args.op c.args.what s.result c.requires.puts
+          (s.ensures.keeps_but_search.keeps.view.operation ∙ c.requires.root.busy) s.ensures.ends.at;
     }
 
 pub finish_insert-requires-clause-insert : goal.finish_insert-requires-clause-insert
@@ -62,13 +65,13 @@ finish_insert-requires-clause-insert g c =
     let s = c.search-place in
     let place = s.result in
     let ends = s.ensures.ends in
-    let card = put_card s.new.pass.view c.take_card.new.pass.view c.in-Card.card (new_node c.args.steps.table.now.plan c.node_key-node_key.result) c.args.op c.args.what place c.requires.puts
-    (s.ensures.keeps_but_search.keeps.view.operation ∙ c.requires.root.busy) ends.at c.in-Card.ensures.claims.0 in
+    let card = put_card _ _ _ _ _ c.take_card.ensures.asks _ c.in-Card.ensures.claimed c.args.op c.args.what place c.requires.puts
+    (s.ensures.keeps_but_search.keeps.view.operation ∙ c.requires.root.busy) ends.at in
     rw c.max-right_key.ensures
     rw c.min-left_key.ensures
     rw c.node_with-below.ensures
     (is_insert c.take_card.new.pass.view c.flag_insert.new.pass.view c.in-Card.card place c.flag_insert.ensures.keeps.view (new_node c.args.steps.table.now.plan c.node_key-node_key.result) c.args.op c.args.what card
-    c.in-Ok.ensures.flags.knows (c.take_card.ensures.keeps.view.told (Met place.parent.node) ends.passed.seen.node.met))
+    c.in-Ok.ensures.flags.knows (c.take_card.ensures.asks.view.told (Met place.parent.node) ends.passed.seen.node.met))
 
 -- what its card told is known once it is over
 pub retire_put-requires-clause-put : goal.retire_put-requires-clause-put
@@ -82,12 +85,11 @@ retire_put-requires-clause-put g c =
     let kept = c.finish_insert.ensures.keeps_all in
     let busy = s.ensures.keeps_but_search.keeps.view.operation ∙ c.requires.root.busy in
     let key = put_key c.args.op c.args.what c.requires.puts in
-    let card = put_card s.new.pass.view t.view c.in-Card.card (new_node c.args.steps.table.now.plan c.node_key-node_key.result) c.args.op c.args.what place c.requires.puts busy ends.at
-    c.in-Card.ensures.claims.0 in
+    let card = put_card _ _ _ _ _ c.take_card.ensures.asks _ c.in-Card.ensures.claimed c.args.op c.args.what place c.requires.puts busy ends.at in
     let insert = is_insert t.view f.view c.in-Card.card place c.flag_insert.ensures.keeps.view (new_node c.args.steps.table.now.plan c.node_key-node_key.result) c.args.op c.args.what card
-    c.in-Ok.ensures.flags.knows (c.take_card.ensures.keeps.view.told (Met place.parent.node) ends.passed.seen.node.met) in
+    c.in-Ok.ensures.flags.knows (c.take_card.ensures.asks.view.told (Met place.parent.node) ends.passed.seen.node.met) in
     has_put f.view m.view c.in-Card.card c.args.op c.args.what place c.requires.puts kept.keeps.view
-    (c.flag_insert.ensures.keeps.view.operation ∙ (c.take_card.ensures.keeps.view.operation ∙ busy))
+    (c.flag_insert.ensures.keeps.view.operation ∙ (c.take_card.ensures.asks.view.operation ∙ busy))
     (record { holds = kept.card ∙ c.in-Ok.ensures.flags.card; flagged = kept.flagged ∙ c.in-Ok.ensures.flags.flagged }) c.finish_insert.ensures.over insert (λ same. ends.outer (same ∙ sym key))
 
 -- once it is over, it is answered
@@ -161,25 +163,25 @@ returns-in-NoneLeft-clause-ends g c =
     let place = s.result in
     let update = place.parent.update in
     let new = c.take_card.new.pass in
-    let claims = c.in-NoneLeft.ensures.claims in
+    let claims = c.in-NoneLeft.ensures.claimed in
     let calm : update.state ≡ Clean = search rules in
     let meets = meets_trans a.view s.new.pass.view new.view (seek_meets a s.new.pass _ s.ensures.keeps_but_search)
-    (keeps_in_meets c.args.steps.table.now.plan s.new.pass new _ c.in-NoneLeft.ensures.keeps claims.2) in
+    (said_meets s.new.pass.view new.view claims.1 c.take_card.ensures.asks.view.knows) in
     let way = way_free new.view update.state update.card (way_of c.args.op new.view)
-    (put_way c.args.op c.args.what c.requires.puts place.node place.parent place.grandparent new.view (claims.0.search ∙ s.ensures.ends.at.search)) calm in (
+    (put_way c.args.op c.args.what c.requires.puts place.node place.parent place.grandparent new.view (c.take_card.ensures.asks.view.search ∙ s.ensures.ends.at.search)) calm in (
       record {
         own = search rules;
         sight = search rules;
         ledger = search rules;
-        share = share_trans a.view s.new.pass.view new.view s.ensures.keeps_but_search.keeps.view.share c.take_card.ensures.keeps.view.share;
+        share = share_trans a.view s.new.pass.view new.view s.ensures.keeps_but_search.keeps.view.share c.take_card.ensures.asks.view.share;
         meets = meets;
-        in_try = c.take_card.ensures.keeps.view.earlier a.view.hindrances (s.ensures.keeps_but_search.keeps.view.earlier a.view.hindrances (root_in_try c.args.op a.view c.requires.root));
+        in_try = c.take_card.ensures.asks.view.earlier a.view.hindrances (s.ensures.keeps_but_search.keeps.view.earlier a.view.hindrances (root_in_try c.args.op a.view c.requires.root));
         way = way;
         would = would_put c.args.steps.table.now.plan a s.new.pass s.ensures.keeps_but_search.keeps.view.ledger s.result c.args.op c.args.what c.requires.puts s.ensures.ends (search rules);
         stops = search rules;
       },
-      claims.1,
-      claims.3,
+      claims.2,
+      claims.0.go,
     )
 
 -- another pass took the card
@@ -190,26 +192,26 @@ returns-in-Lost-clause-ends g c =
     let place = s.result in
     let update = place.parent.update in
     let new = c.take_card.new.pass in
-    let claims = c.in-Lost.ensures.claims in
+    let claims = c.in-Lost.ensures.claimed in
     let calm : update.state ≡ Clean = search rules in
-    let meets = meets_trans a.view s.new.pass.view new.view (seek_meets a s.new.pass _ s.ensures.keeps_but_search) claims.1 in
+    let meets = meets_trans a.view s.new.pass.view new.view (seek_meets a s.new.pass _ s.ensures.keeps_but_search) (lost_meets _ _ _ _ _ c.take_card.ensures.asks claims.1) in
     let way = way_free new.view update.state update.card (way_of c.args.op new.view)
-    (put_way c.args.op c.args.what c.requires.puts place.node place.parent place.grandparent new.view (claims.0.search ∙ s.ensures.ends.at.search)) calm in
+    (put_way c.args.op c.args.what c.requires.puts place.node place.parent place.grandparent new.view (c.take_card.ensures.asks.view.search ∙ s.ensures.ends.at.search)) calm in
     let quiet = ap length s.ensures.keeps_but_search.hindrances in (
       record {
         own = search rules;
         sight = search rules;
         ledger = search rules;
-        share = share_trans a.view s.new.pass.view new.view s.ensures.keeps_but_search.keeps.view.share c.take_card.ensures.keeps.view.share;
+        share = share_trans a.view s.new.pass.view new.view s.ensures.keeps_but_search.keeps.view.share c.take_card.ensures.asks.view.share;
         meets = meets;
-        in_try = c.take_card.ensures.keeps.view.earlier a.view.hindrances (s.ensures.keeps_but_search.keeps.view.earlier a.view.hindrances (root_in_try c.args.op a.view c.requires.root));
+        in_try = c.take_card.ensures.asks.view.earlier a.view.hindrances (s.ensures.keeps_but_search.keeps.view.earlier a.view.hindrances (root_in_try c.args.op a.view c.requires.root));
         way = way;
         would = would_put c.args.steps.table.now.plan a s.new.pass s.ensures.keeps_but_search.keeps.view.ledger s.result c.args.op c.args.what c.requires.puts s.ensures.ends (search rules);
         stops = search rules;
       },
-      omega (arith, quiet, claims.2),
-      gives_out c.args.steps.table.now.plan.last_card a.view s.new.pass.view new.view new.view s.ensures.keeps_but_search.keeps.view.least claims.3 (omega arith),
-      claims.4,
+      omega (arith, quiet, ap length claims.1.hindrances),
+      gives_out c.args.steps.table.now.plan.last_card a.view s.new.pass.view new.view new.view s.ensures.keeps_but_search.keeps.view.least (lost_given _ _ _ claims.1) (omega arith),
+      claims.0.go,
     )
 
 -- it was put
@@ -223,7 +225,7 @@ returns-in-Ok-clause-ends g c =
     let kept : KeepsAll f m 3 = keeps_all_noted f c.finish_insert.new.pass m 3 c.finish_insert.ensures.keeps_all c.retire_put.ensures.same in
     let said = c.answer-in-Ok in
     let taken = meets_trans a.view s.new.pass.view t.view (seek_meets a s.new.pass _ s.ensures.keeps_but_search)
-    (keeps_in_meets c.args.steps.table.now.plan s.new.pass t _ c.take_card.ensures.keeps c.in-Card.ensures.claims.2) in
+    (said_meets s.new.pass.view t.view c.in-Card.ensures.claimed.hindrances c.take_card.ensures.asks.view.knows) in
     let flagged = meets_trans a.view t.view f.view taken (keeps_meets t f _ c.flag_insert.ensures.keeps c.in-Ok.ensures.flags.hindrances) in
     let finished = meets_trans a.view f.view m.view flagged (walk_meets f m 3 kept) in
     let done = put_done c.args.op c.args.what c.requires.puts in
@@ -232,7 +234,7 @@ returns-in-Ok-clause-ends g c =
     let answers = said.ensures.answers c.args.op (search rules) in (
       subst (λ r. AnswersAs SeesEnd c.args.steps.table.now c.args.op r a said.new.pass) reply
           (keeps_answers c.args.steps.table.now c.args.op _ a s.new.pass said.new.pass _ s.ensures.keeps_but_search.keeps
-          (keeps_in_answers c.args.steps.table.now c.args.op _ s.new.pass t said.new.pass _ c.take_card.ensures.keeps
+          (asks_answers c.args.steps.table.now c.args.op _ s.new.pass t said.new.pass _ _ c.take_card.ensures.asks
           (keeps_answers c.args.steps.table.now c.args.op _ t f said.new.pass _ c.flag_insert.ensures.keeps
           (keeps_answers c.args.steps.table.now c.args.op _ f m said.new.pass _ kept.keeps answers)))),
       meets_trans a.view m.view said.new.pass.view finished (said_meets m.view said.new.pass.view said.ensures.hindrances said.ensures.facts),
@@ -250,7 +252,7 @@ returns-in-Err-clause-ends g c =
     let new = help.new.pass in
     let flags = c.in-Err.ensures.flags in
     let taken = meets_trans a.view s.new.pass.view t.view (seek_meets a s.new.pass _ s.ensures.keeps_but_search)
-    (keeps_in_meets c.args.steps.table.now.plan s.new.pass t _ c.take_card.ensures.keeps c.in-Card.ensures.claims.2) in
+    (said_meets s.new.pass.view t.view c.in-Card.ensures.claimed.hindrances c.take_card.ensures.asks.view.knows) in
     let lost = flag_lost c.args.steps.table.now.plan.last_card s.result.parent.node c.in-Err.found t.view f.view new.view flags c.flag_insert.ensures.keeps.view.knows
     help.ensures.meets help.ensures.ended in
     let meets = meets_trans a.view t.view new.view taken lost.0 in
@@ -258,14 +260,14 @@ returns-in-Err-clause-ends g c =
     (nowhere_way c.args.op new.view (ap (λ (r : Search). r.node) help.ensures.keeps_but_met.search ∙ flags.nowhere)) in
     let searched = s.ensures.keeps_but_search.keeps.view.earlier a.view.hindrances (root_in_try c.args.op a.view c.requires.root) in
     let in_try = help.ensures.keeps_but_met.keeps.view.earlier a.view.hindrances (c.flag_insert.ensures.keeps.view.earlier a.view.hindrances
-    (c.take_card.ensures.keeps.view.earlier a.view.hindrances searched)) in
+    (c.take_card.ensures.asks.view.earlier a.view.hindrances searched)) in
     let more = meets_more a.view t.view taken in (
       record {
         own = search rules;
         sight = search rules;
         ledger = search rules;
         share = share_trans a.view f.view new.view (share_trans a.view t.view f.view (share_trans a.view s.new.pass.view t.view s.ensures.keeps_but_search.keeps.view.share
-            c.take_card.ensures.keeps.view.share) c.flag_insert.ensures.keeps.view.share) help.ensures.keeps_but_met.keeps.view.share;
+            c.take_card.ensures.asks.view.share) c.flag_insert.ensures.keeps.view.share) help.ensures.keeps_but_met.keeps.view.share;
         meets = meets;
         in_try = in_try;
         way = way;
@@ -273,7 +275,7 @@ returns-in-Err-clause-ends g c =
         stops = search rules;
       },
       omega (arith, lost.1, more),
-      gives_out c.args.steps.table.now.plan.last_card a.view s.new.pass.view t.view new.view s.ensures.keeps_but_search.keeps.view.least c.in-Card.ensures.claims.3
+      gives_out c.args.steps.table.now.plan.last_card a.view s.new.pass.view t.view new.view s.ensures.keeps_but_search.keeps.view.least (taken_given _ _ _ _ _ c.in-Card.ensures.claimed)
           (omega (arith, c.flag_insert.ensures.keeps.view.least, help.ensures.keeps_but_met.keeps.view.least)),
       lets_none_go c.args.steps.table.now.plan new (help.ensures.keeps_but_met.card ∙ flags.no_card),
     )
@@ -286,14 +288,14 @@ returns-then-ne-clause-taken g c = λ plain.
 
 pub returns-in-Lost-clause-taken : goal.returns-in-Lost-clause-taken
 returns-in-Lost-clause-taken g c = λ plain.
-    let taken = c.in-Lost.ensures.taken plain ∙ c.search-place.ensures.keeps_but_search.taken in
+    let taken = takes_no _ _ _ c.in-Lost.ensures.claimed.0 plain ∙ c.search-place.ensures.keeps_but_search.taken in
     record { least = omega (arith, taken); most = omega (arith, taken) }
 
 pub returns-in-Ok-clause-taken : goal.returns-in-Ok-clause-taken
 returns-in-Ok-clause-taken g c = λ plain.
     let said : TakesNoCard c.finish_insert.new.pass c.answer-in-Ok.new.pass =
     c.answer-in-Ok.ensures.taken ∙ ap (λ (p : PassModel). cards_taken p) c.retire_put.ensures.same in
-    let one = c.in-Card.ensures.taken plain in
+    let one = takes_one _ _ _ _ _ c.in-Card.ensures.claimed plain in
     let taken : TakesOneCard c.args.pass.now c.answer-in-Ok.new.pass =
     omega (arith, said, c.finish_insert.ensures.keeps_all.taken, c.flag_insert.ensures.taken, one, c.search-place.ensures.keeps_but_search.taken) in
     let done = put_done c.args.op c.args.what c.requires.puts in
@@ -302,7 +304,7 @@ returns-in-Ok-clause-taken g c = λ plain.
 
 pub returns-in-Err-clause-taken : goal.returns-in-Err-clause-taken
 returns-in-Err-clause-taken g c = λ plain.
-    let one = c.in-Card.ensures.taken plain in
+    let one = takes_one _ _ _ _ _ c.in-Card.ensures.claimed plain in
     let taken : cards_taken c.help-in-Err.new.pass ≡ cards_taken c.args.pass.now + 1 =
     omega (arith, c.help-in-Err.ensures.keeps_but_met.taken, c.flag_insert.ensures.taken, one, c.search-place.ensures.keeps_but_search.taken) in
     record { least = omega (arith, taken); most = omega (arith, taken) }

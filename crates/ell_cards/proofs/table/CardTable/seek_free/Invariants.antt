@@ -1,6 +1,6 @@
 use Rattle.std.specs.Prelude.{◌≡◌, ◌≤◌, true}
 use Rattle.ell_cards.specs.SlotWords.{has_slot_in}
-use Rattle.ell_cards.proofs.table.CardTable.seek_takeable.Given as goal
+use Rattle.ell_cards.proofs.table.CardTable.seek_free.Given as goal
 
 -- so many slots were read in a row
 abbrev pub invariant-loop-read : goal.invariant-loop-read
