@@ -8,7 +8,7 @@ pub mod shown
 pub mod seats
 -- how a table begins, and how its passes part and come together
 pub mod lifetimes
--- tables with their periods
+-- tables with their epochs
 pub mod whole
--- what the memory of a table with places has of its tree
-pub mod ties
+-- what the memory of a table whose cards come back has of its tree
+pub mod refinement

@@ -6,8 +6,8 @@ use Rattle.ell_runs.specs.declared.call.Call.{Call}
 use Rattle.ell_cards.specs.SlotWords.{slot_of}
 use Rattle.ell_runs.specs.Calls.{OnCard, OnClaim, OnNode, OnRoot, Where, where_of}
 
--- The memory of a table has words for slots. A field of a card stands at that field of the card's slot; without places
--- each card has a slot of its own.
+-- The memory of a table has words for slots. A field of a card stands at that field of the card's slot; where cards do
+-- not come back each card has a slot of its own.
 abbrev pub slot_address : ℕ → Field → ℕ
 slot_address c f = address (slot_of c) f
 

@@ -1,6 +1,6 @@
 use Rattle.std.specs.Prelude.{◌≡◌, ◌↔◌, ℕ, zero, suc, ◌⊎◌, ◌==◌, ◌||◌, ◌&&◌, ◌-◌, ◌/◌, ◌%◌, if◌then◌else◌, not, Bool, true, false}
 use Rattle.ell_cards.specs.declared.card_nodes.CardNodes.{CardNodes}
-use Rattle.ell_cards.specs.SlotWords.{is_noted, turn_in}
+use Rattle.ell_cards.specs.SlotWords.{is_retired, generation_in}
 
 -- whether a node of the card is one of these, by its place among the three
 abbrev pub has_node : CardNodes → ℕ → Bool
@@ -26,23 +26,24 @@ nodes_of_both nodes others = record {
   right = nodes.right || others.right;
 }
 
--- whether the word of the card's slot notes all of these
-abbrev pub all_noted : CardNodes → ℕ → Bool
-all_noted nodes word =
-    (not nodes.internal || is_noted word 0) && (not nodes.left || is_noted word 1)
-    && (not nodes.right || is_noted word 2)
+-- whether all of these are retired by the word of the card's slot
+abbrev pub all_are_retired : CardNodes → ℕ → Bool
+all_are_retired nodes word =
+    (not nodes.internal || is_retired word 0) && (not nodes.left || is_retired word 1)
+    && (not nodes.right || is_retired word 2)
 
--- the word of a slot that notes its card's internal node too, or its left leaf, or its right one, if that is asked for
-abbrev pub noting_first : Bool → ℕ → ℕ
-noting_first too n = if too && n % 2 == 1 then n - 1 else n
+-- the word of a slot by which its card's internal node is retired too, or its left leaf, or its right one, if that is
+-- asked for
+abbrev pub retiring_first : Bool → ℕ → ℕ
+retiring_first too n = if too && n % 2 == 1 then n - 1 else n
 
-abbrev pub noting_second : Bool → ℕ → ℕ
-noting_second too n = if too && n / 2 % 2 == 1 then n - 2 else n
+abbrev pub retiring_second : Bool → ℕ → ℕ
+retiring_second too n = if too && n / 2 % 2 == 1 then n - 2 else n
 
-abbrev pub noting_third : Bool → ℕ → ℕ
-noting_third too n = if too && n / 4 % 2 == 1 then n - 4 else n
+abbrev pub retiring_third : Bool → ℕ → ℕ
+retiring_third too n = if too && n / 4 % 2 == 1 then n - 4 else n
 
--- another word of the slot notes them too, and is of the same turn
-pub record NotesToo (nodes : CardNodes) (word noted : ℕ) : Type 0 where
-  pub turn : turn_in noted ≡ turn_in word
-  pub each : (i : ℕ) → (is_noted noted i ≡ true) ↔ ((is_noted word i ≡ true) ⊎ (has_node nodes i ≡ true))
+-- by another word of the slot they are retired too, and it is of the same generation
+pub record RetiresToo (nodes : CardNodes) (word retired : ℕ) : Type 0 where
+  pub generation : generation_in retired ≡ generation_in word
+  pub each : (i : ℕ) → (is_retired retired i ≡ true) ↔ ((is_retired word i ≡ true) ⊎ (has_node nodes i ≡ true))

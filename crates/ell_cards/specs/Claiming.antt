@@ -71,7 +71,7 @@ pub record KnowsBeside (node : NewNode) (v w : View) : Type 0 where
   pub looks : w.looks ≡ v.looks
   pub glances : w.glances ≡ v.glances
   pub answered : w.answered ≡ v.answered
-  pub laid_down : w.laid_down ≡ v.laid_down
+  pub given_up : w.given_up ≡ v.given_up
   pub before : w.knew_before ≡ v.knew_before
   pub hindered : w.hindered ≡ v.hindered
   pub earlier : (hs : List Hindrance) → v.hindrances ≡ v.met ++ hs → w.hindrances ≡ w.met ++ hs
@@ -86,14 +86,14 @@ pub record KnowsBeside (node : NewNode) (v w : View) : Type 0 where
 pub record AsksForCard (plan : TablePlan) (node : NewNode) (n : ℕ) (old new : PassModel) : Type 0 where
   pub own : KeepsItsOwn old new
   pub sight : new.sight ≡ old.sight
-  pub inside : new.memory.inside ≡ old.memory.inside
+  pub inside : new.memory.is_pinned ≡ old.memory.is_pinned
   pub view : KnowsBeside node old.view new.view
   pub steps : new.steps ≤ old.steps + n
   pub made : plan.slots ≡ None → new.view.made ≤ old.view.made + n
 
 -- A card of the table is in hand, not flagged, which no claim of the pass had shown to be given out before. Nothing of
 -- it is stored; it is to say what the operation in hand wants of it, by words of 64 bits, with the tag that it is to
--- expect; and what of that never changes is told. Where cards lie in slots, its slot is taken, and nothing is noted
+-- expect; and what of that never changes is told. Where cards lie in slots, its slot is taken, and nothing is retired
 -- for it; else it is the one card that was taken.
 pub record TakesCard (plan : TablePlan) (node : NewNode) (c : ℕ) (old new : PassModel) : Type 0 where
   pub first : 0 < c
@@ -107,11 +107,11 @@ pub record TakesCard (plan : TablePlan) (node : NewNode) (c : ℕ) (old new : Pa
   pub told : (e : Told) → Has (told_of_claim c node old.view) e → IsTold new.view e
   pub hindrances : new.view.hindrances ≡ old.view.hindrances
   pub slot : HasSlotOf plan c new
-  pub unnoted : plan.slots ≢ None → new.memory.retired ≡ none_retired
+  pub unretired : plan.slots ≢ None → new.memory.retired ≡ none_retired
   pub won : Has new.view.won (exchange.Claim, c)
   pub one : plan.slots ≡ None → new.view.won ≡ (exchange.Claim, c) ∷ old.view.won
 
--- no card was taken, but some that were laid aside, of which the last may be in hand: that may be let go
+-- no card was taken, but some that were discarded, of which the last may be in hand: that may be let go
 pub record TakesNone (plan : TablePlan) (old new : PassModel) : Type 0 where
   pub unflagged : (c : ℕ) → new.view.worker.card ≡ Some c → new.view.worker.flagged ≡ false
   pub go : LetsGo plan new
@@ -137,16 +137,16 @@ ComesOf plan node old new claimed.NoneLeft =
     × (plan.slots ≡ None → new.view.next ≡ Some (plan.last_card + 1))
 ComesOf plan node old new claimed.Lost = TakesNone plan old new × LosesCard plan.last_card old.view new.view
 
--- a card in hand, if there is one, may be laid aside: it is not flagged, the pass knows that it is given out, and has
+-- a card in hand, if there is one, may be discarded: it is not flagged, the pass knows that it is given out, and has
 -- not taken its slot
-pub record HoldsAside (p : PassModel) : Type 0 where
+pub record HoldsDiscardable (p : PassModel) : Type 0 where
   pub unflagged : (c : ℕ) → p.view.worker.card ≡ Some c → p.view.worker.flagged ≡ false
   pub below : (c : ℕ) → p.view.worker.card ≡ Some c → c < p.view.next_at_least
-  pub aside : (c : ℕ) → p.view.worker.card ≡ Some c → p.memory.slot ≢ Some c
+  pub discarded : (c : ℕ) → p.view.worker.card ≡ Some c → p.memory.slot ≢ Some c
 
--- a card was claimed in vain, as its slot was in use: it may be laid aside
+-- a card was claimed in vain, as its slot was in use: it may be discarded
 pub record ClaimsInVain (old new : PassModel) : Type 0 where
-  pub hand : HoldsAside new
+  pub hand : HoldsDiscardable new
   pub hindrances : new.view.hindrances ≡ old.view.hindrances
   pub slot : new.memory.slot ≡ old.memory.slot
   pub retired : new.memory.retired ≡ old.memory.retired
@@ -156,11 +156,11 @@ abbrev pub ComesOfOne : TablePlan → NewNode → PassModel → PassModel → Op
 ComesOfOne plan node old new None = ClaimsInVain old new
 ComesOfOne plan node old new (Some said) = ComesOf plan node old new said
 
--- a card has a slot, and by the slot's word as it was read a pass with this safe number could take it
-pub record CouldTake (slots : Slots) (safe : ℕ) (free : Free) : Type 0 where
+-- a card has a slot, and by the slot's word as it was read a pass with this safe epoch could take it
+pub record CouldTake (slots : Slots) (safe_epoch : ℕ) (free : Free) : Type 0 where
   pub slot : has_slot_in slots.last free.card ≡ true
-  pub could : could_take free.word safe ≡ true
+  pub could : could_take free.word safe_epoch ≡ true
 
--- a pass that has taken the slot of a card, for which it has noted nothing yet
+-- a pass that has taken the slot of a card, for which it has retired nothing yet
 abbrev pub with_slot : ℕ → PassModel → PassModel
 with_slot c p = record p { memory = record (p.memory) { slot = Some c; retired = none_retired } }

@@ -1,9 +1,9 @@
 use Rattle.std.specs.Prelude.{◌≡◌, ◌≤◌, ℕ, Some, []}
-use Rattle.ell_cards.specs.declared.view.Period.{Period}
+use Rattle.ell_cards.specs.declared.view.Participant.{Participant}
 use Rattle.ell_runs.specs.declared.view.Slots.{Slots}
 use Rattle.ell_cards.specs.Memories.{SeatModel}
 use Rattle.ell_cards.specs.Models.{TableModel}
-use Rattle.ell_cards.specs.Periods.{StandsAs}
+use Rattle.ell_cards.specs.Epochs.{StandsAs}
 use Rattle.ell_cards.specs.SlotWords.{slot_of}
 
 -- a seat steps on the words of a table, and holds no slot of the memory
@@ -11,7 +11,7 @@ pub record IsSeatOf (table : TableModel) (seat : SeatModel) : Type 0 where
   pub own : seat.table_id ≡ table.id
   pub empty : seat.me.1 ≡ []
 
--- and the table has these places and slots
+-- and the table has these announcements and slots
 pub record IsSeatWithSlots (table : TableModel) (s : Slots) (seat : SeatModel) : Type 0 where
   pub own : seat.table_id ≡ table.id
   pub empty : seat.me.1 ≡ []
@@ -31,13 +31,13 @@ pub record LeavesTree (old new : SeatModel) : Type 0 where
   pub table : new.table_id ≡ old.table_id
   pub empty : new.me.1 ≡ []
 
--- what a pass announces, the slot that it has taken, and the card that it has laid aside are as they were
-pub record StandsStill (old new : Period) : Type 0 where
+-- what a pass announces, the slot that it has taken, and the card that it has discarded are as they were
+pub record StandsStill (old new : Participant) : Type 0 where
   pub stands : StandsAs old new
   pub slot : new.slot ≡ old.slot
   pub lost : new.lost ≡ old.lost
 
--- and so are its safe number and what it saw when it looked at all places last
-pub record KeepsSafe (old new : Period) : Type 0 where
-  pub safe : new.safe ≡ old.safe
+-- and so are its safe epoch and what it saw when it looked at all announcements last
+pub record KeepsSafeEpoch (old new : Participant) : Type 0 where
+  pub safe_epoch : new.safe_epoch ≡ old.safe_epoch
   pub surveyed : new.surveyed ≡ old.surveyed

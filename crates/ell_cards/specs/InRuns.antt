@@ -16,7 +16,7 @@ use Rattle.ell_runs.specs.Answering.{AnsweredInRun}
 use Rattle.ell_ops.specs.declared.op.Op.TheVariants.{Delete}
 use Rattle.ell_ops.specs.declared.reply.Reply.TheVariants.{Yes}
 use Rattle.ell_runs.specs.Taking.{TookInRun}
-use Rattle.ell_runs.specs.LayingDown.{IsLaidDownInRun}
+use Rattle.ell_runs.specs.GivingUp.{IsGivenUpInRun}
 
 -- turns have led a table with this plan to a state in which a pass that tells nodes apart knows what is shown so
 pub record IsKnownInRun (plan : TablePlan) (v : View) : Type 0 where
@@ -71,15 +71,15 @@ DeletesTakeWhatTheyTell = (plan : TablePlan) (v : View) (key : ℕ) (card : Opti
     → v.answered ≡ Some (record { op = Delete key; said = Yes; card = card; took = Some value })
     → IsTakenInRuns plan v key value
 
--- in every such run it laid this operation down
-abbrev pub IsLaidDownInRuns : TablePlan → View → Op → Type 0
-IsLaidDownInRuns plan v op =
+-- in every such run it gave this operation up
+abbrev pub IsGivenUpInRuns : TablePlan → View → Op → Type 0
+IsGivenUpInRuns plan v op =
     (s : TableState) → Starts plan s → (turns : List Turn) (s' : TableState) → TableRun plan s turns s'
     → (seat : ℕ) (w : View) → shown w ≡ v → get_elem? s'.views seat ≡ some w
-    → IsLaidDownInRun plan s turns seat op
+    → IsGivenUpInRun plan s turns seat op
 
--- what a pass laid down last changes nothing, whoever may change the key, whatever turns of whatever passes came
+-- what a pass gave up last changes nothing, whoever may change the key, whatever turns of whatever passes came
 -- meanwhile, or come later
-abbrev pub LaidDownLastChangesNothing : Type 0
-LaidDownLastChangesNothing =
-    (plan : TablePlan) (v : View) (op : Op) → v.laid_down ≡ Some op → IsLaidDownInRuns plan v op
+abbrev pub GivenUpLastChangesNothing : Type 0
+GivenUpLastChangesNothing =
+    (plan : TablePlan) (v : View) (op : Op) → v.given_up ≡ Some op → IsGivenUpInRuns plan v op

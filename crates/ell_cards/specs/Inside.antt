@@ -9,7 +9,7 @@ use Rattle.ell_word.specs.Node.{greatest_card, greatest_number}
 use Rattle.ell_cards.specs.declared.pass.Standing.{Standing}
 use Rattle.ell_cards.specs.declared.share.Share.{Share}
 use Rattle.ell_cards.specs.declared.view.Known.{Known}
-use Rattle.ell_cards.specs.declared.view.Period.{Period}
+use Rattle.ell_cards.specs.declared.view.Participant.{Participant}
 use Rattle.ell_runs.specs.declared.view.Slots.{Slots}
 use Rattle.ell_runs.specs.declared.view.View.{View}
 use Rattle.ell_runs.specs.Changes.{ledger_keys}
@@ -17,7 +17,7 @@ use Rattle.ell_runs.specs.Naming.{IsNamed}
 use Rattle.ell_cards.specs.InSlots.{IsPlaced}
 use Rattle.ell_runs.specs.Depths.{deepest}
 use Rattle.ell_runs.specs.Plans.{TablePlan, flat_from}
-use Rattle.ell_cards.specs.Periods.{slots_size, whole_size}
+use Rattle.ell_cards.specs.Epochs.{slots_size, whole_size}
 use Rattle.ell_cards.specs.Shown.{shown}
 use Rattle.ell_runs.specs.Starts.{SlotsFit}
 use Rattle.ell_cards.specs.SlotWords.{slot_of}
@@ -51,31 +51,31 @@ pub record PassFits (keys : List ℕ) (kept : Share) (words : ℕ) (v : View) : 
   pub most : IsNamed greatest_number v
   pub inside : HasWords words v
 
--- the place of a pass as its code keeps it is the one that it knows, and it has one in a table with places, and no
--- other one; it announces there what its code says, and nothing without a place; its safe number is the one that its code keeps, and without
--- places 0; the slot that it has taken is one of the table; and it has set free the slot of each card whose flag it
--- lost
-pub record PlaceFits (standing : Standing) (words : ℕ) (p : Period) : Type 0 where
-  pub place : p.place ≡ standing.place
+-- the announcement of a pass as its code keeps it is the one that it knows, and it has one in a table whose cards come
+-- back, and no other one; it announces there what its code says, and nothing without an announcement; its safe epoch is
+-- the one that its code keeps, and 0 where cards do not come back; the slot that it has taken is one of the table; and
+-- it has set free the slot of each card whose flag it lost
+pub record StandingFits (standing : Standing) (words : ℕ) (p : Participant) : Type 0 where
+  pub announcement : p.announcement ≡ standing.announcement
   pub other : p.other ≡ None
   pub announces : standing.announces ≡ is_some p.announced
-  pub quiet : standing.place ≡ None → standing.announces ≡ false
-  pub safe : p.safe ≡ standing.safe
-  pub none : (last : ℕ) → words ≡ table_size last → standing.place ≡ None
-  pub unsafe : (last : ℕ) → words ≡ table_size last → p.safe ≡ 0
-  pub some : (s : Slots) → words ≡ slots_size s → standing.place ≢ None
+  pub quiet : standing.announcement ≡ None → standing.announces ≡ false
+  pub safe_epoch : p.safe_epoch ≡ standing.safe_epoch
+  pub none : (last : ℕ) → words ≡ table_size last → standing.announcement ≡ None
+  pub unsafe : (last : ℕ) → words ≡ table_size last → p.safe_epoch ≡ 0
+  pub some : (s : Slots) → words ≡ slots_size s → standing.announcement ≢ None
   pub slot : (c : ℕ) → p.slot ≡ Some c → HasSlotThere words c
   pub lost : p.lost ≡ None
 
--- a pass fits by what is shown of what its seat knows, its seat holds no slot of memory, and its place fits
+-- a pass fits by what is shown of what its seat knows, its seat holds no slot of memory, and its announcement fits
 pub record IsPass {A B C : Type 0} (p : Inside A B C) : Type 0 where
   pub fits : PassFits p.keys.items p.share p.seat.table_id.words (shown p.seat.me.0.tree)
   pub bare : p.seat.me.1 ≡ []
-  pub stands : PlaceFits p.standing p.seat.table_id.words p.seat.me.0.period
+  pub stands : StandingFits p.standing p.seat.table_id.words p.seat.me.0.participant
 
 -- what the code of a table keeps is of its plan: it has the words that the plan asks for, and no slots of memory; its
--- slots and places fit the plan; and its last card has a number, and no internal node is much deeper than there are
--- numbers, or, where cards do not come back, than there are cards with words
+-- slots and announcements fit the plan; and its last card has a number, and no internal node is much deeper than there
+-- are numbers, or, where cards do not come back, than there are cards with words
 pub record FitsPlan {A B C : Type 0} (plan : TablePlan) (id : TableId) (t : TableInside A B C) : Type 0 where
   pub words : id.words ≡ whole_size plan
   pub bare : id.slots ≡ 0

@@ -8,7 +8,7 @@ use Rattle.ell_runs.specs.declared.view.Slots.{Slots}
 use Rattle.ell_cards.specs.declared.kind.TreeKind.{TreeKind}
 use Rattle.ell_cards.specs.declared.kind.TreeKind.TheVariants.{Owned, Shared, Flat, Reusing}
 use Rattle.ell_runs.specs.Plans.{TablePlan}
-use Rattle.ell_runs.specs.Starts.{most_places}
+use Rattle.ell_runs.specs.Starts.{most_announcements}
 
 -- whether a tree of a kind shares every key that is not among its given keys
 abbrev pub shares_others : TreeKind → Bool
@@ -31,12 +31,12 @@ last_number Shared room = room
 last_number Flat room = room
 last_number (Reusing passes) room = greatest_number
 
--- and its slots and places, if its cards come back
+-- and its slots and announcements, if its cards come back
 abbrev pub slots_of : TreeKind → ℕ → Option Slots
 slots_of Owned room = None
 slots_of Shared room = None
 slots_of Flat room = None
-slots_of (Reusing passes) room = Some (record { last = room; places = passes })
+slots_of (Reusing passes) room = Some (record { last = room; announcements = passes })
 
 -- the plan by which a tree of a kind opens, with these start pairs, these keys, and so many cards to be claimed
 abbrev pub opened_plan : TreeKind → List (ℕ × ℕ) → List ℕ → ℕ → TablePlan
@@ -56,9 +56,9 @@ MayStartWith Shared keys start = All (λ k. k ≤ greatest_key) start
 MayStartWith Flat keys start = All (λ k. k ≤ greatest_key) start
 MayStartWith (Reusing passes) keys start = All (λ k. k ≤ greatest_key) start
 
--- it has room for so many passes: at least one, and no more than it may have places
+-- it has room for so many passes: at least one, and no more than it may have announcements
 abbrev pub HasRoomForPasses : TreeKind → Type 0
 HasRoomForPasses Owned = Unit {0}
 HasRoomForPasses Shared = Unit {0}
 HasRoomForPasses Flat = Unit {0}
-HasRoomForPasses (Reusing passes) = (1 ≤ passes) × (passes ≤ most_places)
+HasRoomForPasses (Reusing passes) = (1 ≤ passes) × (passes ≤ most_announcements)

@@ -10,16 +10,16 @@ use Rattle.ell_grace.specs.Gone.{TakesOut}
 use Rattle.ell_cards.specs.declared.view.Known.{Known}
 use Rattle.ell_runs.specs.declared.view.Slots.{Slots}
 use Rattle.ell_runs.specs.declared.view.View.{View}
-use Rattle.ell_cards.specs.Periods.{WholeState, slot_word}
-use Rattle.ell_cards.specs.SlotWords.{is_noted}
+use Rattle.ell_cards.specs.Epochs.{WholeState, slot_word}
+use Rattle.ell_cards.specs.SlotWords.{is_retired}
 use Rattle.ell_runs.specs.Holding.{HoldsWaiting, HasFlagged}
-use Rattle.ell_cards.specs.Tied.{HasWon}
+use Rattle.ell_cards.specs.Refinement.{HasWon}
 
 -- A pass holds the slot of a card: it has taken that for the card, which it has in hand and has not flagged yet; or
 -- it has just lost the card's flag.
 pub data Holds (k : Known) (c : ℕ) : Type 0 where
-  waiting : k.period.slot ≡ Some c → HoldsWaiting k.tree c → Holds k c
-  lost : k.period.lost ≡ Some c → Holds k c
+  waiting : k.participant.slot ≡ Some c → HoldsWaiting k.tree c → Holds k c
+  lost : k.participant.lost ≡ Some c → Holds k c
 
 pub record IsHeld (views : List Known) (c : ℕ) : Type 0 where
   pub seat : ℕ
@@ -38,15 +38,15 @@ pub record IsInFlaggedHand (views : List View) (c : ℕ) : Type 0 where
   pub there : get_elem? views seat ≡ some view
   pub has : HasFlagged view c
 
--- The card of each slot in use has won its flag, or a pass holds the slot for it; and where the slot's word notes a
--- node, it has won its flag. Of each of its nodes that a card has made dead, and which the word does not note, some
--- pass has that card in hand still, and so is to note it.
+-- The card of each slot in use has won its flag, or a pass holds the slot for it; and where a node is retired by the
+-- slot's word, it has won its flag. Of each of its nodes that a card has made dead, and which is not retired by the
+-- word, some pass has that card in hand still, and so is to retire it.
 pub record NothingLeaks (s : Slots) (t : WholeState) (trees : List View) (w : Words) (stage : Stages) (lie : ℕ → ℕ)
     : Type 0 where
   pub used : (slot : ℕ) → slot ≤ s.last → slice_index t.words (slot_word s slot) % 8 ≢ 0
       → HasWon stage (lie slot) ⊎ IsHeld t.views (lie slot)
   pub bits : (slot i : ℕ) → slot ≤ s.last → slice_index t.words (slot_word s slot) % 8 ≢ 0
-      → is_noted (slice_index t.words (slot_word s slot)) i ≡ true → HasWon stage (lie slot)
+      → is_retired (slice_index t.words (slot_word s slot)) i ≡ true → HasWon stage (lie slot)
   pub owed : (slot i c : ℕ) → slot ≤ s.last → slice_index t.words (slot_word s slot) % 8 ≢ 0 → i < 3
-      → is_noted (slice_index t.words (slot_word s slot)) i ≡ false → Kills w stage c (4 * lie slot + i)
+      → is_retired (slice_index t.words (slot_word s slot)) i ≡ false → Kills w stage c (4 * lie slot + i)
       → IsInFlaggedHand trees c

@@ -8,7 +8,7 @@ pub mod AllSeen
 pub mod InRuns
 -- what the words of slots say
 pub mod SlotWords
--- what a pass notes of the nodes that its card in hand made dead
+-- what a pass retires of the nodes that its card in hand made dead
 pub mod Retiring
 -- what contracts see of a memory and of a seat
 pub mod Memories
@@ -20,25 +20,25 @@ pub mod Apart
 pub mod Shown
 -- what a step call leaves of a pass, as it is shown
 pub mod ShownTakings
--- the places of passes and the clock: where their words stand, and what passes know of grace periods
-pub mod Periods
--- what the steps on the words of periods and of slots leave as it was
+-- the announcements of passes and the epoch: where their words stand, and what passes know of them
+pub mod Epochs
+-- what the steps on the words of epochs and of slots leave as it was
 pub mod Frames
 -- the kinds of trees, and the plan by which each opens
 pub mod Kinds
--- what is dead in a table's tree, and was when periods began
+-- what is dead in a table's tree, and was when passes were pinned
 pub mod Ages
 -- some of the three nodes of a card
 pub mod CardNodes
--- that dead nodes are noted
-pub mod Noting
+-- that dead nodes are retired
+pub mod RetiringInSlots
 -- changes that are over
 pub mod Ended
--- the rule of a table: its tree, its history, and its periods
+-- the rule of a table: its tree, its history, and its epochs
 pub mod Whole
 pub mod SeenLaws
--- what the safe numbers of passes tell
-pub mod PeriodLaws
+-- what the safe epochs of passes tell
+pub mod EpochLaws
 -- how a table ends
 pub mod Closed
 -- a pass as its code keeps it
@@ -65,14 +65,14 @@ pub use Rattle.ell_core.specs.acts.Searching
 pub use Rattle.ell_core.specs.statements.Effects
 -- which keys go to a child
 pub use Rattle.ell_core.specs.statements.Readers
--- what the memory of a table with places has of its tree
-pub mod Ties
+-- what the memory of a table whose cards come back has of its tree
+pub mod RefinementLaws
 pub mod LettingGo
-pub mod Tied
+pub mod Refinement
 -- that no slot stays in use for nothing
 pub mod Leaks
 -- what passes know, and what runs are, in the words of the crate below
-pub use Rattle.ell_runs.specs.Aside
+pub use Rattle.ell_runs.specs.Discarded
 pub use Rattle.ell_runs.specs.Calls
 pub use Rattle.ell_runs.specs.Changes
 pub use Rattle.ell_runs.specs.Dead

@@ -8,7 +8,7 @@ use Rattle.ell_cards.specs.declared.fault.SplitFault.{SplitFault}
 use Rattle.ell_cards.specs.declared.fault.SplitFault.TheVariants.{TooManyPasses}
 use Rattle.ell_cards.specs.declared.fault.SplitFault.TheVariants as split_fault
 use Rattle.ell_runs.specs.declared.view.View.{View}
-use Rattle.ell_cards.specs.declared.view.Period.{Period}
+use Rattle.ell_cards.specs.declared.view.Participant.{Participant}
 use Rattle.ell_cards.specs.declared.view.Retired.{Retired}
 use Rattle.ell_runs.specs.declared.view.Sight.{Sight}
 use Rattle.ell_cards.specs.declared.view.Survey.{Survey}
@@ -20,7 +20,7 @@ use Rattle.ell_runs.specs.Plans.{TablePlan}
 use Rattle.ell_runs.specs.Changes.{first_of}
 use Rattle.ell_runs.specs.LookPlaces.{SeesMoreInLook}
 
--- the last slot: each card lies in one, and without places in one of its own
+-- the last slot: each card lies in one, and where cards do not come back in one of its own
 abbrev pub last_slot_of : Option Slots → ℕ → ℕ
 last_slot_of None last = last
 last_slot_of (Some s) last = s.last
@@ -33,11 +33,11 @@ pub record TableModel : Type 0 where
   pub id : TableId
   pub plan : TablePlan
 
--- the safe number of a pass: every pass in a period began it when the clock was that at least; and with places, whether
--- it is in a period, what it saw last at all places, the card whose slot it took last, and the dead nodes noted for it
+-- a pass's safe epoch: whoever is pinned was pinned when the epoch was that at least; where cards come back, whether it
+-- is pinned, what it saw last at all announcements, the card whose slot it took last, and what it has retired for that
 pub record PassMemory : Type 0 where
-  pub safe : ℕ
-  pub inside : Bool
+  pub safe_epoch : ℕ
+  pub is_pinned : Bool
   pub surveyed : Survey
   pub slot : Option ℕ
   pub retired : Retired
@@ -56,31 +56,31 @@ pub record KeepsItsOwn (old new : PassModel) : Type 0 where
   pub table : new.table ≡ old.table
   pub label : new.label ≡ old.label
 
--- a pass that has not looked at the places has seen nothing: the clock is never less than 0
+-- a pass that has not looked at the announcements has seen nothing: the epoch is never less than 0
 abbrev pub no_survey : Survey
-no_survey = record { clock = 0; least = 0 }
+no_survey = record { epoch = 0; least = 0 }
 
--- so it is at first: it is in no period, has looked at no place, and has taken no slot
+-- so it is at first: it is not pinned, has looked at no announcement, and has taken no slot
 abbrev pub no_memory : PassMemory
-no_memory = record { safe = 0; inside = false; surveyed = no_survey; slot = None; retired = none_retired }
+no_memory = record { safe_epoch = 0; is_pinned = false; surveyed = no_survey; slot = None; retired = none_retired }
 
--- the memory of a pass whose seat knows this of periods
-abbrev pub memory_of : Period → PassMemory
+-- the memory of a pass whose seat knows this of epochs
+abbrev pub memory_of : Participant → PassMemory
 memory_of p = record {
-  safe = p.safe;
-  inside = is_some p.announced;
+  safe_epoch = p.safe_epoch;
+  is_pinned = is_some p.announced;
   surveyed = p.surveyed;
   slot = p.slot;
   retired = p.retired;
 }
 
--- the same memory, of a pass that is in a period if there are places, and in none if there are not
-abbrev pub in_period : Option Slots → PassMemory → PassMemory
-in_period slots m = record m { inside = is_some slots }
+-- the same memory, of a pass that is pinned if cards come back, and not pinned if they do not
+abbrev pub pinned : Option Slots → PassMemory → PassMemory
+pinned slots m = record m { is_pinned = is_some slots }
 
--- or of one that is in no period
-abbrev pub in_no_period : PassMemory → PassMemory
-in_no_period m = record m { inside = false }
+-- or of one that is not pinned
+abbrev pub unpinned : PassMemory → PassMemory
+unpinned m = record m { is_pinned = false }
 
 -- the ledger of a pass: each key of its own with whether it is present, and with which value
 abbrev pub ledger : PassModel → Ledger
@@ -118,32 +118,34 @@ Steps old new v = new ≡ record old { view = v; steps = one_more old.steps }
 abbrev pub StepsOn : PassModel → PassModel → View → Type 0
 StepsOn old new v = new ≡ record old { view = v; steps = one_more old.steps; sight = new.sight }
 
--- the pass made one step by which it began an operation, and knows this now, and more of the history; if there are
--- places, it is in a period
+-- the pass made one step by which it began an operation, and knows this now, and more of the history; if cards come
+-- back, it is pinned
 abbrev pub BeginsBy : Option Slots → PassModel → PassModel → View → Type 0
 BeginsBy slots old new v =
-    new ≡ record old { view = v; steps = one_more old.steps; memory = in_period slots old.memory; sight = new.sight }
+    new ≡ record old { view = v; steps = one_more old.steps; memory = pinned slots old.memory; sight = new.sight }
 
 -- or by which it began a look, and did not count the step: it knows more of the history
 abbrev pub LooksBy : Option Slots → PassModel → PassModel → View → Type 0
-LooksBy slots old new v = new ≡ record old { view = v; memory = in_period slots old.memory; sight = new.sight }
+LooksBy slots old new v = new ≡ record old { view = v; memory = pinned slots old.memory; sight = new.sight }
 
--- or by which it ended what it had begun: it is in no period
+-- or by which it ended what it had begun: it is not pinned
 abbrev pub EndsBy : PassModel → PassModel → View → Type 0
-EndsBy old new v = new ≡ record old { view = v; steps = one_more old.steps; memory = in_no_period old.memory }
+EndsBy old new v = new ≡ record old { view = v; steps = one_more old.steps; memory = unpinned old.memory }
 
 -- and by which it answered an operation: it knows more of the history
 abbrev pub AnswersBy : PassModel → PassModel → View → Type 0
 AnswersBy old new v =
-    new ≡ record old { view = v; steps = one_more old.steps; memory = in_no_period old.memory; sight = new.sight }
+    new ≡ record old { view = v; steps = one_more old.steps; memory = unpinned old.memory; sight = new.sight }
 
--- all that contracts see of the pass is as it was, but its safe number and what it saw at all places
+-- all that contracts see of the pass is as it was, but its safe epoch and what it saw at all announcements
 abbrev pub LooksAround : PassModel → PassModel → Type 0
 LooksAround old new =
-    new ≡ record old { memory = record (old.memory) { safe = new.memory.safe; surveyed = new.memory.surveyed } }
+    new ≡ record old {
+      memory = record (old.memory) { safe_epoch = new.memory.safe_epoch; surveyed = new.memory.surveyed };
+    }
 
--- the pass came from another one by a step that both count, and knows this; it is in no period, has looked at no place
--- yet, has taken no slot, and has seen of the history what the other one has
+-- the pass came from another one by a step that both count, and knows this; it is not pinned, has looked at no
+-- announcement yet, has taken no slot, and has seen of the history what the other one has
 abbrev pub StepsOut : PassModel → PassModel → View → Type 0
 StepsOut old new v =
     new ≡ record {
@@ -155,7 +157,8 @@ StepsOut old new v =
       sight = given_sight old.sight;
     }
 
--- when a pass is not parted: for its share exactly where that may not be; or, where there are places, for want of one
+-- when a pass is not parted: for its share exactly where that may not be; or, where cards come back, for want of an
+-- announcement
 abbrev pub SplitRefuses : Option Slots → View → SplitFault → Type 0
 SplitRefuses None v TooManyPasses = ¬ MayPart v
 SplitRefuses (Some s) v TooManyPasses = Unit {0}
@@ -170,8 +173,8 @@ abbrev pub RefusesCards : ℕ → CardFault → Type 0
 RefusesCards cards BadCards = ¬ IsCardCount cards
 RefusesCards cards NoMemory = IsCardCount cards
 
--- a table is opened by a plan: it has the plan, and its one pass knows what a first pass does, has made no step, is in no
--- period, has looked at no place, and has seen nothing of the history, which is empty
+-- a table is opened by a plan: it has the plan, and its one pass knows what a first pass does, has made no step, is not
+-- pinned, has looked at no announcement, and has seen nothing of the history, which is empty
 pub record OpensBy (plan : TablePlan) (made : TableModel × PassModel) : Type 0 where
   pub table : made.0.plan ≡ plan
   pub pass : made.1

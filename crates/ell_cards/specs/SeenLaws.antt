@@ -5,7 +5,7 @@ use Rattle.ell_ops.specs.Contents.{contents_of}
 use Rattle.ell_cards.specs.declared.view.Known.{Known}
 use Rattle.ell_runs.specs.Histories.{IsLinearizable, history_of}
 use Rattle.ell_runs.specs.Plans.{TablePlan}
-use Rattle.ell_cards.specs.Periods.{WholeState}
+use Rattle.ell_cards.specs.Epochs.{WholeState}
 use Rattle.ell_runs.specs.Seeing.{HasSeenAll}
 use Rattle.ell_runs.specs.Sights.{IsPart}
 use Rattle.ell_cards.specs.Whole.{IsWhole}

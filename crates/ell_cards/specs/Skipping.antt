@@ -18,7 +18,7 @@ abbrev pub after_one : ℕ → NewNode → View → View
 after_one c node v = after call.Next (c + 1) (after_claim true c node v)
 
 -- and once it has claimed this card and so many after it, one after the other, and read the claim word between two
--- claims: it has laid aside all of them but the last one, which is in hand
+-- claims: it has discarded all of them but the last one, which is in hand
 abbrev pub after_row : ℕ → ℕ → NewNode → View → View
 after_row zero c node v = after_claim true c node v
 after_row (suc n) c node v = after_row n (c + 1) node (after_one c node v)
@@ -35,14 +35,14 @@ pub record IsRow (plan : TablePlan) (first last : ℕ) : Type 0 where
   pub one : plan.slots ≡ None → last ≡ first
 
 -- Whatever the table is when a word becomes another one, and whatever a pass knows of which this is shown, where it
--- took a slot last for the card that contracts see: this holds of the word found and of what is shown of what the
--- pass knows of the tree after, and what it knows of periods and of the history is as it was.
+-- took a slot last for the card that contracts see: this holds of the word found and of what is shown of what the pass
+-- knows of the tree after, and what it knows of epochs and of the history is as it was.
 abbrev pub MayStepOn : TablePlan → PassModel → ℕ → (ℕ → ℕ) → (ℕ → View → Type 0) → Type 0
 MayStepOn plan p i f told =
-    (k : Known) → shown k.tree ≡ p.view → k.period.slot ≡ p.memory.slot → k.period.lost ≡ None
+    (k : Known) → shown k.tree ≡ p.view → k.participant.slot ≡ p.memory.slot → k.participant.lost ≡ None
     → (id : ℕ) → Allows (IsWhole plan) 0 id (k, []) i f
-    (λ n me. told n (shown me.0.tree) × (me.0.period ≡ k.period) × (me.1 ≡ []) × (me.0.sight ≡ k.sight))
+    (λ n me. told n (shown me.0.tree) × (me.0.participant ≡ k.participant) × (me.1 ≡ []) × (me.0.sight ≡ k.sight))
 
--- a card that was claimed is none for which a slot was taken, if there are places
+-- a card that was claimed is none for which a slot was taken, if cards come back
 abbrev pub IsFresh : TablePlan → Option ℕ → Bool → ℕ → Type 0
 IsFresh plan slot won c = plan.slots ≢ None → won ≡ true → slot ≢ Some c

@@ -8,7 +8,7 @@ use Rattle.ell_runs.specs.Calls as atomic
 use Rattle.ell_cards.specs.declared.gate.StepKind.{StepKind}
 use Rattle.ell_cards.specs.declared.gate.StepKind.TheVariants as step
 
--- a step call that takes an operation in hand, starts its search anew, lays it down or answers it
+-- a step call that takes an operation in hand, starts its search anew, gives it up or answers it
 abbrev pub NotesOperation : Call → Type 0
 NotesOperation (call.Begin op) = Unit {0}
 NotesOperation call.Again = Unit {0}

@@ -7,10 +7,10 @@ use Rattle.ell_layout.specs.declared.field.Field.{Field}
 use Rattle.ell_runs.specs.declared.call.Call.{Call}
 use Rattle.ell_runs.specs.declared.call.Call.TheVariants as call
 use Rattle.ell_cards.specs.declared.view.Known.{Known}
-use Rattle.ell_cards.specs.declared.view.Period.{Period}
+use Rattle.ell_cards.specs.declared.view.Participant.{Participant}
 use Rattle.ell_runs.specs.declared.view.Slots.{Slots}
 use Rattle.ell_runs.specs.declared.view.View.{View}
-use Rattle.ell_cards.specs.Models.{Steps, in_period, KeepsItsOwn, last_slot, PassModel, one_more}
+use Rattle.ell_cards.specs.Models.{Steps, pinned, KeepsItsOwn, last_slot, PassModel, one_more}
 use Rattle.ell_runs.specs.Plans.{flat_from, TablePlan}
 use Rattle.ell_runs.specs.Views.{IsFree, MayPart, given_share}
 use Rattle.ell_runs.specs.Changes.{ledger_keys}
@@ -23,7 +23,7 @@ use Rattle.ell_runs.specs.Seeing.{Marks}
 use Rattle.ell_cards.specs.Shown.{cut_word, cut_by, shown, shown_call, CanBeShown}
 use Rattle.ell_runs.specs.States.{TableState}
 use Rattle.ell_cards.specs.LettingGo.{MayLetGo}
-use Rattle.ell_cards.specs.Tied.{HasStoredAll, MayInMemory}
+use Rattle.ell_cards.specs.Refinement.{HasStoredAll, MayInMemory}
 use Rattle.ell_runs.specs.Turns.{found_by, view_after}
 use Rattle.ell_runs.specs.Starts.{IsReached}
 use Rattle.ell_runs.specs.Looking.{KeysAreFixed, ReadsItsOwn, MissesItsOwn}
@@ -42,7 +42,8 @@ MayTell plan c v then =
     → IsPlaced (last_slot plan) (view_after s w whole) → IsApart plan (view_after s w whole)
     → then (cut_by whole (found_by s whole)) (shown (view_after s w whole))
 
--- a call exchanges an expected word for another one, of which a word of 64 bits has this: without places, all of it
+-- a call exchanges an expected word for another one, of which a word of 64 bits has this: where cards do not come back,
+-- all of it
 pub record Exchanges (plan : TablePlan) (c : Call) (expected value : ℕ) : Type 0 where
   pub whole : ℕ
   pub is : atomic_of c ≡ Exchange expected whole
@@ -55,11 +56,13 @@ IsQuiet (call.Begin op) = ⊥
 IsQuiet call.Look = ⊥
 IsQuiet _ = Unit {0}
 
--- whatever the table is when a word of its periods becomes another one, this holds of the word found and of what the
--- pass knows of periods after, and what it knows of the tree and of the history is as it was
-abbrev pub MayGoOn : TablePlan → Known → ℕ → (ℕ → ℕ) → (ℕ → Period → Type 0) → Type 0
+-- whatever the table is when a word of its epochs becomes another one, this holds of the word found and of what the
+-- pass knows of epochs after, and what it knows of the tree and of the history is as it was
+abbrev pub MayGoOn : TablePlan → Known → ℕ → (ℕ → ℕ) → (ℕ → Participant → Type 0) → Type 0
 MayGoOn plan k i f then =
-    (id : ℕ) → Allows (IsWhole plan) 0 id (k, []) i f (λ n me. then n me.0.period × (me.0.tree ≡ k.tree) × (me.1 ≡ []) × (me.0.sight ≡ k.sight))
+    (id : ℕ)
+    → Allows (IsWhole plan) 0 id (k, []) i f (λ n me. then n me.0.participant × (me.0.tree ≡ k.tree) × (me.1 ≡ [])
+    × (me.0.sight ≡ k.sight))
 
 -- a pass may be split: it has nothing in hand, and may be parted
 pub record MaySplit (v : View) : Type 0 where
@@ -91,7 +94,7 @@ IsWholeIn p c said = (p.memory.slot ≡ Some c) × HasStoredAll p.view said
 abbrev pub HasSlotOf : TablePlan → ℕ → PassModel → Type 0
 HasSlotOf plan c p = plan.slots ≢ None → p.memory.slot ≡ Some c
 
--- a call asks this of the slots, if the table has places
+-- a call asks this of the slots, if the table's cards come back
 abbrev pub MayInTable : TablePlan → PassModel → Call → Type 0
 MayInTable plan p c = (s : Slots) → plan.slots ≡ Some s → MayInMemory s p.memory.slot p.memory.retired p.view c
 
@@ -119,17 +122,17 @@ pub record SeesOnBy (old new : PassModel) : Type 0 where
   pub steps : new.steps ≡ old.steps
   pub memory : new.memory ≡ old.memory
 
--- and after one that begins an operation or a look, but that it is in a period if there are places, and knows more of
--- the history if it begins an operation
-pub record EntersBy (slots : Option Slots) (c : Call) (old new : PassModel) : Type 0 where
+-- and after one that begins an operation or a look, but that it is pinned if cards come back, and knows more of the
+-- history if it begins an operation
+pub record PinsBy (slots : Option Slots) (c : Call) (old new : PassModel) : Type 0 where
   pub own : KeepsItsOwn old new
   pub steps : new.steps ≡ old.steps
-  pub memory : new.memory ≡ in_period slots old.memory
+  pub memory : new.memory ≡ pinned slots old.memory
   pub marks : Marks c old.view old.sight new.sight
 
 -- the pass made one step that it has not counted yet, by a call that begins an operation or a look, and knows this now
-abbrev pub Enters : Option Slots → PassModel → PassModel → View → Type 0
-Enters slots old new v = new ≡ record old { view = v; memory = in_period slots old.memory; sight = new.sight }
+abbrev pub Pins : Option Slots → PassModel → PassModel → View → Type 0
+Pins slots old new v = new ≡ record old { view = v; memory = pinned slots old.memory; sight = new.sight }
 
 -- a pass made one step: its table, its label and its memory are as they were, and so is what it knows of the history
 pub record StepsBy (old new : PassModel) : Type 0 where

@@ -1,7 +1,7 @@
 //! Some of the three nodes of a card.
 ghost use Rattle.std.specs.Prelude.{◌≡◌, ◌%◌};
-ghost use Rattle.ell_cards.specs.CardNodes.{all_nodes, all_noted, has_node, node_alone, nodes_of_both};
-ghost use Rattle.ell_cards.specs.CardNodes.{NotesToo, noting_first, noting_second, noting_third};
+ghost use Rattle.ell_cards.specs.CardNodes.{all_nodes, all_are_retired, has_node, node_alone, nodes_of_both};
+ghost use Rattle.ell_cards.specs.CardNodes.{RetiresToo, retiring_first, retiring_second, retiring_third};
 
 /// Some of the three nodes of a card.
 #[derive(Clone, Copy)]
@@ -51,39 +51,39 @@ impl CardNodes {
         }
     }
 
-    /// Returns whether the word of the card's slot notes them all.
+    /// Returns whether they are all retired by the word of the card's slot.
     #[inline(always)]
-    pub(crate) fn are_noted(self, word: u64) -> bool
-        ensures { result ≡ all_noted self word }
+    pub(crate) fn are_retired(self, word: u64) -> bool
+        ensures { result ≡ all_are_retired self word }
     {
         (!self.internal || word % 2 == 0)
             && (!self.left || word / 2 % 2 == 0)
             && (!self.right || word / 4 % 2 == 0)
     }
 
-    /// Returns another word for the slot, which notes them too.
+    /// Returns another word for the slot, by which they are retired too.
     #[inline(always)]
-    pub(crate) fn noted_in(self, word: u64) -> u64
-        ensures { NotesToo self word result }
+    pub(crate) fn retired_in(self, word: u64) -> u64
+        ensures { RetiresToo self word result }
     {
-        let first = noting_first(self.internal, word);
-        let second = noting_second(self.left, first);
-        noting_third(self.right, second)
+        let first = retiring_first(self.internal, word);
+        let second = retiring_second(self.left, first);
+        retiring_third(self.right, second)
     }
 }
 
-// Returns a word that notes the internal node too, or the word itself.
+// Returns a word by which the internal node is retired too, or the word itself.
 #[inline(always)]
-fn noting_first(too: bool, word: u64) -> u64
-    ensures { result ≡ noting_first too word }
+fn retiring_first(too: bool, word: u64) -> u64
+    ensures { result ≡ retiring_first too word }
 {
     if too && word % 2 == 1 { word - 1 } else { word }
 }
 
-// Returns a word that notes the left leaf too, or the word itself.
+// Returns a word by which the left leaf is retired too, or the word itself.
 #[inline(always)]
-fn noting_second(too: bool, word: u64) -> u64
-    ensures { result ≡ noting_second too word }
+fn retiring_second(too: bool, word: u64) -> u64
+    ensures { result ≡ retiring_second too word }
 {
     if too && word / 2 % 2 == 1 {
         word - 2
@@ -92,10 +92,10 @@ fn noting_second(too: bool, word: u64) -> u64
     }
 }
 
-// Returns a word that notes the right leaf too, or the word itself.
+// Returns a word by which the right leaf is retired too, or the word itself.
 #[inline(always)]
-fn noting_third(too: bool, word: u64) -> u64
-    ensures { result ≡ noting_third too word }
+fn retiring_third(too: bool, word: u64) -> u64
+    ensures { result ≡ retiring_third too word }
 {
     if too && word / 4 % 2 == 1 {
         word - 4

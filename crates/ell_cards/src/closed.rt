@@ -10,10 +10,10 @@ ghost use Rattle.ell_runs.specs.Views.{IsFree, whole_share};
 ghost use Rattle.ell_cards.specs.Models.{last_slot};
 ghost use Rattle.ell_cards.specs.Closed.{ClosedModel, HistoryEnds, TableEnds};
 
+use crate::epochs::last_slot;
 use crate::fixed::FixedMemory;
 use crate::memory::Seat;
 use crate::pass::Pass;
-use crate::period::last_slot;
 use crate::table::CardTable;
 use ell_core::TreeWords;
 use ell_layout::{Field, child_field, key_field, value_field};
@@ -41,7 +41,7 @@ impl<A: Allocator + Copy> Model for Closed<A> {
 
 impl<A: Allocator + Copy> CardTable<FixedMemory<A>> {
     /// Ends the table with a pass that has nothing in hand, owns each of the keys that may have owners, and, if the
-    /// other keys are shared, has the whole share. Nothing is said of what a table with places leaves.
+    /// other keys are shared, has the whole share. Nothing is said of what a table whose cards come back leaves.
     pub fn close(self, pass: Pass<FixedMemory<A>>) -> Closed<A>
         requires own { pass.table ≡ self.id }
         requires free { IsFree pass.view }
@@ -53,7 +53,8 @@ impl<A: Allocator + Copy> CardTable<FixedMemory<A>> {
         // The pass knows all of the table's history, which goes on from what it had seen, and what its calls leave is
         // the tree of the words.
         ensures history { self.plan.slots ≡ None → HistoryEnds self.plan pass result }
-        // The number of the last card stays the same; in a table with places it is the last one that has words.
+        // The number of the last card stays the same; in a table whose cards come back it is the last one that has
+        // words.
         ensures cards { result.last_card ≡ last_slot self.plan }
     {
         let CardTable {

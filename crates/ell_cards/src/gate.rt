@@ -9,7 +9,7 @@ use ell_runs::Call;
 pub enum StepKind {
     /// The start of a find, insert or delete: no step yet.
     Begin,
-    /// Takes an operation in hand, starts its search anew, lays it down or answers it.
+    /// Takes an operation in hand, starts its search anew, gives it up or answers it.
     Note,
     /// Reads a word.
     Look,

@@ -24,16 +24,16 @@ pub enum TreeKind {
     /// of the tree, and no call that might know of them is under way, its slot is free for another card. A slot is held
     /// back while a call that began before it became free goes on, and behind a look or a scan until `end_looks`.
     ///
-    /// `Spent` means that a change was not made and found no slot, and it may be made again. If more than
-    /// `2 * n + 3 * p + 4 + y` cards were asked for, where the tree has `n` keys, there may be `p` passes, and `y`
-    /// slots were set free too lately for the pass, then it returns `Spent` only if numbers are at an end: a slot
-    /// serves 2^36 cards at most, one after the other, or is passed over instead. Only deletes take the last two slots,
-    /// so in a tree that keys fill they can be taken away. All this, and that slots and places come back, is tested,
-    /// and no clause says it.
+    /// `Spent` means that a change was not made and found no slot, and it may be made again. If more than `2 * n + 3 *
+    /// p + 4 + y` cards were asked for, where the tree has `n` keys, there may be `p` passes, and `y` slots were set
+    /// free too lately for the pass, then it returns `Spent` only if numbers are at an end: a slot serves 2^36 cards at
+    /// most, one after the other, or is passed over instead. Only deletes take the last two slots, so in a tree that
+    /// keys fill they can be taken away. All this, and that slots and announcements come back, is tested, and no clause
+    /// says it.
     ///
-    /// Each try of a change makes at most `2 * s + 2` steps more than in another flat tree, if `s` is the number of
-    /// the last slot, and beside these some that are not counted, by which slots are looked for, set free and taken
-    /// again. A split also returns `TooManyPasses` if it finds no place for one more pass; a pass that is released, or
+    /// Each try of a change makes at most `2 * s + 2` steps more than in another flat tree, if `s` is the number of the
+    /// last slot, and beside these some that are not counted, by which slots are looked for, set free and taken again.
+    /// A split also returns `TooManyPasses` if it finds no announcement for one more pass; a pass that is released, or
     /// joined to another, makes room for one more, and one that is only dropped does not. The tree has no end yet:
     /// `close` is for trees whose cards do not come back.
     Reusing(u64),
@@ -64,13 +64,16 @@ impl TreeKind {
         }
     }
 
-    // The slots and the places, if cards come back.
+    // The slots and the announcements, if cards come back.
     pub(crate) fn slots(self, room: u64) -> Option<Slots>
         ensures { result ≡ slots_of self room }
     {
         match self {
             TreeKind::Owned | TreeKind::Shared | TreeKind::Flat => None,
-            TreeKind::Reusing(places) => Some(Slots { last: room, places }),
+            TreeKind::Reusing(announcements) => Some(Slots {
+                last: room,
+                announcements,
+            }),
         }
     }
 }

@@ -4,14 +4,14 @@
 //! `atomic_table`, which accepts no step, by any thread, that does not keep the table's rule: `IsReached`, that turns
 //! of its passes, each a step call, a split or a join, have led from the table's start to the state. `HasMachine`
 //! follows from it. What such runs do, whatever memory is like, the laws of `ell_runs` say.
-ghost use Rattle.ell_runs.specs.Aside.{CallsTouchNoCardAside};
+ghost use Rattle.ell_runs.specs.Discarded.{CallsTouchNoDiscardedCard};
 ghost use Rattle.ell_cards.specs.InRuns.{LooksAreOfOneState, StretchesAreOfOneState};
 ghost use Rattle.ell_cards.specs.SeenLaws.{HistoriesAreTold, SeenIsInLine, SeenIsLinearizable};
-ghost use Rattle.ell_cards.specs.InRuns.{LaidDownLastChangesNothing};
+ghost use Rattle.ell_cards.specs.InRuns.{GivenUpLastChangesNothing};
 ghost use Rattle.ell_cards.specs.InRuns.{AnswersHaveTheirPoints};
 ghost use Rattle.ell_cards.specs.InRuns.{DeletesTakeWhatTheyTell};
-ghost use Rattle.ell_cards.specs.PeriodLaws.{SafeNumbersAreSafe, FreeSlotsAreUntouched, NoSlotLeaks, RetiredNodesAreNoted, SlotsInUseAreFew};
-ghost use Rattle.ell_cards.specs.Ties.{CallsKeepTies, SplitsKeepTies, JoinsKeepTies, PeriodsKeepTies, TakesKeepTies, OpeningsAreTied, CardsInSlotsAreFew, ExchangesAreNear, PassesTellApart, ChildrenAreApart};
+ghost use Rattle.ell_cards.specs.EpochLaws.{SafeEpochsAreSafe, FreeSlotsAreUntouched, NoSlotLeaks, RetiredNodesStayRetired, SlotsInUseAreFew};
+ghost use Rattle.ell_cards.specs.RefinementLaws.{CallsKeepRefinement, SplitsKeepRefinement, JoinsKeepRefinement, EpochsKeepRefinement, TakesKeepRefinement, OpeningsRefine, CardsInSlotsAreFew, ExchangesAreNear, PassesTellApart, ChildrenAreApart};
 ghost use Rattle.ell_cards.specs.ShownTakings.{TakingsAreShown};
 ghost use Rattle.ell_cards.specs.Shown.{StepsAreShown, CallsCanBeShown, GuardsAreLifted, ClaimsAreShown, StoresStayWhole, TellingsAreShown, CallsActAlike, HandoversAreShown};
 
@@ -28,46 +28,47 @@ pub fn seen_is_history()
     ensures all { HistoriesAreTold }
 {}
 
-/// Where a table has places, and wherever the steps of its passes have led it: a pass that is in a period, which it
-/// announces at its place, began that when the clock was the safe number of each pass at least, and the reading that
-/// it announces.
-pub fn safe_numbers_are_safe()
-    // A pass in a period began it when the clock was each safe number at least.
-    ensures began { SafeNumbersAreSafe }
-    // No pass may touch a word of any card whose slot was set free with a stamp below some pass's safe number.
+/// Where a table's cards come back, and wherever the steps of its passes have led it: a pass that is pinned, as its
+/// announcement says, was pinned when the epoch was the safe epoch of each pass at least, and the epoch that it
+/// announces.
+pub fn safe_epochs_are_safe()
+    // A pass that is pinned was pinned when the epoch was each safe epoch at least.
+    ensures began { SafeEpochsAreSafe }
+    // No pass may touch a word of any card whose slot was set free with a retire epoch below some pass's safe epoch.
     ensures free { FreeSlotsAreUntouched }
-    // From where a pass makes a call on, no step call that it may make touches a word of a card that was laid aside
+    // From where a pass makes a call on, no step call that it may make touches a word of a card that was discarded
     // before.
-    ensures aside { CallsTouchNoCardAside }
-    // What a pass has noted for its card in hand is noted still, unless its slot is free or has another card by now.
-    ensures retired { RetiredNodesAreNoted }
-    // The card of each slot that is in use has won its flag, or a pass holds the slot for it; and of each of its
-    // nodes that is dead and not noted, the card that made it so is in hand of a pass, which is to note it.
+    ensures discarded { CallsTouchNoDiscardedCard }
+    // What a pass has retired for its card in hand is retired still, unless its slot is free or has another card by
+    // now.
+    ensures retired { RetiredNodesStayRetired }
+    // The card of each slot that is in use has won its flag, or a pass holds the slot for it; and of each of its nodes
+    // that is dead and not retired, the card that made it so is in hand of a pass, which is to retire it.
     ensures leaks { NoSlotLeaks }
     // So different slots in use are at most as many as the start keys, two for each key of the tree, three, and three
     // for each pass that has a card in hand or has lost a flag.
     ensures few { SlotsInUseAreFew }
 {}
 
-/// How a table with places uses slots anew. Its memory, which has words for slots alone, in each of which a card
-/// lies, is tied to a tree that has words for each card number: at a slot it has what the tree has of the card that
-/// lies there, cut to 64 bits, as far as that is kept. A step call touches words that are tied so, and keeps memory
-/// tied.
-pub fn ties_are_kept()
-    // A step call finds in memory what is cut of what it finds in the tree, and memory is tied to the tree after it.
-    ensures calls { CallsKeepTies }
+/// How a table whose cards come back uses slots anew. Its memory, which has words for slots alone, in each of which a
+/// card lies, refines a tree that has words for each card number: at a slot it has what the tree has of the card that
+/// lies there, cut to 64 bits, as far as that is kept. A step call touches words that have what the tree has, and keeps
+/// the refinement.
+pub fn refinement_is_kept()
+    // A step call finds in memory what is cut of what it finds in the tree, and memory refines the tree after it.
+    ensures calls { CallsKeepRefinement }
     // So it is after a split of a pass, and a join of two.
-    ensures splits { SplitsKeepTies }
-    ensures joins { JoinsKeepTies }
-    // A step on the words of periods keeps memory tied, and so does one by which a pass takes a slot in which a dead
+    ensures splits { SplitsKeepRefinement }
+    ensures joins { JoinsKeepRefinement }
+    // A step on the words of epochs keeps the refinement, and so does one by which a pass takes a slot in which a dead
     // card lies.
-    ensures periods { PeriodsKeepTies }
-    ensures takes { TakesKeepTies }
+    ensures epochs { EpochsKeepRefinement }
+    ensures takes { TakesKeepRefinement }
     // And so it is as a table opens.
-    ensures opens { OpeningsAreTied }
+    ensures opens { OpeningsRefine }
     // Different cards that all lie in their slots are at most as many as there are slots.
     ensures few { CardsInSlotsAreFew }
-    // So a child exchange that a pass in a period may make expects a link that is near the one in the tree.
+    // So a child exchange that a pinned pass may make expects a link that is near the one in the tree.
     ensures near { ExchangesAreNear }
     // Each pass tells the nodes that it has met apart by what child words hold of their numbers.
     ensures apart { PassesTellApart }
@@ -111,6 +112,6 @@ pub fn shown_is_so_in_runs()
     ensures answered { AnswersHaveTheirPoints }
     // A delete that answers yes took the value that its pass says it took: the key had it at the call's point.
     ensures taken { DeletesTakeWhatTheyTell }
-    // A call that a pass laid down last changes the tree at no turn.
-    ensures laid_down { LaidDownLastChangesNothing }
+    // A call that a pass gave up last changes the tree at no turn.
+    ensures given_up { GivenUpLastChangesNothing }
 {}

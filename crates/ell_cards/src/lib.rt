@@ -3,6 +3,7 @@
 
 mod card_nodes;
 mod closed;
+mod epochs;
 mod fault;
 mod fixed;
 mod gate;
@@ -15,7 +16,6 @@ mod memory;
 mod outcomes;
 mod own_card;
 mod pass;
-mod period;
 mod places;
 mod retiring;
 mod rule;
@@ -35,7 +35,7 @@ pub use fault::{CardFault, SplitFault};
 pub use fixed::FixedMemory;
 pub use gate::{NoGate, StepGate, StepKind};
 pub use kind::TreeKind;
-pub use laws::{safe_numbers_are_safe, seen_is_history, shown_is_so_in_runs};
+pub use laws::{safe_epochs_are_safe, seen_is_history, shown_is_so_in_runs};
 pub use lifetime::is_card_count;
 pub use memory::Memory;
 pub use pass::Pass;

@@ -17,7 +17,7 @@ ghost use Rattle.ell_runs.specs.Views.{IsFree, MayPart};
 ghost use Rattle.ell_runs.specs.Changes.{left_view, right_view, joined_view};
 ghost use Rattle.ell_cards.specs.Inside.{IsNewTable};
 ghost use Rattle.ell_cards.specs.Stepping.{MaySplit, MayHave, PartsShare};
-ghost use Rattle.ell_cards.specs.Periods.{AreWholeWords, slot_word, slots_size, whole_size, words_of_free_slots};
+ghost use Rattle.ell_cards.specs.Epochs.{AreWholeWords, slot_word, slots_size, whole_size, words_of_free_slots};
 ghost use Rattle.ell_cards.specs.Shown.{IsWord};
 ghost use Rattle.ell_runs.specs.Sights.{joined_sight};
 ghost use Rattle.ell_cards.specs.SlotWords.{taken_word};
@@ -27,12 +27,12 @@ ghost use Rattle.ell_cards.specs.Kinds.{HasRoomForPasses, MayStartWith, opened_p
 ghost use Rattle.ell_cards.specs.Whole.{IsWhole, first_known};
 ghost use Rattle.atomic_table.specs.Table.{opening};
 
+use crate::epochs::{announcement_word, epoch_word, last_slot, slots_size};
 use crate::fault::{CardFault, SplitFault};
 use crate::fixed::FixedMemory;
 use crate::kind::TreeKind;
 use crate::memory::{Memory, Seat, join_seat};
 use crate::pass::{Pass, Standing};
-use crate::period::{clock_word, last_slot, place_word, slots_size};
 use crate::rule::{Joined, PartedBy, SplitBy};
 use crate::share::{Share, WHOLE_SHARE};
 use crate::slot_words::{FREE_FROM_START, USED_FROM_START, slot_word};
@@ -72,7 +72,7 @@ impl<A: Allocator + Copy> CardTable<FixedMemory<A>> {
         // It succeeds only with 1 to 1,000,000 cards.
         ensures cards { OnOk result (IsCardCount cards) }
         // The table has the plan by which such a tree opens, and the pass knows what a first pass does: it owns the
-        // keys, of which the start keys are present, has made no step, and has the safe number 0.
+        // keys, of which the start keys are present, has made no step, and has the safe epoch 0.
         ensures opened { IfOk result (OpensBy (opened_plan kind start.now keys.now cards)) }
         // `BadCards` is returned exactly if the number of cards is not 1 to 1,000,000; the only other error is
         // `NoMemory`.
@@ -137,23 +137,23 @@ impl<A: Allocator + Copy> CardTable<FixedMemory<A>> {
 }
 
 impl<M: Memory> CardTable<M> {
-    /// Returns the number of the last card. Without places it is how many cards there are besides card 0, including
-    /// those of the start keys, at most `CARD_MAX`. Of a table with places it is `NUMBER_MAX`, the greatest number
-    /// that a card may have, and fewer cards have words.
+    /// Returns the number of the last card. Where cards do not come back it is how many cards there are besides card 0,
+    /// including those of the start keys, at most `CARD_MAX`. Of a table whose cards come back it is `NUMBER_MAX`, the
+    /// greatest number that a card may have, and fewer cards have words.
     pub fn last_card(&self) -> u64
         // Returns the number of the last card.
         ensures cards { result ≡ self.now.plan.last_card }
-        // It is at most `NUMBER_MAX`, and without places at most `CARD_MAX`.
+        // It is at most `NUMBER_MAX`, and where cards do not come back at most `CARD_MAX`.
         ensures limit { result ≤ greatest_number }
         ensures few { self.now.plan.slots ≡ None → result ≤ greatest_card }
     {
         self.last_card
     }
 
-    /// Returns `true` if the table has places, so that cards lie in slots.
+    /// Returns `true` if the table's cards come back, so that cards lie in slots.
     #[inline(always)]
-    pub fn has_places(&self) -> bool
-        // Returns `true` exactly if there are places.
+    pub fn reuses_cards(&self) -> bool
+        // Returns `true` exactly if cards come back.
         ensures { result ≡ is_some self.now.plan.slots }
     {
         self.slots.is_some()
@@ -192,11 +192,11 @@ impl<M: Memory> CardTable<M> {
         }
     }
 
-    /// Parts a pass with nothing in hand: the left part gets these keys of its own, ascending, and the right part
-    /// gets the rest, a part of the share and, if the table has places, one of them: it looks for a free one behind
-    /// the place that the pass found last, and at each place once. `TooManyPasses` is returned if the pass may not be
-    /// parted, and in a table with places also if no place was found free; `NoMemory` is returned if an allocation
-    /// fails. Either way the pass is as it was.
+    /// Parts a pass with nothing in hand: the left part gets these keys of its own, ascending, and the right part gets
+    /// the rest, a part of the share and, if the table's cards come back, an announcement: it looks for a free one
+    /// behind the one that the pass found last, and at each once. `TooManyPasses` is returned if the pass may not be
+    /// parted, and in a table whose cards come back also if no announcement was found free; `NoMemory` is returned if
+    /// an allocation fails. Either way the pass is as it was.
     pub fn split(
         &self,
         pass: Pass<M>,
@@ -206,14 +206,14 @@ impl<M: Memory> CardTable<M> {
         requires free { IsFree pass.view }
         requires ascending { IsStrictlyIncreasing left_keys.now }
         requires owned { All (λ k. ledger_of pass.view.worker.ledger k ≢ None) left_keys.now }
-        // The left part gets these keys, as they were, and keeps the safe number, the slot, and what the pass knows of
+        // The left part gets these keys, as they were, and keeps the safe epoch, the slot, and what the pass knows of
         // the history.
         ensures left { IfOk result (λ parts. Steps pass parts.0 (left_view left_keys.now pass.view)) }
-        // The right part gets the other keys, and a piece of the share, and has the safe number 0, no slot, and no calls;
-        // it has seen of the history what the pass has.
+        // The right part gets the other keys, and a piece of the share, and has the safe epoch 0, no slot, and no
+        // calls; it has seen of the history what the pass has.
         ensures right { IfOk result (λ parts. StepsOut pass parts.1 (right_view left_keys.now pass.view)) }
-        // Without places, `TooManyPasses` is returned exactly if the tree shares keys and the share is the least one;
-        // the only other error is `NoMemory`. The pass is then returned as it was.
+        // Where cards do not come back, `TooManyPasses` is returned exactly if the tree shares keys and the share is
+        // the least one; the only other error is `NoMemory`. The pass is then returned as it was.
         ensures may { OnOk result (MayPart pass.view) }
         ensures refused { IfErr result (λ refused. refused.0 ≡ pass) }
         ensures why { IfErr result (λ refused. SplitRefuses self.now.plan.slots pass.view refused.1) }
@@ -230,8 +230,8 @@ impl<M: Memory> CardTable<M> {
         }
     }
 
-    // Parts a pass: one part has these keys, and the other those, and a place, if the table has places. If no place
-    // is left, the pass is as it was.
+    // Parts a pass: one part has these keys, and the other those, and an announcement, if the table's cards come back.
+    // If no announcement is left, the pass is as it was.
     fn split_as<J: SplitBy>(
         &self,
         pass: Pass<M>,
@@ -255,8 +255,8 @@ impl<M: Memory> CardTable<M> {
             mut standing,
             mut seat,
         } = pass;
-        let place = self.find_place(&mut seat, standing.found);
-        if self.slots.is_some() && place.is_none() {
+        let announcement = self.find_announcement(&mut seat, standing.found);
+        if self.slots.is_some() && announcement.is_none() {
             return Err(Pass {
                 keys,
                 label,
@@ -269,7 +269,7 @@ impl<M: Memory> CardTable<M> {
         let other = self.table.split_seat::<PartedBy<J>>(&mut seat);
         let steps = steps.saturating_add(1);
         let (kept, given) = share.parted();
-        let apart = standing.parted(place);
+        let apart = standing.parted(announcement);
         let left = Pass {
             keys: left,
             label,
@@ -331,7 +331,7 @@ impl<M: Memory> CardTable<M> {
             seat: other,
         } = right;
         join_seat::<M, Joined>(&self.table, &mut seat, other);
-        self.give_back(&mut seat, gone.place);
+        self.give_back(&mut seat, gone.announcement);
         let steps = steps.max(others).saturating_add(1);
         Ok(Pass {
             keys,
@@ -343,9 +343,9 @@ impl<M: Memory> CardTable<M> {
         })
     }
 
-    /// Gives a pass up. If the table has places, and the pass is in no operation and no look, its place is free from
-    /// now on, so that a later split finds it. Without places nothing happens. Its keys and its share stay with
-    /// nobody.
+    /// Gives a pass up. If the table's cards come back, and the pass is in no operation and no look, its announcement
+    /// is free from now on, so that a later split finds it. Where cards do not come back nothing happens. Its keys and
+    /// its share stay with nobody.
     pub fn release(&self, pass: Pass<M>)
         requires own { pass.table ≡ self.now.id }
     {
@@ -360,13 +360,12 @@ impl<M: Memory> CardTable<M> {
         if standing.announces {
             return;
         }
-        let (Some(slots), Some(place)) = (self.slots, standing.place) else {
+        let (Some(slots), Some(announcement)) = (self.slots, standing.announcement) else {
             return;
         };
-        // What it has set free may be taken by those that begin a period from now on, however few slots each pass
-        // takes.
+        // What it has set free may be taken by those that are pinned from now on, however few slots each pass takes.
         self.advance(&mut seat, slots);
-        self.give_up(&mut seat, slots, place);
+        self.give_back_own(&mut seat, slots, announcement);
     }
 }
 
@@ -423,7 +422,7 @@ fn first_words<A: Allocator + Copy>(alloc: A, plan: &Plan<A>) -> Result<Vec<u64,
     };
     let cards = card_words(alloc, plan, last, room)?;
     are_words(cards.as_slice());
-    let words = with_places(cards, plan.slots, start_count(plan))?;
+    let words = with_epochs(cards, plan.slots, start_count(plan))?;
     Ok(words)
 }
 
@@ -455,14 +454,14 @@ fn card_words<A: Allocator + Copy>(
     Ok(words)
 }
 
-// These words, and behind them those of the periods, if there are places: the clock is 1, nobody has a place but the
-// first pass, and each slot is free but for the card of the root and those of so many start keys.
-fn with_places<A: Allocator + Copy>(
+// These words, and behind them those of the epochs, if cards come back: the epoch is 1, nobody has an announcement but
+// the first pass, and each slot is free but for the card of the root and those of so many start keys.
+fn with_epochs<A: Allocator + Copy>(
     words: Vec<u64, A>,
     slots: Option<Slots>,
     given: u64,
 ) -> Result<Vec<u64, A>, AllocError>
-    requires fit { IfSome slots (λ s. (given ≤ s.last) × (s.last ≤ greatest_card) × (s.places ≤ greatest_card)
+    requires fit { IfSome slots (λ s. (given ≤ s.last) × (s.last ≤ greatest_card) × (s.announcements ≤ greatest_card)
         × (length words.items ≡ table_size s.last)) }
     ensures { IfOk result (λ all. AreWholeWords slots given words.items all.items) }
 {
@@ -474,21 +473,21 @@ fn with_places<A: Allocator + Copy>(
     Ok(words)
 }
 
-// These words, and behind them those of periods, and of slots that are all free.
+// These words, and behind them those of epochs, and of slots that are all free.
 fn with_free_slots<A: Allocator + Copy>(
     words: Vec<u64, A>,
     slots: Slots,
 ) -> Result<Vec<u64, A>, AllocError>
     requires last { slots.last ≤ greatest_card }
-    requires few { slots.places ≤ greatest_card }
+    requires few { slots.announcements ≤ greatest_card }
     requires size { length words.items ≡ table_size slots.last }
     ensures { IfOk result (λ all. all.items ≡ words_of_free_slots slots words.items) }
 {
     let mut words = words;
     words.resize(slot_word(slots, 0), 0)?;
     words.resize(slots_size(slots), FREE_FROM_START)?;
-    words[clock_word(slots)] = 1;
-    words[place_word(slots, 0)] = 1;
+    words[epoch_word(slots)] = 1;
+    words[announcement_word(slots, 0)] = 1;
     Ok(words)
 }
 
@@ -496,7 +495,7 @@ fn with_free_slots<A: Allocator + Copy>(
 fn use_slots(words: &mut [u64], slots: Slots, upto: u64)
     requires inside { upto ≤ slots.last }
     requires last { slots.last ≤ greatest_card }
-    requires few { slots.places ≤ greatest_card }
+    requires few { slots.announcements ≤ greatest_card }
     requires size { length words.old ≡ slots_size slots }
     ensures size { length words.new ≡ slots_size slots }
     ensures used { (slot : ℕ) → slot ≤ upto → slice_index words.new (slot_word slots slot) ≡ taken_word 0 }

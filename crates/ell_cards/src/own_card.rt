@@ -25,17 +25,18 @@ use ell_word::{State, Update, pack};
 use std::marker::Brand;
 
 impl<M: Memory, G: StepGate> TableSteps<'_, M, G> {
-    /// Takes all numbers from the card that `next` read in this try to a later one at once, if the card is still the next
-    /// one. Returns `true` if it did: then each of them was laid aside but the last one, which is in hand, as after so many
-    /// claims in a row with `next` between two of them. Where each card has words of its own, it takes the one card. The
-    /// node of an insert's or a swap's card gets this key: the greater one of its two keys, in a flat tree their branch.
-    /// In a flat tree the pass may have a card in hand that has not won its flag, which it lays aside if it takes these.
+    /// Takes all numbers from the card that `next` read in this try to a later one at once, if the card is still the
+    /// next one. Returns `true` if it did: then each of them was discarded but the last one, which is in hand, as after
+    /// so many claims in a row with `next` between two of them. Where each card has words of its own, it takes the one
+    /// card. The node of an insert's or a swap's card gets this key: the greater one of its two keys, in a flat tree
+    /// their branch. In a flat tree the pass may have a card in hand that has not won its flag, which it discards if it
+    /// takes these.
     #[inline(always)]
     pub(crate) fn claim_row(self, pass: &mut Pass<M>, first: u64, last: u64, node_key: u64) -> bool
         requires own { pass.old.table ≡ self.table.now.id }
         requires may { MayClaim (flat_from self.table.now.plan) pass.old.view first
             (new_node self.table.now.plan node_key) }
-        // A card in hand that it lays aside is none whose slot it has taken.
+        // A card in hand that it discards is none whose slot it has taken.
         requires kept { MayInTable self.table.now.plan pass.old
             (call.Claim first (new_node self.table.now.plan node_key)) }
         requires row { IsRow self.table.now.plan first last }
@@ -46,14 +47,14 @@ impl<M: Memory, G: StepGate> TableSteps<'_, M, G> {
         ensures fresh { IsFresh self.entry.table.now.plan pass.old.memory.slot result last }
     {
         self.table.names(pass);
-        self.table.places_are_in_flat_trees();
+        self.table.reusing_trees_are_flat();
         self.table
             .exchange_claim::<Brand, G>(pass, first, node_key, last + 1, self.gate)
             == first
     }
 
     /// Stores a word of the card in hand, which is not flagged: for the grandparent or the parent the low 38 bits of a
-    /// node, as the pass knows them. If the table has places, the pass has taken the card's slot.
+    /// node, as the pass knows them. If the table's cards come back, the pass has taken the card's slot.
     #[inline(always)]
     pub fn fill(self, pass: &mut Pass<M>, card: u64, field: Field, value: u64)
         requires own { pass.old.table ≡ self.table.now.id }
@@ -68,9 +69,9 @@ impl<M: Memory, G: StepGate> TableSteps<'_, M, G> {
     }
 
     /// Flags the parent for the insert whose card is in hand, filled: exchanges the update that was read there for the
-    /// card's flag. If that fails, the error is the update that was found, and the card is laid aside. If the table has
-    /// places, each word that the card says was stored; and if the flag fails, the card's slot is set free, by steps
-    /// that are not counted.
+    /// card's flag. If that fails, the error is the update that was found, and the card is discarded. If the table's
+    /// cards come back, each word that the card says was stored; and if the flag fails, the card's slot is set free, by
+    /// steps that are not counted.
     #[inline(always)]
     pub fn iflag(
         self,
@@ -100,9 +101,9 @@ impl<M: Memory, G: StepGate> TableSteps<'_, M, G> {
     }
 
     /// Flags the grandparent for the delete whose card is in hand, filled: exchanges the update that was read there for
-    /// the card's flag. If that fails, the error is the update that was found, and the card is laid aside. If the table
-    /// has places, each word that the card says was stored; and if the flag fails, the card's slot is set free, by
-    /// steps that are not counted.
+    /// the card's flag. If that fails, the error is the update that was found, and the card is discarded. If the
+    /// table's cards come back, each word that the card says was stored; and if the flag fails, the card's slot is set
+    /// free, by steps that are not counted.
     #[inline(always)]
     pub fn dflag(
         self,

@@ -4,7 +4,7 @@ ghost use Rattle.std.specs.List.Sorted.{IsStrictlyIncreasing};
 ghost use Rattle.ell_cards.specs.Models.{Counts, Owns, PassModel, one_more};
 ghost use Rattle.ell_runs.specs.Views.{MayPart, whole_share};
 ghost use Rattle.ell_runs.specs.Changes.{ledger_keys};
-ghost use Rattle.ell_cards.specs.Periods.{period_by};
+ghost use Rattle.ell_cards.specs.Epochs.{participant_by};
 
 use crate::memory::{Memory, Seat};
 use crate::share::{Share, WHOLE_SHARE};
@@ -23,47 +23,57 @@ pub struct Pass<M: Memory> {
     pub(crate) seat: Seat<M>,
 }
 
-/// The place that a pass has in a table with places, whether it announces there that it is in a period, and its safe number.
+/// The announcement that a pass has in a table whose cards come back, whether it announces there that it is pinned, and
+/// its safe epoch.
 #[derive(Clone, Copy)]
 pub(crate) struct Standing {
-    pub place: Option<u64>,
+    pub announcement: Option<u64>,
     pub announces: bool,
-    /// The place that it found last for a part of it, at first its own: behind it, it looks for the next one. It may be any
-    /// number.
+    /// The announcement that it found last for a part of it, at first its own: behind it, it looks for the next one. It
+    /// may be any number.
     pub found: u64,
-    /// Its safe number, at first 0.
-    pub safe: u64,
-    /// How many numbers that have slots it went by for which it has not looked at all places. It may be any number.
+    /// Its safe epoch, at first 0.
+    pub safe_epoch: u64,
+    /// How many numbers that have slots it went by for which it has not looked at all announcements. It may be any
+    /// number.
     pub numbers: u64,
 }
 
 impl Standing {
-    /// Returns where the first pass of a table stands: at the first place, if there is one.
+    /// Returns where the first pass of a table stands: at the first announcement, if there is one.
     pub(crate) fn first(slots: Option<Slots>) -> Standing
-        ensures { result ≡ record { place = (period_by slots).place; announces = false; found = 0; safe = 0; numbers = 0 } }
+        ensures { result ≡
+            record {
+              announcement = (participant_by slots).announcement;
+              announces = false;
+              found = 0;
+              safe_epoch = 0;
+              numbers = 0;
+            } }
     {
         Standing {
-            place: slots.map(|_| 0),
+            announcement: slots.map(|_| 0),
             announces: false,
             found: 0,
-            safe: 0,
+            safe_epoch: 0,
             numbers: 0,
         }
     }
 
-    /// Returns where a part stands that gets this place, if there is one, and leaves the number of the place with the pass, so
-    /// that both look behind it for the next one.
-    pub(crate) fn parted(&mut self, place: Option<u64>) -> Standing
-        ensures own { (self.new.place ≡ self.old.place) × (self.new.announces ≡ self.old.announces) × (self.new.safe ≡ self.old.safe) }
-        ensures given { (result.place ≡ place) × (result.announces ≡ false) × (result.safe ≡ 0) }
+    /// Returns where a part stands that gets this announcement, if there is one, and leaves the number of the
+    /// announcement with the pass, so that both look behind it for the next one.
+    pub(crate) fn parted(&mut self, announcement: Option<u64>) -> Standing
+        ensures own { (self.new.announcement ≡ self.old.announcement) × (self.new.announces ≡ self.old.announces) ×
+            (self.new.safe_epoch ≡ self.old.safe_epoch) }
+        ensures given { (result.announcement ≡ announcement) × (result.announces ≡ false) × (result.safe_epoch ≡ 0) }
     {
-        let found = place.unwrap_or(self.found);
+        let found = announcement.unwrap_or(self.found);
         self.found = found;
         Standing {
-            place,
+            announcement,
             announces: false,
             found,
-            safe: 0,
+            safe_epoch: 0,
             numbers: 0,
         }
     }
@@ -89,7 +99,7 @@ impl<M: Memory> Model for Pass<M> {
       view = shown p.seat.me.0.tree;
       steps = p.steps;
       label = p.label;
-      memory = memory_of p.seat.me.0.period;
+      memory = memory_of p.seat.me.0.participant;
       sight = p.seat.me.0.sight;
     } };
 

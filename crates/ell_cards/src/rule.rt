@@ -30,7 +30,8 @@ impl Telling for Brand {
     ghost then = { λ found v. ⊤ };
 }
 
-/// A step that tells what its caller picked, leaves what the pass knows of periods and of the history, and takes no slot.
+/// A step that tells what its caller picked, leaves what the pass knows of epochs and of the history, and takes no
+/// slot.
 pub(crate) struct By<J> {
     told: PhantomData<J>,
 }
@@ -40,19 +41,19 @@ impl<J: Telling> Play<(), Known> for By<J> {
     ghost use Rattle.ell_cards.specs.Shown.{shown};
 
     ghost then = { λ step old found new. J.then found (shown new.0.tree)
-        × (new.0.period ≡ old.0.period) × (new.1 ≡ old.1) × (new.0.sight ≡ old.0.sight) };
+        × (new.0.participant ≡ old.0.participant) × (new.1 ≡ old.1) × (new.0.sight ≡ old.0.sight) };
 }
 
-/// What a step tells of the word that it found and of what is shown of what the pass knows of the tree after it, and what the pass
-/// notes of periods by that word. The caller of the step picks both.
+/// What a step tells of the word that it found and of what is shown of what the pass knows of the tree after it, and
+/// what the pass notes of epochs by that word. The caller of the step picks both.
 pub(crate) trait Noting {
     ghost use Rattle.std.specs.Prelude.{ℕ};
-    ghost use Rattle.ell_cards.specs.declared.view.Period.{Period};
+    ghost use Rattle.ell_cards.specs.declared.view.Participant.{Participant};
     ghost use Rattle.ell_runs.specs.declared.view.View.{View};
 
     ghost then: { ℕ → View → Type 0 };
 
-    ghost notes: { ℕ → Period → Period };
+    ghost notes: { ℕ → Participant → Participant };
 }
 
 impl Noting for Brand {
@@ -73,7 +74,7 @@ impl<J: Noting> Play<(), Known> for Noted<J> {
     ghost use Rattle.ell_cards.specs.Shown.{shown};
 
     ghost then = { λ step old found new. J.then found (shown new.0.tree)
-        × (new.0.period ≡ J.notes found old.0.period) × (new.1 ≡ old.1) × (new.0.sight ≡ old.0.sight) };
+        × (new.0.participant ≡ J.notes found old.0.participant) × (new.1 ≡ old.1) × (new.0.sight ≡ old.0.sight) };
 }
 
 /// What a step tells, as `Telling`, and the step call that it is, by which the pass may see more of the history. The caller of
@@ -97,8 +98,8 @@ impl Marking for Brand {
     ghost call = { call.Look };
 }
 
-/// A step that tells what its caller picked, by which the pass sees what the step call tells of the history, and that leaves
-/// what the pass knows of periods, and takes no slot.
+/// A step that tells what its caller picked, by which the pass sees what the step call tells of the history, and that
+/// leaves what the pass knows of epochs, and takes no slot.
 pub(crate) struct Marked<J> {
     told: PhantomData<J>,
 }
@@ -109,7 +110,7 @@ impl<J: Marking> Play<(), Known> for Marked<J> {
     ghost use Rattle.ell_cards.specs.Shown.{shown};
 
     ghost then = { λ step old found new. J.then found (shown new.0.tree)
-        × (new.0.period ≡ old.0.period) × (new.1 ≡ old.1)
+        × (new.0.participant ≡ old.0.participant) × (new.1 ≡ old.1)
         × Marks J.call (shown old.0.tree) old.0.sight new.0.sight };
 }
 
@@ -133,8 +134,8 @@ impl TellingAll for Brand {
     ghost plan = { record { keys = []; start = []; last_card = 0; shared = false; flat = false; slots = None } };
 }
 
-/// A step that tells what its caller picked, by which the pass sees all of the table's history, and that leaves what the pass
-/// knows of periods, and takes no slot.
+/// A step that tells what its caller picked, by which the pass sees all of the table's history, and that leaves what
+/// the pass knows of epochs, and takes no slot.
 pub(crate) struct All<J> {
     told: PhantomData<J>,
 }
@@ -145,13 +146,13 @@ impl<J: TellingAll> Play<(), Known> for All<J> {
     ghost use Rattle.ell_cards.specs.Shown.{shown};
 
     ghost then = { λ step old found new. J.then found (shown new.0.tree)
-        × (new.0.period ≡ old.0.period) × (new.1 ≡ old.1)
+        × (new.0.participant ≡ old.0.participant) × (new.1 ≡ old.1)
         × HasSeenMore old.0.sight new.0.sight × HasSeenAll J.plan (shown old.0.tree) new.0.sight
         × (new.0.sight.begun ≡ old.0.sight.begun) };
 }
 
 /// A step of a look that tells what its caller picked, by which the pass sees all of the table's history, and where in
-/// it what the look has found stands, and that leaves what the pass knows of periods, and takes no slot.
+/// it what the look has found stands, and that leaves what the pass knows of epochs, and takes no slot.
 pub(crate) struct Looked<J> {
     told: PhantomData<J>,
 }
@@ -162,34 +163,34 @@ impl<J: TellingAll> Play<(), Known> for Looked<J> {
     ghost use Rattle.ell_cards.specs.Shown.{shown};
 
     ghost then = { λ step old found new. J.then found (shown new.0.tree)
-        × (new.0.period ≡ old.0.period) × (new.1 ≡ old.1)
+        × (new.0.participant ≡ old.0.participant) × (new.1 ≡ old.1)
         × SeesMoreInLook old.0.sight new.0.sight × FindsHavePlaces J.plan (shown new.0.tree) new.0.sight };
 }
 
-/// What a step tells of the word that it found and of what the pass knows of periods after it. The caller of the step picks
-/// it.
-pub(crate) trait PeriodTelling {
+/// What a step tells of the word that it found and of what the pass knows of epochs after it. The caller of the step
+/// picks it.
+pub(crate) trait ParticipantTelling {
     ghost use Rattle.std.specs.Prelude.{ℕ};
-    ghost use Rattle.ell_cards.specs.declared.view.Period.{Period};
+    ghost use Rattle.ell_cards.specs.declared.view.Participant.{Participant};
 
-    ghost then: { ℕ → Period → Type 0 };
+    ghost then: { ℕ → Participant → Type 0 };
 }
 
-impl PeriodTelling for Brand {
+impl ParticipantTelling for Brand {
     ghost use Rattle.std.specs.Prelude.{⊤};
 
     ghost then = { λ found p. ⊤ };
 }
 
 /// A step that tells what its caller picked, leaves what the pass knows of the tree and of the history, and takes no slot.
-pub(crate) struct InPeriod<J> {
+pub(crate) struct OnEpochs<J> {
     told: PhantomData<J>,
 }
 
-impl<J: PeriodTelling> Play<(), Known> for InPeriod<J> {
+impl<J: ParticipantTelling> Play<(), Known> for OnEpochs<J> {
     ghost use Rattle.std.specs.Prelude.{◌≡◌};
 
-    ghost then = { λ step old found new. J.then found new.0.period
+    ghost then = { λ step old found new. J.then found new.0.participant
         × (new.0.tree ≡ old.0.tree) × (new.1 ≡ old.1) × (new.0.sight ≡ old.0.sight) };
 }
 
@@ -206,21 +207,21 @@ impl SplitBy for Brand {
     ghost keys = { [] };
 }
 
-/// A split by the keys that its caller picked. The right part gets the other place of the pass.
+/// A split by the keys that its caller picked. The right part gets the other announcement of the pass.
 pub(crate) struct PartedBy<J> {
     parts: PhantomData<J>,
 }
 
 impl<J: SplitBy> Split<Known> for PartedBy<J> {
     ghost use Rattle.ell_runs.specs.Changes.{left_view, right_view};
-    ghost use Rattle.ell_cards.specs.Periods.{after_give, given_period};
+    ghost use Rattle.ell_cards.specs.Epochs.{after_give, given_participant};
     ghost use Rattle.ell_runs.specs.Sights.{given_sight};
 
-    ghost left = { λ k. record k { tree = left_view J.keys k.tree; period = after_give k.period } };
+    ghost left = { λ k. record k { tree = left_view J.keys k.tree; participant = after_give k.participant } };
 
     ghost right = { λ k. record {
       tree = right_view J.keys k.tree;
-      period = given_period k.period;
+      participant = given_participant k.participant;
       sight = given_sight k.sight;
     } };
 }

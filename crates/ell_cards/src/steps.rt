@@ -11,10 +11,10 @@ ghost use Rattle.ell_runs.specs.Depths.{IsShallow, deepest};
 ghost use Rattle.ell_cards.specs.Addresses.{place_of, slot_address};
 ghost use Rattle.ell_runs.specs.Calls.{atomic_of, next_link, Load, Exchange, after, May, Tells};
 ghost use Rattle.ell_runs.specs.Looking.{KeysAreFixed, ReadsItsOwn, MissesItsOwn};
-ghost use Rattle.ell_cards.specs.Tied.{FlagsNone, FlagsCard};
+ghost use Rattle.ell_cards.specs.Refinement.{FlagsNone, FlagsCard};
 ghost use Rattle.ell_runs.specs.Seeing.{IsCalm, Marks};
 ghost use Rattle.ell_cards.specs.Shown.{IsNoClaim, cut_word, shown_word};
-ghost use Rattle.ell_cards.specs.Stepping.{Enters, IsQuiet, MayInTable};
+ghost use Rattle.ell_cards.specs.Stepping.{Pins, IsQuiet, MayInTable};
 
 use crate::gate::{StepGate, StepKind};
 use crate::memory::Memory;
@@ -22,7 +22,7 @@ use crate::pass::Pass;
 use crate::table::CardTable;
 use ell_layout::Field;
 use ell_runs::Call;
-use ell_word::{Link, TURN_SIZE, child_word};
+use ell_word::{GENERATION_SIZE, Link, child_word};
 use std::alloc::AllocError;
 use std::marker::Brand;
 
@@ -126,22 +126,22 @@ impl<M: Memory, G: StepGate> TableSteps<'_, M, G> {
         found
     }
 
-    /// A step call that loads its word, as `see`, in a period: where there are places, and the pass is in no period, it begins
-    /// one first, by a load of the clock and a store to its place, which are not counted.
+    /// A step call that loads its word, as `see`, when the pass is pinned: where cards come back, and it is not pinned,
+    /// it is pinned first, by a load of the epoch and a store to its announcement, which are not counted.
     #[inline(always)]
-    pub(crate) fn see_entered(self, pass: &mut Pass<M>, call: Call, word: usize) -> u64
+    pub(crate) fn see_pinned(self, pass: &mut Pass<M>, call: Call, word: usize) -> u64
         requires own { pass.old.table ≡ self.table.now.id }
         requires may { May self.table.now.plan call pass.old.view }
         requires word { word ≡ place_of call }
         requires kept { MayInTable self.table.now.plan pass.old call }
         requires atomic { atomic_of call ≡ Load }
-        ensures step { Enters self.entry.table.now.plan.slots pass.old pass.new (after call result pass.old.view) }
+        ensures step { Pins self.entry.table.now.plan.slots pass.old pass.new (after call result pass.old.view) }
         ensures marks { Marks call pass.old.view pass.old.sight pass.new.sight }
         ensures tells { Tells self.entry.table.now.plan call pass.old.view result }
         ensures shallow { (x : ℕ) → IsShallow (deepest self.entry.table.now.plan) pass.new.view x }
     {
         self.table
-            .load_entered_as::<Brand, G>(pass, call, word, self.gate)
+            .load_pinned_as::<Brand, G>(pass, call, word, self.gate)
     }
 
     /// The step call that stores a word of the card in hand.
@@ -188,8 +188,9 @@ impl<M: Memory, G: StepGate> TableSteps<'_, M, G> {
             .exchange_as::<Brand, G>(pass, call, word, expected, value, self.gate)
     }
 
-    /// A step call that sets the flag of the card in hand, if the word has the expected value, and returns what it found. If
-    /// that fails, the card is laid aside, and in a table with places its slot is set free, by steps that are not counted.
+    /// A step call that sets the flag of the card in hand, if the word has the expected value, and returns what it
+    /// found. If that fails, the card is discarded, and in a table whose cards come back its slot is set free, by steps
+    /// that are not counted.
     #[inline(always)]
     pub(crate) fn flag(
         self,
@@ -256,7 +257,7 @@ fn next_word(old: Link, node: u64) -> u64
 {
     let next = Link {
         node: child_word(node),
-        tag: (old.tag + 1) % TURN_SIZE,
+        tag: (old.tag + 1) % GENERATION_SIZE,
     };
     next.word()
 }

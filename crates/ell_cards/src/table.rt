@@ -14,15 +14,15 @@ ghost use Rattle.ell_cards.specs.InSlots.{IsPlaced};
 ghost use Rattle.ell_runs.specs.Depths.{deepest};
 ghost use Rattle.ell_cards.specs.Addresses.{place_of};
 ghost use Rattle.ell_runs.specs.Calls.{atomic_of, Load, Store, Exchange, May};
-ghost use Rattle.ell_cards.specs.declared.view.Period.{Period};
-ghost use Rattle.ell_cards.specs.Periods.{after_flagging};
-ghost use Rattle.ell_cards.specs.Tied.{FlagsNone, FlagsCard};
+ghost use Rattle.ell_cards.specs.declared.view.Participant.{Participant};
+ghost use Rattle.ell_cards.specs.Epochs.{after_flagging};
+ghost use Rattle.ell_cards.specs.Refinement.{FlagsNone, FlagsCard};
 ghost use Rattle.ell_runs.specs.declared.call.Call.TheVariants as call;
 ghost use Rattle.ell_runs.specs.Seeing.{HasSeenAll, HasSeenMore, IsCalm, Marks};
 ghost use Rattle.ell_cards.specs.Shown.{StoresWord};
 ghost use Rattle.ell_cards.specs.Skipping.{MayStepOn};
 ghost use Rattle.ell_cards.specs.SlotWords.{slot_of};
-ghost use Rattle.ell_cards.specs.Stepping.{EntersBy, Exchanges, IsQuiet, MayInTable, MayTell, KeepsPass, SeesBy, SeesOnBy, StepsBy};
+ghost use Rattle.ell_cards.specs.Stepping.{PinsBy, Exchanges, IsQuiet, MayInTable, MayTell, KeepsPass, SeesBy, SeesOnBy, StepsBy};
 
 use crate::gate::{StepGate, StepKind, kind_of};
 use crate::memory::Memory;
@@ -76,16 +76,17 @@ impl<M: Memory> CardTable<M> {
         ensures short { NamesLowBits pass.now.view }
         // No internal node of the table is deeper than this.
         ensures deep { deepest self.now.plan ≤ greatest_number + 64 }
-        // Without places, the last card is at most `CARD_MAX`, and no internal node is more than 64 deeper than that.
+        // Where cards do not come back, the last card is at most `CARD_MAX`, and no internal node is more than 64
+        // deeper than that.
         ensures few { self.now.plan.slots ≡ None → self.now.plan.last_card ≤ greatest_card }
         ensures shallow { self.now.plan.slots ≡ None → deepest self.now.plan ≤ greatest_card + 64 }
     {
         self.names(pass);
     }
 
-    // A law, as the ones before: the tree of a table with places is flat.
+    // A law, as the ones before: the tree of a table whose cards come back is flat.
     #[inline(always)]
-    pub(crate) fn places_are_in_flat_trees(&self)
+    pub(crate) fn reusing_trees_are_flat(&self)
         ensures { self.now.plan.slots ≢ None → self.now.plan.flat ≡ true }
     {
         let _ = &self.table;
@@ -175,10 +176,10 @@ impl<M: Memory> CardTable<M> {
         self.table.load::<All<J>>(&mut pass.seat, 0)
     }
 
-    // Loads a word, a step that is not counted, after the pass has begun a period if there are places and it is in none. The gate is
-    // told before that.
+    // Loads a word, a step that is not counted, after the pass was pinned if cards come back and it was not. The gate
+    // is told before that.
     #[inline(always)]
-    pub(crate) fn load_entered_as<J: Marking, G: StepGate>(
+    pub(crate) fn load_pinned_as<J: Marking, G: StepGate>(
         &self,
         pass: &mut Pass<M>,
         call: Call,
@@ -194,10 +195,10 @@ impl<M: Memory> CardTable<M> {
         requires keeps { KeepsPass self.now.plan pass.old.view J.then }
         requires marks { J.call ≡ call }
         ensures told { J.then result pass.new.view }
-        ensures step { EntersBy self.now.plan.slots call pass.old pass.new }
+        ensures step { PinsBy self.now.plan.slots call pass.old pass.new }
     {
         gate.before(pass.label, kind_of(call));
-        self.enter(&mut pass.standing, &mut pass.seat);
+        self.pin(&mut pass.standing, &mut pass.seat);
         self.table.load::<Marked<J>>(&mut pass.seat, word)
     }
 
@@ -259,7 +260,7 @@ impl<M: Memory> CardTable<M> {
         found
     }
 
-    // Sets the flag of the card in hand, and sets its slot free if the flag is lost, as the card is laid aside then.
+    // Sets the flag of the card in hand, and sets its slot free if the flag is lost, as the card is discarded then.
     #[inline(always)]
     pub(crate) fn flag_as<J: Noting, G: StepGate>(
         &self,
@@ -280,7 +281,7 @@ impl<M: Memory> CardTable<M> {
         requires atomic { atomic_of call ≡ Exchange expected value }
         requires tells { MayTell self.now.plan call pass.old.view J.then }
         requires keeps { KeepsPass self.now.plan pass.old.view J.then }
-        requires notes { (n : ℕ) (p : Period) →
+        requires notes { (n : ℕ) (p : Participant) →
             J.notes n p ≡ after_flagging self.now.plan.slots (n == expected) card p }
         ensures told { J.then result pass.new.view }
         ensures step { StepsBy pass.old pass.new }
@@ -290,7 +291,7 @@ impl<M: Memory> CardTable<M> {
             .table
             .compare_exchange::<Noted<J>>(&mut pass.seat, word, expected, value);
         pass.steps = one_more(pass.steps);
-        self.free_aside(&mut pass.seat, card, found != expected);
+        self.free_discarded(&mut pass.seat, card, found != expected);
         found
     }
 

@@ -1,7 +1,7 @@
 //! Taking a card: a pass claims the next one, and where cards lie in slots, the next one whose slot it could take, with
-//! all numbers before it, which it lays aside; and it takes that one's slot.
+//! all numbers before it, which it discards; and it takes that one's slot.
 ghost use Rattle.std.specs.Prelude.{◌≡◌, ◌≤◌, IfSome, None, Some, if◌then◌else◌, true};
-ghost use Rattle.ell_cards.specs.Claiming.{AsksForCard, ComesOf, ComesOfOne, CouldTake, HoldsAside, MayAskForCard, claim_steps, with_slot};
+ghost use Rattle.ell_cards.specs.Claiming.{AsksForCard, ComesOf, ComesOfOne, CouldTake, HoldsDiscardable, MayAskForCard, claim_steps, with_slot};
 ghost use Rattle.ell_cards.specs.Models.{LooksAround};
 ghost use Rattle.ell_cards.specs.SlotWords.{could_take, has_slot_in};
 ghost use Rattle.ell_runs.specs.Guards.{MayFill};
@@ -11,7 +11,7 @@ use crate::gate::StepGate;
 use crate::memory::Memory;
 use crate::pass::Pass;
 use crate::slot_words::{
-    is_for_all, is_free_before, next_with_slot, numbers_per_look, slot_of, turn_of,
+    generation_of, is_for_all, is_free_before, next_with_slot, numbers_per_look, slot_of,
 };
 use crate::steps::TableSteps;
 use crate::table::CardTable;
@@ -67,7 +67,7 @@ impl<M: Memory, G: StepGate> TableSteps<'_, M, G> {
         Claimed::NoneLeft
     }
 
-    // Claims the next card, if one is left, in a table without places.
+    // Claims the next card, if one is left, in a table whose cards do not come back.
     fn claim_next(self, pass: &mut Pass<M>, node_key: u64) -> Claimed
         requires own { pass.old.table ≡ self.table.now.id }
         requires plain { self.table.now.plan.slots ≡ None }
@@ -90,7 +90,7 @@ impl<M: Memory, G: StepGate> TableSteps<'_, M, G> {
     }
 
     // Claims the next card whose slot the pass could take, if one is left, with all numbers before it, and takes its
-    // slot. Returns `None` if that is in use by now: the card is in hand, and may be laid aside.
+    // slot. Returns `None` if that is in use by now: the card is in hand, and may be discarded.
     fn claim_free(
         self,
         pass: &mut Pass<M>,
@@ -100,14 +100,14 @@ impl<M: Memory, G: StepGate> TableSteps<'_, M, G> {
     ) -> Option<Claimed>
         requires own { pass.old.table ≡ self.table.now.id }
         requires slots { self.table.now.plan.slots ≡ Some slots }
-        requires hand { HoldsAside pass.old }
+        requires hand { HoldsDiscardable pass.old }
         requires stands { MayAskForCard self.table.now.plan pass.old.view node_key }
         ensures asks { AsksForCard self.entry.table.now.plan (new_node self.entry.table.now.plan node_key) 2 pass.old
             pass.new }
         ensures comes { ComesOfOne self.entry.table.now.plan (new_node self.entry.table.now.plan node_key) pass.old
             pass.new result }
     {
-        self.table.places_are_in_flat_trees();
+        self.table.reusing_trees_are_flat();
         let first = self.next(pass);
         if first > self.table.last_card() {
             return Some(Claimed::NoneLeft);
@@ -129,8 +129,8 @@ impl<M: Memory, G: StepGate> TableSteps<'_, M, G> {
 
 impl<M: Memory> CardTable<M> {
     // Returns the least number of a card, from this card on, whose slot the pass could take as it read the slots'
-    // words: at most one round of them, and one more if there was none, and the places then tell of a greater safe
-    // number. Returns `None` if there is none, or none that the table has.
+    // words: at most one round of them, and one more if there was none, and the announcements then tell of a greater
+    // safe epoch. Returns `None` if there is none, or none that the table has.
     fn find_free(
         &self,
         pass: &mut Pass<M>,
@@ -143,14 +143,14 @@ impl<M: Memory> CardTable<M> {
         requires room { card ≤ self.now.plan.last_card }
         ensures same { LooksAround pass.old pass.new }
         ensures found { IfSome result (λ f. (card ≤ f.card) × (f.card ≤ self.now.plan.last_card)
-            × CouldTake slots pass.new.memory.safe f) }
+            × CouldTake slots pass.new.memory.safe_epoch f) }
     {
         self.look_first(pass);
-        let before = pass.standing.safe;
+        let before = pass.standing.safe_epoch;
         if let Some(found) = self.seek_free(pass, slots, card, for_delete) {
             return Some(found);
         }
-        if before < self.safe_number(pass) {
+        if before < self.safe_epoch(pass) {
             self.seek_free(pass, slots, card, for_delete)
         } else {
             None
@@ -171,7 +171,7 @@ impl<M: Memory> CardTable<M> {
         requires room { card ≤ self.now.plan.last_card }
         ensures same { pass.new ≡ pass.old }
         ensures found { IfSome result (λ f. (card ≤ f.card) × (f.card ≤ self.now.plan.last_card)
-            × CouldTake slots pass.new.memory.safe f) }
+            × CouldTake slots pass.new.memory.safe_epoch f) }
     {
         let _ = &self.table;
         let mut next = next_with_slot(slots, card);
@@ -189,8 +189,8 @@ impl<M: Memory> CardTable<M> {
     }
 
     // Reads the word of the slot of a card by a search for a delete or another change. Returns both if the pass could
-    // take the slot for that change: it was set free with a stamp below the pass's safe number, and it is for deletes
-    // alone only if the change is one.
+    // take the slot for that change: it was set free with a retire epoch below the pass's safe epoch, and it is for
+    // deletes alone only if the change is one.
     fn read_free(
         &self,
         pass: &mut Pass<M>,
@@ -202,10 +202,10 @@ impl<M: Memory> CardTable<M> {
         requires slots { self.now.plan.slots ≡ Some slots }
         requires slot { has_slot_in slots.last card ≡ true }
         ensures same { pass.new ≡ pass.old }
-        ensures free { IfSome result (λ f. (f.card ≡ card) × (could_take f.word pass.old.memory.safe ≡ true)) }
+        ensures free { IfSome result (λ f. (f.card ≡ card) × (could_take f.word pass.old.memory.safe_epoch ≡ true)) }
     {
         let word = self.read_slot(&mut pass.seat, slots, slot_of(card));
-        if is_free_before(word, pass.standing.safe)
+        if is_free_before(word, pass.standing.safe_epoch)
             && (for_delete || is_for_all(slots, slot_of(card)))
         {
             Some(Free { card, word })
@@ -214,14 +214,14 @@ impl<M: Memory> CardTable<M> {
         }
     }
 
-    // Counts the number of a card whose slot the pass is to take, and lets the clock go on and looks at all places
+    // Counts the number of a card whose slot the pass is to take, and advances the epoch and looks at all announcements
     // once in so many numbers that it went by. It does so for each of the next takings where it went by many at once,
     // as few slots are free, and for each slot that is for deletes alone: then the slots that these changes set free
-    // have different stamps, of which the next change can take the oldest.
+    // have different retire epochs, of which the next change can take the oldest.
     fn look_now_and_then(&self, pass: &mut Pass<M>, slots: Slots, card: u64)
         requires own { pass.old.table ≡ self.now.id }
         ensures same { LooksAround pass.old pass.new }
-        ensures more { pass.old.memory.safe ≤ pass.new.memory.safe }
+        ensures more { pass.old.memory.safe_epoch ≤ pass.new.memory.safe_epoch }
     {
         let numbers = pass.standing.numbers.saturating_add(1);
         let per_look = numbers_per_look(slots);
@@ -230,22 +230,22 @@ impl<M: Memory> CardTable<M> {
             return;
         }
         pass.standing.numbers = numbers.saturating_sub(per_look).min(slots.last);
-        self.safe_number(pass);
+        self.safe_epoch(pass);
     }
 
-    // Takes the slot of the card in hand, if its word is the one that was read: as the stamp in that was below the
-    // pass's safe number, and the slot is free still, nobody knows of the card that lay there. Returns `true` if it
+    // Takes the slot of the card in hand, if its word is the one that was read: as the retire epoch in that was below
+    // the pass's safe epoch, and the slot is free still, nobody knows of the card that lay there. Returns `true` if it
     // was.
     fn take_free(&self, pass: &mut Pass<M>, slots: Slots, free: Free) -> bool
         requires own { pass.old.table ≡ self.now.id }
         requires slots { self.now.plan.slots ≡ Some slots }
         requires hand { MayFill pass.old.view free.card }
-        requires free { CouldTake slots pass.old.memory.safe free }
+        requires free { CouldTake slots pass.old.memory.safe_epoch free }
         ensures took { pass.new ≡ (if result then with_slot free.card pass.old else pass.old) }
     {
         let _ = &self.table;
         let address = self.slot_address(slots, slot_of(free.card));
-        let taken = 8 * turn_of(free.card) + 7;
-        self.period_exchange::<Brand>(&mut pass.seat, address, free.word, taken) == free.word
+        let taken = 8 * generation_of(free.card) + 7;
+        self.epoch_exchange::<Brand>(&mut pass.seat, address, free.word, taken) == free.word
     }
 }

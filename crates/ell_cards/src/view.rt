@@ -4,50 +4,50 @@ use ell_runs::{Sight, Slots, View};
 use std::alloc::Allocator;
 use std::marker::Model;
 
-/// What a pass knows of grace periods. No value of this type is made.
+/// What a pass knows of epochs. No value of this type is made.
 #[derive(Clone, Copy)]
-pub struct Period {
-    /// Its place, unless it has none.
-    pub place: Option<u64>,
-    /// Another place that it has, to give it to another pass or to give it back, and what is announced there.
+pub struct Participant {
+    /// Its announcement, unless it has none.
+    pub announcement: Option<u64>,
+    /// Another announcement that it has, to give it to another pass or to give it back, and what is announced there.
     pub other: Option<u64>,
     pub other_says: Option<u64>,
-    /// The reading of the clock that it announces, while it is in a period.
+    /// The epoch that it announces, while it is pinned.
     pub announced: Option<u64>,
-    /// What the clock was when it announced that: the reading at least. Nobody reads it.
+    /// What the global epoch was when it announced that: that one at least. Nobody reads it.
     pub began: u64,
-    /// Its last reading of the clock.
-    pub reading: Option<u64>,
-    /// The least of that reading and of what it saw announced since.
+    /// The epoch that it read last.
+    pub epoch: Option<u64>,
+    /// The least of that epoch and of what it saw announced since.
     pub least: u64,
-    /// How many places it has looked at since.
+    /// How many announcements it has looked at since.
     pub looked: u64,
-    /// Every pass that is in a period began it when the clock was this at least.
-    pub safe: u64,
-    /// What it saw when it looked at all places last.
+    /// Its safe epoch: every pass that is pinned was pinned when the epoch was this at least.
+    pub safe_epoch: u64,
+    /// What it saw when it looked at all announcements last.
     pub surveyed: Survey,
     /// The word of a slot that it read last.
     pub read: Option<SlotRead>,
-    /// The card that it is about to set free, as its nodes are dead, or it was laid aside.
-    pub stamp: Option<Stamp>,
+    /// The card that it is about to set free, as its nodes are dead, or it was discarded.
+    pub retire_epoch: Option<RetireEpoch>,
     /// The card whose slot it has taken last.
     pub slot: Option<u64>,
-    /// What it has noted since of the nodes that this card made dead.
+    /// What it has retired since of the nodes that this card made dead.
     pub retired: Retired,
-    /// The card whose flag it lost last, which was laid aside.
+    /// The card whose flag it lost last, which was discarded.
     pub lost: Option<u64>,
 }
 
-/// What a pass saw when it looked at all places last.
+/// What a pass saw when it looked at all announcements last.
 #[derive(Clone, Copy)]
 pub struct Survey {
-    /// The reading of the clock with which it began.
-    pub clock: u64,
-    /// The least of that and of all readings that it saw announced.
+    /// The epoch with which it began.
+    pub epoch: u64,
+    /// The least of that and of all epochs that it saw announced.
     pub least: u64,
 }
 
-/// What a pass has noted of the nodes that its card in hand made dead, once that is over.
+/// What a pass has retired of the nodes that its card in hand made dead, once that is over.
 #[derive(Clone, Copy)]
 pub struct Retired {
     /// The parent that the card of a delete took out of the tree.
@@ -65,18 +65,18 @@ pub struct SlotRead {
     pub word: u64,
 }
 
-/// A card whose nodes are dead, or which was laid aside, and a reading of the clock since that was so.
+/// A card whose nodes are dead, or which was discarded, and an epoch since that was so.
 #[derive(Clone, Copy)]
-pub struct Stamp {
+pub struct RetireEpoch {
     pub card: u64,
-    pub reading: u64,
+    pub epoch: u64,
 }
 
-/// What a pass knows: of the tree, of grace periods, and of the history. No value of this type is made.
+/// What a pass knows: of the tree, of epochs, and of the history. No value of this type is made.
 #[derive(Drop)]
 pub struct Known {
     pub tree: View,
-    pub period: Period,
+    pub participant: Participant,
     pub sight: Sight,
 }
 
@@ -94,7 +94,7 @@ pub struct Plan<A: Allocator + Copy> {
     pub shared: bool,
     /// Whether the tree is flat.
     pub flat: bool,
-    /// How many cards have words, and how many places for passes there are, if there are places.
+    /// How many cards have words, and how many announcements for passes there are, if cards come back.
     pub slots: Option<Slots>,
 }
 

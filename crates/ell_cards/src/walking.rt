@@ -37,14 +37,14 @@ impl<M: Memory, G: StepGate> TableSteps<'_, M, G> {
     pub fn begin(self, pass: &mut Pass<M>, op: Op)
         requires own { pass.old.table ≡ self.table.now.id }
         requires may { MayBegin pass.old.view op }
-        // It makes one step and counts it. The pass then knows exactly what this call tells, is in a period if there are
-        // places, and counts slots that it could not take from here on.
+        // It makes one step and counts it. The pass then knows exactly what this call tells, is pinned if cards come
+        // back, and counts slots that it could not take from here on.
         ensures step { BeginsBy self.entry.table.now.plan.slots pass.old pass.new
             (after_begin (Some op) pass.old.view) }
         // It has seen its table's history up to this step, and so behind all that it had seen before.
         ensures begins { SeesBegin op pass.old.sight pass.new.sight }
     {
-        self.see_entered(pass, Call::Begin(op), root_key());
+        self.see_pinned(pass, Call::Begin(op), root_key());
         pass.count(1);
     }
 
@@ -54,28 +54,28 @@ impl<M: Memory, G: StepGate> TableSteps<'_, M, G> {
     pub fn again(self, pass: &mut Pass<M>)
         requires own { pass.old.table ≡ self.table.now.id }
         requires may { MayStop (worker_of pass.old.view.worker) }
-        // Where there are places, the pass has noted all that its card in hand made dead.
-        requires noted { LetsGo self.table.now.plan pass.old }
+        // Where cards come back, the pass has retired all that its card in hand made dead.
+        requires retired { LetsGo self.table.now.plan pass.old }
         // It makes one step and counts it. The pass then knows exactly what this call tells.
         ensures step { Steps pass.old pass.new (after_again pass.old.view) }
     {
         self.load(pass, Call::Again, root_key());
     }
 
-    /// Gives a try up and lays the operation down without an answer. Hindrances and the condition are those of `again`.
+    /// Ends a try and gives the operation up without an answer. Hindrances and the condition are those of `again`.
     #[inline(always)]
     pub fn leave(self, pass: &mut Pass<M>)
         requires own { pass.old.table ≡ self.table.now.id }
         requires may { MayStop (worker_of pass.old.view.worker) }
-        // Where there are places, the pass has noted all that its card in hand made dead.
-        requires noted { LetsGo self.table.now.plan pass.old }
-        // It makes one step and counts it. The pass then knows exactly what this call tells, and is in no period.
+        // Where cards come back, the pass has retired all that its card in hand made dead.
+        requires retired { LetsGo self.table.now.plan pass.old }
+        // It makes one step and counts it. The pass then knows exactly what this call tells, and is not pinned.
         ensures step { EndsBy pass.old pass.new (after_leave pass.old.view) }
         // The claims that the pass has tried were of cards of the table.
         ensures least { pass.old.view.next_at_least ≤ self.entry.table.now.plan.last_card + 1 }
     {
         self.load(pass, Call::Leave, root_key());
-        self.table.withdraw(pass);
+        self.table.unpin(pass);
     }
 
     /// Answers the operation in hand, by a reply and, if it is a delete that took a value, by that. What is said is the
@@ -84,9 +84,9 @@ impl<M: Memory, G: StepGate> TableSteps<'_, M, G> {
     pub fn answer(self, pass: &mut Pass<M>, said: Reply, took: Option<u64>)
         requires own { pass.old.table ≡ self.table.now.id }
         requires may { MayAnswer pass.old.view said took }
-        // Where there are places, the pass has noted all that its card in hand made dead.
-        requires noted { LetsGo self.table.now.plan pass.old }
-        // It makes one step and counts it. The pass then knows exactly what this call tells, and is in no period.
+        // Where cards come back, the pass has retired all that its card in hand made dead.
+        requires retired { LetsGo self.table.now.plan pass.old }
+        // It makes one step and counts it. The pass then knows exactly what this call tells, and is not pinned.
         ensures step { AnswersBy pass.old pass.new (after_answer said took pass.old.view) }
         // It has seen its table's history up to this step, by which a call of the pass has ended that it began no earlier
         // than the operation that it had begun last.
@@ -98,7 +98,7 @@ impl<M: Memory, G: StepGate> TableSteps<'_, M, G> {
         ensures reply { AnswersAsMap (worker_of pass.old.view.worker) (ledger_of pass.new.view.worker.ledger) said }
     {
         self.load_marked(pass, Call::Answer(said, took), root_key());
-        self.table.withdraw(pass);
+        self.table.unpin(pass);
     }
 
     /// Reads the update word of the internal node where the pass stands.
@@ -154,8 +154,8 @@ impl<M: Memory, G: StepGate> TableSteps<'_, M, G> {
     pub fn look(self, pass: &mut Pass<M>) -> Link
         requires own { pass.old.table ≡ self.table.now.id }
         requires free { IsFree pass.old.view }
-        // It makes one step, which the caller has to count. The pass then knows exactly what this call tells, and is in a
-        // period if there are places.
+        // It makes one step, which the caller has to count. The pass then knows exactly what this call tells, and is
+        // pinned if cards come back.
         ensures step { LooksBy self.entry.table.now.plan.slots pass.old pass.new
             (after call.Look (linked result) pass.old.view) }
         // It has seen its table's history up to this step, and so behind all that it had seen before.
@@ -168,7 +168,7 @@ impl<M: Memory, G: StepGate> TableSteps<'_, M, G> {
         ensures word { IsLink result }
     {
         self.table.names(pass);
-        Link::of(self.see_entered(pass, Call::Look, child_address(0, false)))
+        Link::of(self.see_pinned(pass, Call::Look, child_address(0, false)))
     }
 
     /// Goes down in a look from an internal node to which it has come, now or earlier, to the child on a side, by keys
@@ -191,18 +191,19 @@ impl<M: Memory, G: StepGate> TableSteps<'_, M, G> {
         Link::of(self.see(pass, Call::LookDown(from, keys, right), word))
     }
 
-    /// Ends a look: the pass forgets what it told, and where it had come to. Where there are places, its period ends by that.
+    /// Ends a look: the pass forgets what it told, and where it had come to. Where cards come back, it is unpinned by
+    /// that.
     #[inline(always)]
     pub fn end_look(self, pass: &mut Pass<M>)
         requires own { pass.old.table ≡ self.table.now.id }
         requires free { IsFree pass.old.view }
-        // It makes one step and counts it. The pass then knows exactly what this call tells, and is in no period.
+        // It makes one step and counts it. The pass then knows exactly what this call tells, and is not pinned.
         ensures step { EndsBy pass.old pass.new (after_rest pass.old.view) }
         // What the pass knew before is what turns have led to.
         ensures known { IsKnownInRun self.entry.table.now.plan pass.old.view }
     {
         self.forget(pass);
-        self.table.withdraw(pass);
+        self.table.unpin(pass);
     }
 
     // The step call by which a pass forgets what a look told it, and where it had come to.

@@ -20,7 +20,7 @@ pub enum Act {
     Upd,
     /// Goes down to the child on its key's side.
     Down,
-    /// Takes the next card, and fills it. In a flat tree a card in hand that has not won its flag is laid aside for it.
+    /// Takes the next card, and fills it. In a flat tree a card in hand that has not won its flag is discarded for it.
     Claim,
     /// Flags the parent for its insert.
     IFlag,
@@ -40,7 +40,7 @@ pub enum Act {
     Backtrack(u64),
     /// Starts the search anew.
     Again,
-    /// Lays the operation down without an answer.
+    /// Gives the operation up without an answer.
     Leave,
     /// Answers the operation.
     Answer,

@@ -8,7 +8,8 @@ pub mod Operations
 pub mod Looks
 -- An insert's card may name a node that is gone.
 pub mod Edges
--- How memory is reclaimed by epochs, whatever lies in it: passes announce readings of a clock. No tree is in this.
+-- How memory is reclaimed by epochs, whatever lies in it: passes announce epochs, which they read from one word. No
+-- tree is in this.
 pub mod epochs
 -- The premises of the laws can be met.
 pub mod Premises

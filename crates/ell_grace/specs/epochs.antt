@@ -1,4 +1,4 @@
--- The state that grace periods are about, and its steps.
+-- The state that the protocol of epochs is about, and its steps.
 pub mod Grace
 -- What its steps keep, and what was gone when a slot is taken.
-pub mod Periods
+pub mod Sound

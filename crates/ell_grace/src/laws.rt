@@ -6,7 +6,7 @@ ghost use Rattle.ell_grace.specs.Since.{StatesComeFromThemselves, EventsLeadOn, 
 ghost use Rattle.ell_grace.specs.Dead.{EveryStateHasUses, UsesBegin, EventsKeepUses, DeadStaysDead, DeadCardsHaveEnded, NeverComesStaysOut, TakenOutHadCome, ChildrenWereNotDead, WhatCameIsInOrOut};
 ghost use Rattle.ell_grace.specs.Tags.{EveryStateHasTags, TagsBegin, TagsLeadOn, TagsRiseByCards, TagsLagLittle};
 ghost use Rattle.ell_grace.specs.Edges.{EdgeNodeIsGone};
-ghost use Rattle.ell_grace.specs.epochs.Periods.{GraceStarts, GraceGoesOn, TakenCardsWereGone};
+ghost use Rattle.ell_grace.specs.epochs.Sound.{GraceStarts, GraceGoesOn, TakenCardsWereGone};
 ghost use Rattle.ell_grace.specs.Premises.{BeginsWhenGone, TakesWhenBusy};
 
 /// A node is gone for good once a card that took it out of the tree has ended. A worker that begins an operation at the root
@@ -82,15 +82,15 @@ pub fn tags_rise_by_cards()
     ensures lags { TagsLagLittle }
 {}
 
-/// Grace periods: whoever takes the slot of a card that was set free, each pass that is in an operation began that when the
+/// Epochs: whoever takes the slot of a card that was set free, each pass that is in an operation began that when the
 /// card was gone.
 pub fn taken_cards_were_gone()
     // A state in which nothing has begun has what the protocol rests on.
     ensures starts { GraceStarts }
     // Each step of the protocol keeps it.
     ensures steps { GraceGoesOn }
-    // Where it holds, and a free card's stamp is below a safe number, each pass that is in an operation began that when the
-    // card was gone.
+    // Where it holds, and a free card's retire epoch is below a safe epoch, each pass that is in an operation began
+    // that when the card was gone.
     ensures taken { TakenCardsWereGone }
 {}
 

@@ -105,9 +105,9 @@ counted v = record v { made = v.made + 1 }
 abbrev pub hindered_by : Hindrance → View → View
 hindered_by h v = record v { hindrances = h ∷ v.hindrances; met = h ∷ v.met }
 
--- a try is given up: what its search read in the way was a hindrance, and the try counts if what was in its way is over
-abbrev pub given_up : View → View
-given_up v = record v { hindrances = way_now v ++ v.hindrances; hindered = tries_hindered v }
+-- a try has ended: what its search read in the way was a hindrance, and the try counts if what was in its way is over
+abbrev pub after_try : View → View
+after_try v = record v { hindrances = way_now v ++ v.hindrances; hindered = tries_hindered v }
 
 -- the pass has found an update at a node
 abbrev pub with_found : ℕ → Update → View → View
@@ -159,9 +159,9 @@ at_rest ledger v = record v {
   met = [];
 }
 
--- nothing is left of the last operation, answered or laid down
+-- nothing is left of the last operation, answered or given up
 abbrev pub afresh : List (ℕ × Entry) → View → View
-afresh ledger v = record (at_rest ledger v) { next = None; answered = None; laid_down = None }
+afresh ledger v = record (at_rest ledger v) { next = None; answered = None; given_up = None }
 
 -- begin: nothing is left of what was before, this operation is in hand, and the search stands at the root
 abbrev pub after_begin : Option Op → View → View
@@ -170,11 +170,11 @@ after_begin op v =
 
 -- again: the try is given up, and the operation begins anew
 abbrev pub after_again : View → View
-after_again v = after_begin v.worker.operation (given_up v)
+after_again v = after_begin v.worker.operation (after_try v)
 
--- leave: the last try is given up, nothing is in hand any more, and the operation was laid down
+-- leave: the last try has ended, nothing is in hand any more, and the operation was given up
 abbrev pub after_leave : View → View
-after_leave v = counted (record (at_rest v.worker.ledger (given_up v)) { laid_down = v.worker.operation })
+after_leave v = counted (record (at_rest v.worker.ledger (after_try v)) { given_up = v.worker.operation })
 
 -- rest: a look is over: what it told is forgotten, and it has come nowhere any more
 abbrev pub after_rest : View → View
@@ -277,7 +277,7 @@ told_filling c [] told = told
 told_filling c (e ∷ es) told =
     if is_fixed e.0 then Info c e.0 e.1 ∷ told_filling c es told else told_filling c es told
 
--- claim: the card is in hand, in place of one that is laid aside, and its words are told; or it was lost, a hindrance
+-- claim: the card is in hand, in place of one that is discarded, and its words are told; or it was lost, a hindrance
 abbrev pub after_claim : Bool → ℕ → NewNode → View → View
 after_claim true c node v = counted (record v {
   worker = with_card c v.worker;
@@ -302,7 +302,7 @@ steps_with (e ∷ es) n = steps_with es n + 1
 abbrev pub with_stores : List (Field × ℕ) → View → View
 with_stores stores v = record v { stores = stores; made = steps_with stores v.made }
 
--- iflag and dflag: the card in hand is flagged; or another update was found at the node, and the card is laid aside
+-- iflag and dflag: the card in hand is flagged; or another update was found at the node, and the card is discarded
 abbrev pub after_flag : Bool → Fact → ℕ → Update → View → View
 after_flag true new x u v =
     record v { worker = off_the_tree v.worker.card true (with_fact new v).worker; here = None }
@@ -349,7 +349,7 @@ idle_view share worker = record {
   glances = [];
   won = [];
   answered = None;
-  laid_down = None;
+  given_up = None;
   hindrances = [];
   met = [];
   hindered = 0;

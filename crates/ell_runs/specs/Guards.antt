@@ -188,7 +188,7 @@ Wants from v (Swap k was value) parent x key node_key = WantsSwap v k was x key 
 Wants from v (Delete k) parent x key node_key = WantsDelete v k x key
 
 -- claim, in a tree that is flat from a card on, for a card whose node gets this key: next read this card, which is not
--- in hand; the pass has no card in hand, or, in a flat tree, one that has not won its flag, which it lays aside; and it
+-- in hand; the pass has no card in hand, or, in a flat tree, one that has not won its flag, which it discards; and it
 -- stands at a node whose key it was told, behind a clean parent
 pub record MayClaim (from : ℕ) (v : View) (c : ℕ) (node : NewNode) : Type 0 where
   pub op : Op

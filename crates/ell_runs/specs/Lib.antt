@@ -25,8 +25,8 @@ pub mod Turns
 pub mod TurnEffects
 -- tables as they start, and where runs lead from there
 pub mod Starts
--- cards that were laid aside
-pub mod Aside
+-- cards that were discarded
+pub mod Discarded
 -- what passes have seen of their table's history
 pub mod Seeing
 -- a small run, in which each step call is made
@@ -67,8 +67,8 @@ pub mod Histories
 pub mod Answering
 -- the value that a delete took
 pub mod Taking
--- calls that were laid down
-pub mod LayingDown
+-- calls that were given up
+pub mod GivingUp
 -- the places of looks in the sequence of calls
 pub mod Placing
 -- and in the history that passes have seen
@@ -91,5 +91,5 @@ pub use Rattle.ell_core.specs.acts.Searching
 pub use Rattle.ell_core.specs.statements.Effects
 -- which keys go to a child
 pub use Rattle.ell_core.specs.statements.Readers
--- the card that a pass has in hand, and what it is to have noted before it lets that go
+-- the card that a pass has in hand, and what it is to have retired before it lets that go
 pub mod Holding

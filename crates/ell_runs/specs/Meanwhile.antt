@@ -66,7 +66,7 @@ SearchesBeginThere = (plan : TablePlan) (s : TableState) (seat : ℕ) (c : Call)
 
 -- a run of a table from its start: it leads to a state where the pass in a seat begins a search, and then goes on by
 -- any turns of any passes, while that pass takes no other operation in hand: it may begin its search anew, again and
--- again, and lay its operation down
+-- again, and give its operation up
 pub record SearchRun (plan : TablePlan) : Type 0 where
   pub opened : TableState
   pub starts : Starts plan opened

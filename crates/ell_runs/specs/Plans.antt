@@ -2,8 +2,8 @@ use Rattle.std.specs.Prelude.{ℕ, ◌+◌, nat_lt, if◌then◌else◌, Bool, O
 use Rattle.ell_runs.specs.declared.view.Slots.{Slots}
 use Rattle.ell_runs.specs.declared.call.NewNode.{NewNode}
 
--- what a table opens with: keys that may have owners, start pairs, the last card, if all other keys are shared, if
--- the tree is flat; and, if passes have places in it, how many cards have words and how many places there are
+-- what a table opens with: keys that may have owners, start pairs, the last card, if all other keys are shared, if the
+-- tree is flat; and, if its cards come back, how many cards have words and how many announcements there are
 pub record TablePlan : Type 0 where
   pub keys : List ℕ
   pub start : List (ℕ × ℕ)

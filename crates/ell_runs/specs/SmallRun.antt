@@ -109,7 +109,7 @@ look =
     Makes 1 call.Look ∷ Makes 1 (call.KeyOf 4) ∷ Makes 1 (call.LookDown at_node_4 key_7 false)
     ∷ Makes 1 (call.KeyOf 14) ∷ Makes 1 (call.ValueOf 14) ∷ Makes 1 call.Rest ∷ []
 
--- it lays a find down, and both passes become one
+-- it gives a find up, and both passes become one
 abbrev pub ending : List Turn
 ending =
     Makes 1 (call.Begin (Find 7)) ∷ Makes 1 call.Leave ∷ Joins 0 1 ∷ []

@@ -27,15 +27,15 @@ pub record IsSharedIn (plan : TablePlan) (key : ℕ) : Type 0 where
   pub real : key ≤ greatest_key
   pub other : set_of plan.keys key ≡ false
 
--- the most places of a table
-abbrev pub most_places : ℕ
-most_places = 1000000
+-- the most announcements of a table
+abbrev pub most_announcements : ℕ
+most_announcements = 1000000
 
--- the cards of a table may come back in these slots: it has at least one place, all numbers that there are, words for
--- the cards of the start keys, and a flat tree
+-- the cards of a table may come back in these slots: it has at least one announcement, all numbers that there are,
+-- words for the cards of the start keys, and a flat tree
 pub record MayReuse (plan : TablePlan) (s : Slots) : Type 0 where
-  pub some : 1 ≤ s.places
-  pub few : s.places ≤ most_places
+  pub some : 1 ≤ s.announcements
+  pub few : s.announcements ≤ most_announcements
   pub numbers : plan.last_card ≡ greatest_number
   pub start : length plan.start ≤ s.last
   pub low : s.last ≤ greatest_card

@@ -20,7 +20,7 @@ pub enum Call {
     Begin(Op),
     /// Starts the search anew.
     Again,
-    /// Lays the operation down.
+    /// Gives the operation up.
     Leave,
     /// Answers the operation, by a reply and, if it is a delete that took a value, by that.
     Answer(Reply, Option<u64>),
@@ -44,7 +44,7 @@ pub enum Call {
     LookDown(Glance, Stretch, bool),
     /// Ends a look.
     Rest,
-    /// Takes a card, and lays one in hand aside: card, what its node is to be if it is an insert's or a swap's.
+    /// Takes a card, and discards one in hand: card, what its node is to be if it is an insert's or a swap's.
     Claim(u64, NewNode),
     /// Stores a word of a card.
     Fill(u64, Field, u64),

@@ -16,7 +16,7 @@ ghost use Rattle.ell_runs.specs.Changing.{CallsHaveTheirPoint, CallsAnswerAsAMap
 ghost use Rattle.ell_runs.specs.Linearizing.{RunsAreLinearizable, LastAnswersAreOfCalls};
 ghost use Rattle.ell_runs.specs.Histories.{HistoriesAreLinearizable};
 ghost use Rattle.ell_runs.specs.Placing.{LooksHavePlaces};
-ghost use Rattle.ell_runs.specs.LayingDown.{LaidDownCallsChangeNothing};
+ghost use Rattle.ell_runs.specs.GivingUp.{GivenUpCallsChangeNothing};
 ghost use Rattle.ell_runs.specs.Touching.{CallsTouchTheirWords, TablesHaveOuts, CallsTouchNothingGone, KnownTakenOutIsGone, RestTouchesTheRoot, PassesNameMet};
 ghost use Rattle.ell_runs.specs.Dead.{TablesHaveUses, TurnsKeepDead, CallsTouchNothingDead, CallsTouchNoDeadCard, KnownNeverComes, KnownDeadIsDead, OneCardTells};
 ghost use Rattle.ell_runs.specs.Sharing.{SharesAddUp};
@@ -122,7 +122,7 @@ pub fn tables_start()
 /// root; an insert flags the node that the delete is about to mark; the delete loses its mark to that flag, helps the
 /// insert to its end, and takes its own flag away; the insert finds itself made; the delete is tried again, marks, cuts
 /// its node out and answers; the other pass looks for the key that was inserted, finds it, and ends the look; and it
-/// begins a find, which it lays down.
+/// begins a find, which it gives up.
 pub fn each_call_can_be_made()
     // The conditions of the step calls can be met: a small run from a start makes each of them, a split and a join. In
     // it a delete loses its mark to an insert and helps it, and then is made.
@@ -226,11 +226,11 @@ pub fn calls_have_their_point()
     ensures replies { CallsReplyAsOneThread }
 {}
 
-/// A call that was laid down without an answer changes nothing: no turn of any run changes the tree for it, neither
-/// before it was laid down nor after it.
-pub fn laid_down_calls_change_nothing()
-    // A call that was laid down without an answer changes the tree at no turn, neither before that nor later.
-    ensures { LaidDownCallsChangeNothing }
+/// A call that was given up without an answer changes nothing: no turn of any run changes the tree for it, neither
+/// before it was given up nor after it.
+pub fn given_up_calls_change_nothing()
+    // A call that was given up without an answer changes the tree at no turn, neither before that nor later.
+    ensures { GivenUpCallsChangeNothing }
 {}
 
 /// Together, the passes of a table have the whole share, and each that may change a shared key has some of it.
@@ -283,9 +283,9 @@ pub fn steps_tell_what_is_there()
 
 /// What a pass was told it has forgotten where it begins an operation or a look, and again where that ends. So from
 /// there on, in every run, each step call of the pass touches only what was not gone then: the word of a node that no
-/// card had taken out of the tree for good, or that of a card that had not come to its end. Nor does it touch what
-/// was dead then: the word of a node that was gone or never comes into the tree, or that of a card whose internal
-/// node was, or that was laid aside.
+/// card had taken out of the tree for good, or that of a card that had not come to its end. Nor does it touch what was
+/// dead then: the word of a node that was gone or never comes into the tree, or that of a card whose internal node was,
+/// or that was discarded.
 pub fn calls_touch_nothing_gone()
     // Each step call touches a word of the node or of the card that it is said to touch.
     ensures words { CallsTouchTheirWords }

@@ -10,8 +10,8 @@ mod view;
 pub use call::{Call, NewNode};
 pub use glance::{Glance, Stretch};
 pub use laws::{
-    calls_have_their_point, calls_touch_nothing_gone, histories_are_linearizable,
-    laid_down_calls_change_nothing, looks_are_in_order, looks_have_places, readings_are_past,
+    calls_have_their_point, calls_touch_nothing_gone, given_up_calls_change_nothing,
+    histories_are_linearizable, looks_are_in_order, looks_have_places, readings_are_past,
     runs_are_lawful, runs_are_linearizable, runs_from_starts_are_lawful, searches_read_meanwhile,
     shares_add_up, splits_and_joins_are_handovers, steps_are_events, steps_tell_what_is_there,
     stretches_are_in_order, table_answers_are_the_maps, table_nodes_go_on,

@@ -54,8 +54,8 @@ pub struct View {
     pub told: LinkedList<Told>,
     /// The key of the node where it stands, once it was told.
     pub here: Option<u64>,
-    /// The claim word, once it was read in this try. The reading stays when the operation is laid down; of two passes that are joined,
-    /// the later one does.
+    /// The claim word, once it was read in this try. The reading stays when the operation is given up; of two passes
+    /// that are joined, the later one does.
     pub next: Option<u64>,
     /// What the card in hand is to say, by its claim.
     pub planned: LinkedList<(Field, u64)>,
@@ -67,8 +67,8 @@ pub struct View {
     pub won: LinkedList<(Exchange, u64)>,
     /// The operation that it answered last, until another begins, or the pass is split or joined.
     pub answered: Option<Answered>,
-    /// The operation that it laid down last without an answer, until another begins, or the pass is split or joined.
-    pub laid_down: Option<Op>,
+    /// The operation that it gave up last without an answer, until another begins, or the pass is split or joined.
+    pub given_up: Option<Op>,
     /// The share that it has of its table. The first pass has the whole; a split gives a part of the share to the right part, and a join adds
     /// the shares.
     pub share: u64,
@@ -134,6 +134,6 @@ pub struct Sight {
 pub struct Slots {
     /// The number of the last card that has words.
     pub last: u64,
-    /// How many places for passes stand behind the cards: at most one pass has each.
-    pub places: u64,
+    /// How many announcements stand behind the cards: at most one pass has each.
+    pub announcements: u64,
 }

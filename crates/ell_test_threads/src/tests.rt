@@ -1,6 +1,6 @@
-//! Calls on shared keys that a gate holds, or has begin at once; owners beside shared keys; flat trees; and scans, which
-//! are held too, and whose steps are counted. Trees and runs on one thread, on two and more that a gate holds, and by up to
-//! 64 workers; and safe numbers of the table.
+//! Calls on shared keys that a gate holds, or has begin at once; owners beside shared keys; flat trees; and scans,
+//! which are held too, and whose steps are counted. Trees and runs on one thread, on two and more that a gate holds,
+//! and by up to 64 workers; and safe epochs of the table.
 mod calling;
 mod edges;
 mod holding;

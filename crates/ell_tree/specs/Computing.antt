@@ -6,7 +6,7 @@ use Rattle.ell_ops.specs.declared.reply.Reply.TheVariants.{Yes}
 use Rattle.ell_ops.specs.Meaning.{key_of, reply_of, after, found}
 use Rattle.ell_core.specs.statements.Effects.{reply_of_change}
 use Rattle.ell_cards.specs.InRuns.{IsAnsweredInRuns}
-use Rattle.ell_cards.specs.InRuns.{IsLaidDownInRuns}
+use Rattle.ell_cards.specs.InRuns.{IsGivenUpInRuns}
 use Rattle.ell_runs.specs.declared.view.View.{View}
 use Rattle.ell_runs.specs.Depths.{deepest}
 use Rattle.ell_cards.specs.Models.{KeepsItsOwn, PassModel}
@@ -18,11 +18,11 @@ use Rattle.ell_tree.specs.declared.computing.Replaced.TheVariants.{Done, Lost}
 use Rattle.ell_tree.specs.declared.operations.NotDone.{NotDone}
 use Rattle.ell_tree.specs.declared.operations.NotDone.TheVariants.{Busy, Spent}
 use Rattle.ell_tree.specs.Called.{ByItsTake, SeesLast, SeesNoChange, SeesTake, put_by, tries_in}
-use Rattle.ell_tree.specs.Ends.{Answers, LaidDown, NoneIsLeft, TakesValue, find_steps, slot_steps, try_steps}
+use Rattle.ell_tree.specs.Ends.{Answers, GivenUp, NoneIsLeft, TakesValue, find_steps, slot_steps, try_steps}
 use Rattle.ell_tree.specs.Ledgers.{TreeModel, present_in, Owns, answers, IsIdle}
 
--- a pass has the keys that it had, present with their values or absent as they were, and nothing in hand; and it is in no
--- period if it was in none
+-- a pass has the keys that it had, present with their values or absent as they were, and nothing in hand; and it is not
+-- pinned if it was not
 pub record IsUntouched (old new : PassModel) : Type 0 where
   pub own : KeepsItsOwn old new
   pub map : (key : ℕ) → present_in new key ≡ present_in old key
@@ -30,7 +30,7 @@ pub record IsUntouched (old new : PassModel) : Type 0 where
   pub answered : answers old ≤ answers new
   pub share : SameShare old.view new.view
   pub idle : IsIdle new
-  pub outside : old.memory.inside ≡ false → new.memory.inside ≡ false
+  pub unpinned : old.memory.is_pinned ≡ false → new.memory.is_pinned ≡ false
   pub sees : SeesNoChange old.sight new.sight
 
 -- a call that is made of several operations has ended by this one, which was answered so, and those before it have
@@ -48,7 +48,7 @@ pub record Concludes (t : TreeModel) (op : Op) (said : Reply) (old new : PassMod
   pub answered : answers old < answers new
   pub share : SameShare old.view new.view
   pub idle : IsIdle new
-  pub outside : new.memory.inside ≡ false
+  pub unpinned : new.memory.is_pinned ≡ false
   pub sees : ByItsTake op (λ took. SeesLast op said took old.sight new.sight)
 
 -- the key had this value, or none, at the point of a find, or of a swap of another value, which changes nothing
@@ -92,12 +92,12 @@ wrapping_sum one other = (one + other) % 2 ^ 64
 abbrev pub IsSum : ℕ → ℕ → ℕ → Type 0
 IsSum addend was value = value ≡ wrapping_sum was addend
 
--- the last operation of a call on a key has changed nothing, and never will: it was laid down, or answered by what is
--- no change's answer
+-- the last operation of a call on a key has changed nothing, and never will: it was given up, or answered by what is no
+-- change's answer
 pub record LastChangesNothing (t : TreeModel) (key : ℕ) (v : View) : Type 0 where
   pub op : Op
   pub on : key_of op ≡ key
-  pub nothing : IsLaidDownInRuns t.plan v op
+  pub nothing : IsGivenUpInRuns t.plan v op
       ⊎ ((said : Reply) × (said ≢ reply_of_change op) × IsAnsweredInRuns t.plan v op said)
 
 -- why a call of several operations has no answer, of which this was the last one: all its tries were made, or the last
@@ -121,14 +121,14 @@ Replaces t key was value old new (Ok (Lost there)) =
     IsUntouched old new × ReadsValue t key there old new × (Owns old key → present_in old key ≢ was)
     × (tries_in old.sight.mine < tries_in new.sight.mine)
 Replaces t key was value old new (Err why) =
-    LaidDown t (put_by key value was) old new × RanOut t.plan new why
+    GivenUp t (put_by key value was) old new × RanOut t.plan new why
 
 -- what comes of one try to remove a key that has a value
 abbrev pub RemovesOnce : TreeModel → ℕ → ℕ → PassModel → PassModel → Result Bool NotDone → Type 0
 RemovesOnce t key was old new (Ok true) =
     Answers t (Delete key) Yes old new × TakesValue t key old new (Some was) × SeesTake key old new (Ok (Some was))
 RemovesOnce t key was old new (Ok false) = IsUntouched old new × (Owns old key → present_in old key ≢ Some was)
-RemovesOnce t key was old new (Err why) = LaidDown t (Delete key) old new × RanOut t.plan new why
+RemovesOnce t key was old new (Err why) = GivenUp t (Delete key) old new × RanOut t.plan new why
 
 -- and what the key was found to have, if that was another value
 abbrev pub RemovesOrReads : TreeModel → ℕ → ℕ → PassModel → PassModel → Result Replaced NotDone → Type 0
@@ -136,7 +136,7 @@ RemovesOrReads t key was old new (Ok Done) =
     Answers t (Delete key) Yes old new × TakesValue t key old new (Some was) × SeesTake key old new (Ok (Some was))
 RemovesOrReads t key was old new (Ok (Lost there)) =
     IsUntouched old new × Concludes t (Find key) (found there) old new × (Owns old key → present_in old key ≢ Some was)
-RemovesOrReads t key was old new (Err why) = LaidDown t (Delete key) old new × RanOut t.plan new why
+RemovesOrReads t key was old new (Err why) = GivenUp t (Delete key) old new × RanOut t.plan new why
 
 -- `Busy` is returned only after all tries: each was hindered, or answered by what another pass had changed.
 abbrev pub AreTried : ℕ → PassModel → PassModel → Type 0

@@ -5,7 +5,7 @@ use Rattle.ell_ops.specs.declared.op.Op.TheVariants.{Find, Insert, Delete, Swap}
 use Rattle.ell_ops.specs.declared.reply.Reply.{Reply}
 use Rattle.ell_ops.specs.Meaning.{key_of, yes_if, reply_of, after, found}
 use Rattle.ell_cards.specs.InRuns.{IsAnsweredInRuns}
-use Rattle.ell_cards.specs.InRuns.{IsLaidDownInRuns}
+use Rattle.ell_cards.specs.InRuns.{IsGivenUpInRuns}
 use Rattle.ell_cards.specs.InRuns.{IsTakenInRuns}
 use Rattle.ell_runs.specs.declared.view.Sight.{Sight}
 use Rattle.ell_runs.specs.declared.view.Slots.{Slots}
@@ -35,25 +35,25 @@ pub record AnswersAs (Sees : Op → Reply → Option ℕ → Sight → Sight →
   pub answered : answers new ≡ answers old + 1
   pub share : SameShare old.view new.view
   pub idle : IsIdle new
-  pub outside : new.memory.inside ≡ false
+  pub unpinned : new.memory.is_pinned ≡ false
   pub sees : ByItsTake op (λ took. Sees op said took old.sight new.sight)
 
 -- an operation that the pass began, too: it is a call of the tree's history, as the pass has seen it
 abbrev pub Answers : TreeModel → Op → Reply → PassModel → PassModel → Type 0
 Answers = AnswersAs SeesCall
 
--- an operation was laid down without an answer: the ledger is as it was, nothing is in hand, the pass is in no period,
--- and of an own key it would change the map. Whoever may change the key, in every run of the tree in which the pass now knows this, the call
--- changes nothing, neither before nor later
-pub record LaidDown (t : TreeModel) (op : Op) (old new : PassModel) : Type 0 where
+-- an operation was given up without an answer: the ledger is as it was, nothing is in hand, the pass is not pinned, and
+-- of an own key it would change the map. Whoever may change the key, in every run of the tree in which the pass now
+-- knows this, the call changes nothing, neither before nor later
+pub record GivenUp (t : TreeModel) (op : Op) (old new : PassModel) : Type 0 where
   pub own : KeepsItsOwn old new
   pub ledger : new.view.worker.ledger ≡ old.view.worker.ledger
   pub answered : answers new ≡ answers old
   pub share : SameShare old.view new.view
   pub would : Owns old (key_of op) → reply_of op (present_in old) ≡ reply_of_change op
-  pub nothing : IsLaidDownInRuns t.plan new.view op
+  pub nothing : IsGivenUpInRuns t.plan new.view op
   pub idle : IsIdle new
-  pub outside : new.memory.inside ≡ false
+  pub unpinned : new.memory.is_pinned ≡ false
   pub no_card : new.view.worker.card ≡ None
   pub sees : HasSeenMore old.sight new.sight
 
@@ -62,7 +62,7 @@ pub record LaidDown (t : TreeModel) (op : Op) (old new : PassModel) : Type 0 whe
 abbrev pub NoneIsLeft : TablePlan → PassModel → Type 0
 NoneIsLeft plan p = plan.slots ≡ None → p.view.next ≡ Some (plan.last_card + 1)
 
--- why: something was in its way at each try; or its last try got no card, and was laid down by the next step call
+-- why: something was in its way at each try; or its last try got no card, and was given up by the next step call
 abbrev pub NotDoneFor : TablePlan → ℕ → PassModel → PassModel → NotDone → Type 0
 NotDoneFor plan tries old new Busy = hindrances old + tries ≤ hindrances new
 NotDoneFor plan tries old new Spent = NoneIsLeft plan new
@@ -135,7 +135,7 @@ TakesIfDelete t (Swap key was value) old new there = Unit {0}
 abbrev pub Ends : TreeModel → ℕ → Op → PassModel → PassModel → Result Reply NotDone → Type 0
 Ends t tries op old new (Ok said) = Answers t op said old new × Meets old.view new.view
 Ends t tries op old new (Err why) =
-    LaidDown t op old new × NotDoneFor t.plan tries old new why × Meets old.view new.view
+    GivenUp t op old new × NotDoneFor t.plan tries old new why × Meets old.view new.view
 
 -- the most steps of a find, where no internal node is below more internal nodes than this
 abbrev pub find_steps : ℕ → ℕ

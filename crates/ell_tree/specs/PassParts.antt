@@ -26,15 +26,15 @@ pub record IsFirst (t : TreeModel) (p : PassModel) : Type 0 where
   pub steps : p.steps ≡ 0
   pub made : p.view.made ≡ 0
   pub label : p.label ≡ 0
-  pub safe : p.memory.safe ≡ 0
+  pub safe_epoch : p.memory.safe_epoch ≡ 0
   pub milestones : (last : ℕ) → milestones_known last p.view ≡ 0
   pub share : p.view.share ≡ whole_share
   pub ownable : p.view.worker.shared ≡ ownable_if t.plan.shared t.plan.keys
   pub idle : IsIdle p
-  pub outside : p.memory.inside ≡ false
+  pub unpinned : p.memory.is_pinned ≡ false
   pub sight : p.sight ≡ no_sight
 
--- the left part of a pass: it has these keys as the pass had them, and keeps the counts, the safe number, and what the
+-- the left part of a pass: it has these keys as the pass had them, and keeps the counts, the safe epoch, and what the
 -- pass knows of the history; of the steps made, the split is its own
 pub record IsLeftPart (keys : List ℕ) (p part : PassModel) : Type 0 where
   pub own : KeepsItsOwn p part
@@ -45,16 +45,16 @@ pub record IsLeftPart (keys : List ℕ) (p part : PassModel) : Type 0 where
   pub taken : cards_taken part ≡ cards_taken p
   pub steps : part.steps ≡ one_more p.steps
   pub made : part.view.made ≡ p.view.made + 1
-  pub safe : part.memory.safe ≡ p.memory.safe
+  pub safe_epoch : part.memory.safe_epoch ≡ p.memory.safe_epoch
   pub milestones : (last : ℕ) → milestones_known last part.view ≡ milestones_known last p.view
   pub share : part.view.share ≡ p.view.share - given_share p.view.share
   pub ownable : part.view.worker.shared ≡ p.view.worker.shared
   pub idle : IsIdle part
-  pub inside : part.memory.inside ≡ p.memory.inside
+  pub pinned : part.memory.is_pinned ≡ p.memory.is_pinned
   pub sight : part.sight ≡ p.sight
 
--- the right part: it has the other keys, and counts anew; it is in no period, has looked at no place yet, and has seen of
--- the history what the pass has, with no calls of its own
+-- the right part: it has the other keys, and counts anew; it is not pinned, has looked at no announcement yet, and has
+-- seen of the history what the pass has, with no calls of its own
 pub record IsRightPart (keys : List ℕ) (p part : PassModel) : Type 0 where
   pub own : KeepsItsOwn p part
   pub ledger : (k : ℕ) → ledger part k ≡ (if set_of keys k then None else ledger p k)
@@ -64,16 +64,16 @@ pub record IsRightPart (keys : List ℕ) (p part : PassModel) : Type 0 where
   pub taken : cards_taken part ≡ 0
   pub steps : part.steps ≡ one_more p.steps
   pub made : part.view.made ≡ 0
-  pub safe : part.memory.safe ≡ 0
+  pub safe_epoch : part.memory.safe_epoch ≡ 0
   pub milestones : (last : ℕ) → milestones_known last part.view ≡ milestones_known last p.view
   pub share : part.view.share ≡ given_share p.view.share
   pub ownable : part.view.worker.shared ≡ p.view.worker.shared
   pub idle : IsIdle part
-  pub outside : part.memory.inside ≡ false
+  pub unpinned : part.memory.is_pinned ≡ false
   pub sight : part.sight ≡ given_sight p.sight
 
--- two passes in one: it has the keys and the calls of both, adds the counts, and has the later reading of the claim word,
--- the left one's safe number, and the longer one of the beginnings of the history that they have seen
+-- two passes in one: it has the keys and the calls of both, adds the counts, and has the later reading of the claim
+-- word, the left one's safe epoch, and the longer one of the beginnings of the history that they have seen
 pub record IsUnion (left right both : PassModel) : Type 0 where
   pub own : KeepsItsOwn left both
   pub ledger : (k : ℕ) → ledger both k ≡ entry_or (ledger left k) (ledger right k)
@@ -84,11 +84,11 @@ pub record IsUnion (left right both : PassModel) : Type 0 where
   pub next : both.view.next ≡ later_reading left.view.next right.view.next
   pub steps : both.steps ≡ one_more (max left.steps right.steps)
   pub made : both.view.made ≡ left.view.made + right.view.made + 1
-  pub safe : both.memory.safe ≡ left.memory.safe
+  pub safe_epoch : both.memory.safe_epoch ≡ left.memory.safe_epoch
   pub milestones : (last : ℕ) → (milestones_known last left.view ≤ milestones_known last both.view)
       × (milestones_known last right.view ≤ milestones_known last both.view)
   pub share : both.view.share ≡ (left.view.share + right.view.share) % 2 ^ 64
   pub ownable : both.view.worker.shared ≡ option_or left.view.worker.shared right.view.worker.shared
   pub idle : IsIdle both
-  pub inside : both.memory.inside ≡ left.memory.inside
+  pub pinned : both.memory.is_pinned ≡ left.memory.is_pinned
   pub sight : both.sight ≡ joined_sight left.sight right.sight

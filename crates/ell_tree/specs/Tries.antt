@@ -61,14 +61,14 @@ pub record Begins (op : Op) (met : List Hindrance) (tries : ℕ) (old new : Pass
   pub taken : TakesNoCard old new
   pub took : Took old new 1
 
--- an operation may start anew, or be laid down: its card, if that is flagged, is known backed
+-- an operation may start anew, or be given up: its card, if that is flagged, is known backed
 pub record Stops (op : Op) (v : View) : Type 0 where
   pub busy : Does v op
   pub backed : (c : ℕ) → v.worker.card ≡ Some c → v.worker.flagged ≡ true → Knows v (fact.Backed c)
 
--- an operation is laid down: nothing is in hand any more
-pub record Lays (op : Op) (old new : PassModel) : Type 0 where
-  pub laid : new.view.laid_down ≡ Some op
+-- an operation is given up: nothing is in hand any more
+pub record GivesUp (op : Op) (old new : PassModel) : Type 0 where
+  pub given_up : new.view.given_up ≡ Some op
   pub own : KeepsItsOwn old new
   pub sight : new.sight ≡ old.sight
   pub ledger : new.view.worker.ledger ≡ old.view.worker.ledger
@@ -80,7 +80,7 @@ pub record Lays (op : Op) (old new : PassModel) : Type 0 where
   pub facts : new.view.worker.knows ≡ old.view.worker.knows
   pub least : new.view.next_at_least ≡ old.view.next_at_least
   pub idle : IsIdle new
-  pub outside : new.memory.inside ≡ false
+  pub unpinned : new.memory.is_pinned ≡ false
   pub no_card : new.view.worker.card ≡ None
   pub taken : TakesNoCard old new
   pub took : Took old new 1
@@ -162,7 +162,6 @@ pub record HasCardToPut (what : Put) (place : Place) (node : NewNode) (v : View)
   pub card : HasCard op place place.parent.tag
       (put_filling node.flat c what.key what.value node.key place.parent.node place.node place.key place.value) v c
 
-
 -- the card in hand was filled in so many steps, and nothing else was done
 pub record Fills (old new : PassModel) (n : ℕ) : Type 0 where
   pub own : KeepsItsOwn old new
@@ -180,7 +179,7 @@ pub record IsFlagged (flag : ℕ → Fact) (c : ℕ) (v w : View) : Type 0 where
   pub nowhere : w.worker.search.node ≡ None
   pub hindrances : w.hindrances ≡ v.hindrances
 
--- a flag was lost: the card was laid aside, and what was found at the node was in the way
+-- a flag was lost: the card was discarded, and what was found at the node was in the way
 pub record LosesFlag (last x : ℕ) (found : Update) (v w : View) : Type 0 where
   pub seen : IsSeenAt last w x found
   pub no_card : w.worker.card ≡ None

@@ -107,8 +107,8 @@ pub(crate) fn change<M: Memory, G: StepGate>(
 fn restart<M: Memory, G: StepGate>(steps: TableSteps<M, G>, pass: &mut Pass<M>, first: bool)
     requires own { pass.old.table ≡ steps.table.now.id }
     requires may { MayStop (worker_of pass.old.view.worker) }
-    // Where there are places, the pass has noted all that its card in hand made dead.
-    requires noted { LetsGo steps.table.now.plan pass.old }
+    // Where cards come back, the pass has retired all that its card in hand made dead.
+    requires retired { LetsGo steps.table.now.plan pass.old }
     ensures begins { (op : Op) → Does pass.old.view op → (first ≡ true → AtRoot op pass.old.view) →
         Begins op (way_of op pass.old.view) (tries_hindered pass.old.view) pass.old pass.new }
     ensures first { first ≡ true → pass.new ≡ pass.old }

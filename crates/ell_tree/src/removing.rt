@@ -93,7 +93,7 @@ fn remove_or_read<M: Memory, G: StepGate>(
 }
 
 // One try of a delete, if its search ends at a leaf with this value. A leaf keeps its value as long as it is there, so
-// the delete takes just this one. Returns whether it has deleted the key; otherwise it is laid down.
+// the delete takes just this one. Returns whether it has deleted the key; otherwise it is given up.
 fn remove_once<M: Memory, G: StepGate>(
     steps: TableSteps<M, G>,
     pass: &mut Pass<M>,

@@ -22,7 +22,7 @@ ghost use Rattle.ell_tree.specs.Ends.{AnswersAs};
 ghost use Rattle.ell_tree.specs.Helps.{HasSibling, IsLost, KnowsMark, IsParent, found_instead, met_by_mark};
 ghost use Rattle.ell_tree.specs.Hindrances.{way_of};
 ghost use Rattle.ell_tree.specs.Keeping.{KeepsAll, KeepsAllButMet};
-ghost use Rattle.ell_tree.specs.Tries.{Begins, Lays};
+ghost use Rattle.ell_tree.specs.Tries.{Begins, GivesUp};
 
 use ell_cards::{Memory, Pass, StepGate, TableSteps};
 use ell_layout::Field;
@@ -51,8 +51,8 @@ pub(crate) fn begin<M: Memory, G: StepGate>(steps: TableSteps<M, G>, pass: &mut 
 pub(crate) fn again<M: Memory, G: StepGate>(steps: TableSteps<M, G>, pass: &mut Pass<M>)
     requires own { pass.old.table ≡ steps.table.now.id }
     requires may { MayStop (worker_of pass.old.view.worker) }
-    // Where there are places, the pass has noted all that its card in hand made dead.
-    requires noted { LetsGo steps.table.now.plan pass.old }
+    // Where cards come back, the pass has retired all that its card in hand made dead.
+    requires retired { LetsGo steps.table.now.plan pass.old }
     ensures begins { (op : Op) → Does pass.old.view op →
         Begins op (way_of op pass.old.view) (tries_hindered pass.old.view) pass.old pass.new }
     ensures sight { pass.new.sight ≡ pass.old.sight }
@@ -60,13 +60,13 @@ pub(crate) fn again<M: Memory, G: StepGate>(steps: TableSteps<M, G>, pass: &mut 
     steps.again(pass);
 }
 
-/// Lays the operation in hand down without an answer.
+/// Gives the operation in hand up without an answer.
 pub(crate) fn leave<M: Memory, G: StepGate>(steps: TableSteps<M, G>, pass: &mut Pass<M>)
     requires own { pass.old.table ≡ steps.table.now.id }
     requires may { MayStop (worker_of pass.old.view.worker) }
-    // Where there are places, the pass has noted all that its card in hand made dead.
-    requires noted { LetsGo steps.table.now.plan pass.old }
-    ensures lays { (op : Op) → Does pass.old.view op → Lays op pass.old pass.new }
+    // Where cards come back, the pass has retired all that its card in hand made dead.
+    requires retired { LetsGo steps.table.now.plan pass.old }
+    ensures gives_up { (op : Op) → Does pass.old.view op → GivesUp op pass.old pass.new }
     ensures least { pass.old.view.next_at_least ≤ steps.entry.table.now.plan.last_card + 1 }
 {
     steps.leave(pass);
@@ -81,8 +81,8 @@ pub(crate) fn answer<M: Memory, G: StepGate>(
 )
     requires own { pass.old.table ≡ steps.table.now.id }
     requires may { MayAnswer pass.old.view said took }
-    // Where there are places, the pass has noted all that its card in hand made dead.
-    requires noted { LetsGo steps.table.now.plan pass.old }
+    // Where cards come back, the pass has retired all that its card in hand made dead.
+    requires retired { LetsGo steps.table.now.plan pass.old }
     ensures answers { (op : Op) → Does pass.old.view op →
         AnswersAs SeesEnd steps.entry.table.now op said pass.old pass.new }
     ensures ended { (op : Op) → Does pass.old.view op → SeesEnd op said took pass.old.sight pass.new.sight }

@@ -146,15 +146,15 @@ impl<M: Memory> Tree<M> {
         requires may { IsIdlePassOf self.now pass.old }
         // The pass knows no node any more that a look has told it; or, where no card comes back, it is as it was.
         ensures ends { EndsLooks self.now.plan.slots pass.old pass.new }
-        // It is in no period: no card is held back for it.
-        ensures outside { pass.new.memory.inside ≡ false }
+        // It is not pinned: no card is held back for it.
+        ensures unpinned { pass.new.memory.is_pinned ≡ false }
         // What the pass knew before is what a run of the tree led to.
         ensures known { self.now.plan.slots ≢ None → IsKnownInRun self.now.plan pass.old.view }
     {
-        if self.table.has_places() {
+        if self.table.reuses_cards() {
             self.table.told_to(gate).end_look(pass);
         } else {
-            self.table.periods_have_places(pass);
+            self.table.pins_are_in_reusing_trees(pass);
         }
     }
 

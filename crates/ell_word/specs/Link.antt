@@ -1,5 +1,5 @@
 use Rattle.std.specs.Prelude.{ℕ, ◌+◌, ◌*◌, ◌/◌, ◌%◌, ◌-◌, ◌<◌, ◌≤◌}
-use Rattle.ell_word.specs.Node.{turn_size}
+use Rattle.ell_word.specs.Node.{generation_size}
 use Rattle.ell_word.specs.declared.link.Link.{Link}
 
 -- a child word has the node in its low 38 bits, and the tag above
@@ -8,7 +8,7 @@ tag_unit = 274877906944
 
 -- the greatest tag: it has 26 bits
 abbrev pub greatest_tag : ℕ
-greatest_tag = turn_size - 1
+greatest_tag = generation_size - 1
 
 -- a link that has a word of 64 bits
 pub record IsLink (link : Link) : Type 0 where
@@ -23,12 +23,12 @@ node_bound = 18446744073709551616
 -- of the node and the low 26 bits of the tag. The other 26 bits of the node stand above these, and the other bits of the
 -- tag at the top.
 abbrev pub linked : Link → ℕ
-linked link = link.node % tag_unit + tag_unit * (link.tag % turn_size)
-    + node_bound * (link.node / tag_unit + turn_size * (link.tag / turn_size))
+linked link = link.node % tag_unit + tag_unit * (link.tag % generation_size)
+    + node_bound * (link.node / tag_unit + generation_size * (link.tag / generation_size))
 
 -- the link that a number says
 abbrev pub link_in : ℕ → Link
 link_in word = record {
-  node = word % tag_unit + tag_unit * (word / node_bound % turn_size);
-  tag = word / tag_unit % turn_size + turn_size * (word / (node_bound * turn_size));
+  node = word % tag_unit + tag_unit * (word / node_bound % generation_size);
+  tag = word / tag_unit % generation_size + generation_size * (word / (node_bound * generation_size));
 }

@@ -4,14 +4,14 @@ use Rattle.std.specs.Prelude.{◌≡◌, ◌≢◌, ℕ, ◌+◌, ◌-◌, ◌*�
 abbrev pub greatest_number : ℕ
 greatest_number = 4611686018427387903
 
--- How many numbers of cards are a turn, 2^26: each slot of a table has one of them, and so there are at most as many
--- slots. A child word tells as many tags apart.
-abbrev pub turn_size : ℕ
-turn_size = 67108864
+-- How many numbers of cards are a generation, 2^26: each slot of a table has one of them, and so there are at most as
+-- many slots. A child word tells as many tags apart.
+abbrev pub generation_size : ℕ
+generation_size = 67108864
 
--- The number of the last card of a table without places, and of the last card that may have words, are at most this. It
--- is three less than a turn has numbers: while a pass keeps what it read of a child word, its tag rises by at most the
--- cards that have words, and one, so that no tag comes back meanwhile.
+-- The number of the last card of a table whose cards do not come back, and of the last card that may have words, are at
+-- most this. It is three less than a generation has numbers: while a pass keeps what it read of a child word, its tag
+-- rises by at most the cards that have words, and one, so that no tag comes back meanwhile.
 abbrev pub greatest_card : ℕ
 greatest_card = 67108861
 

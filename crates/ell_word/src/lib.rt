@@ -10,7 +10,7 @@ mod update;
 
 pub use link::{Link, child_word, links};
 pub use node::{
-    CARD_MAX, CARDS_MAX, INF1, INF2, NUMBER_MAX, START_MAX, TURN_SIZE, card_of,
+    CARD_MAX, CARDS_MAX, GENERATION_SIZE, INF1, INF2, NUMBER_MAX, START_MAX, card_of,
     constants_are_as_defined, internal_of, is_internal, left_leaf_of, right_leaf_of,
 };
 pub use update::{State, Update, pack, packs, unpack};

@@ -1,6 +1,6 @@
 //! Node numbers: each card has an internal node and two leaves, and leaves one of its four numbers unused.
 ghost use Rattle.std.specs.Prelude.{◌≡◌, ◌≤◌, ◌↔◌, IsTrue};
-ghost use Rattle.ell_word.specs.Node.{greatest_number, greatest_card, turn_size, most_cards, most_start, infinity1, infinity2, internal, left_leaf, right_leaf, IsInternal, card};
+ghost use Rattle.ell_word.specs.Node.{greatest_number, greatest_card, generation_size, most_cards, most_start, infinity1, infinity2, internal, left_leaf, right_leaf, IsInternal, card};
 
 // How far apart the numbers of two cards' internal nodes are: a power of two, so that the card of a node is a shift away,
 // which is asked at each node of a search.
@@ -9,10 +9,11 @@ const NUMBERS_PER_CARD: u64 = 4;
 /// The greatest number that a card may have: four times it, and 3, is below 2^64.
 pub const NUMBER_MAX: u64 = 4_611_686_018_427_387_903;
 
-/// How many numbers of cards are a turn, 2^26: each slot of a table has one of them. A child word tells as many tags apart.
-pub const TURN_SIZE: u64 = 67_108_864;
+/// How many numbers of cards are a generation, 2^26: each slot of a table has one of them. A child word tells as many
+/// tags apart.
+pub const GENERATION_SIZE: u64 = 67_108_864;
 
-/// The greatest number of the last card of a table without places, and of a card that has words.
+/// The greatest number of the last card of a table whose cards do not come back, and of a card that has words.
 pub const CARD_MAX: u64 = 67_108_861;
 
 /// The greatest number of cards that a table gives out.
@@ -27,13 +28,13 @@ pub const INF1: u64 = 18_446_744_073_709_551_614;
 /// The greater of the two: the root and its right leaf have it.
 pub const INF2: u64 = 18_446_744_073_709_551_615;
 
-/// The constants are the numbers that the definitions have: `NUMBER_MAX` is 2^62 - 1, `TURN_SIZE` is 2^26,
+/// The constants are the numbers that the definitions have: `NUMBER_MAX` is 2^62 - 1, `GENERATION_SIZE` is 2^26,
 /// `CARD_MAX` is 2^26 - 3, `CARDS_MAX` and `START_MAX` are 1,000,000, `INF1` is 2^64 - 2, and `INF2` is 2^64 - 1.
 pub fn constants_are_as_defined()
-    // `NUMBER_MAX` is 2^62 - 1, `TURN_SIZE` is 2^26, `CARD_MAX` is 2^26 - 3, `CARDS_MAX` and `START_MAX` are
+    // `NUMBER_MAX` is 2^62 - 1, `GENERATION_SIZE` is 2^26, `CARD_MAX` is 2^26 - 3, `CARDS_MAX` and `START_MAX` are
     // 1,000,000.
     ensures number { NUMBER_MAX ≡ greatest_number }
-    ensures turn { TURN_SIZE ≡ turn_size }
+    ensures generation { GENERATION_SIZE ≡ generation_size }
     ensures card { CARD_MAX ≡ greatest_card }
     ensures cards { CARDS_MAX ≡ most_cards }
     ensures start { START_MAX ≡ most_start }

@@ -267,7 +267,7 @@ pub(crate) fn again<A: Allocator + Copy>(
     Ok(Stepped::Moved)
 }
 
-/// Lays the operation down without an answer.
+/// Gives the operation up without an answer.
 pub(crate) fn leave<A: Allocator + Copy>(
     memory: &Memory<A>,
     worker: &mut Worker<A>,

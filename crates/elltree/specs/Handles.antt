@@ -10,7 +10,7 @@ use Rattle.ell_tree.specs.Node.{greatest_number, most_start}
 use Rattle.ell_cards.specs.Models.{IsCardCount}
 use Rattle.ell_runs.specs.Views.{MayPart}
 use Rattle.ell_runs.specs.Sights.{given_sight, no_sight}
-use Rattle.ell_runs.specs.Starts.{most_places}
+use Rattle.ell_runs.specs.Starts.{most_announcements}
 use Rattle.ell_tree.specs.Ledgers.{TreeModel}
 use Rattle.ell_tree.specs.PassParts.{IsFirst, IsLeftPart, IsRightPart}
 use Rattle.ell_tree.specs.declared.scanning.Pair.{Pair}
@@ -48,10 +48,10 @@ pub record IsOpened (start : List (ℕ × ℕ)) (cards : ℕ) (h : Handle) : Typ
 
 -- the number of handles that a tree is opened for where so many are asked for: the nearest that there may be
 abbrev pub handles_for : ℕ → ℕ
-handles_for asked = max 1 (min asked most_places)
+handles_for asked = max 1 (min asked most_announcements)
 
 -- a handle is the first of such a tree whose cards come back: it has slots for the start keys, for so many cards
--- besides and for one more, places for so many handles, and a card for each number that there is
+-- besides and for one more, announcements for so many handles, and a card for each number that there is
 pub record IsOpenedReusing (start : List (ℕ × ℕ)) (cards handles : ℕ) (h : Handle) : Type 0 where
   pub plan : (tree_of h).plan ≡ record {
     keys = [];
@@ -59,7 +59,7 @@ pub record IsOpenedReusing (start : List (ℕ × ℕ)) (cards handles : ℕ) (h 
     last_card = greatest_number;
     shared = true;
     flat = true;
-    slots = Some (record { last = last_card start cards; places = handles });
+    slots = Some (record { last = last_card start cards; announcements = handles });
   }
   pub first : IsFirst (tree_of h) h.pass
   pub sees : HasSeenNothing h

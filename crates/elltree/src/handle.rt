@@ -55,15 +55,16 @@ impl HandlePlace {
     }
 }
 
-/// A tree in which every key up to `KEY_MAX` is shared, and a pass of it with nothing in hand, which is in no period: in a
-/// tree whose cards come back, a handle in no call holds none of them back. It may go from one thread to another. How many cards a change takes is promised only in a tree whose cards do not come back (`open`).
+/// A tree in which every key up to `KEY_MAX` is shared, and a pass of it with nothing in hand, which is not pinned: in
+/// a tree whose cards come back, a handle in no call holds none of them back. It may go from one thread to another. How
+/// many cards a change takes is promised only in a tree whose cards do not come back (`open`).
 #[derive(Drop)]
 pub struct Handle {
     pub tree: Arc<Tree<Global>, Global>,
     pub pass: Pass<Global>,
     ghost own: { pass.table ≡ (arc_value tree).id },
     ghost idle: { IsIdle pass },
-    ghost outside: { pass.memory.inside ≡ false },
+    ghost unpinned: { pass.memory.is_pinned ≡ false },
     ghost shared: { (arc_value tree).plan.shared ≡ true },
     ghost alone: { (arc_value tree).plan.keys ≡ [] },
     ghost knows: { pass.view.worker.shared ≡ ownable_if true [] },

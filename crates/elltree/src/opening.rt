@@ -41,7 +41,8 @@ pub extern "C" fn elltree_slot_open(
 /// 1,000,000, and what is outside is taken as the nearest of these. The tree has a slot for each card asked for and
 /// each start key, and one more. A change returns `SPENT` if it can take no slot, as `Handle::open_reusing` says, and
 /// may be made again. A call for another handle returns `TOO_MANY_HANDLES` if the tree has as many handles as asked
-/// for; one that is closed makes room for another. That slots and places come back is tested, and no clause says it.
+/// for; one that is closed makes room for another. That slots and announcements come back is tested, and no clause says
+/// it.
 #[unsafe(no_mangle)]
 pub extern "C" fn elltree_slot_open_reusing(
     alloc: Global,
@@ -51,7 +52,7 @@ pub extern "C" fn elltree_slot_open_reusing(
     handles: u32,
 ) -> i32
     // With yes the slot has the first handle of a new tree with the start pairs whose cards come back, with slots for
-    // the cards asked for and places for the handles asked for, or the nearest number that there may be.
+    // the cards asked for and announcements for the handles asked for, or the nearest number that there may be.
     ensures opened { result ≡ said_yes → OfHandle
         (IsOpenedReusing (as_pairs start.now) cards (handles_for handles)) (handle_of slot.new.raw.inside) }
     // `BAD_START` is returned exactly if the slot is not open and the start keys do not strictly ascend or there are

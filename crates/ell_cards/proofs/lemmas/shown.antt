@@ -22,7 +22,7 @@ pub mod ShownTellings
 pub mod ShownViews
 -- nodes that are dead by it
 pub mod ShownDead
--- what a pass is to have noted before it lets its card in hand go
+-- what a pass is to have retired before it lets its card in hand go
 pub mod ShownLettingGo
 -- what calls do to the words of a table
 pub mod ShownActs

@@ -8,5 +8,5 @@ pub mod Rows
 pub mod Claiming
 -- nodes of a card that a pass knows to be dead
 pub mod DeadNodes
--- what a pass has noted of them stays noted
+-- what a pass has retired of them stays retired
 pub mod Retiring

@@ -1,14 +1,14 @@
--- what passes know of periods, seat by seat
+-- what passes know of epochs, seat by seat
 pub mod Seats
 -- which step calls leave a pass at rest
 pub mod Rests
--- the place of a pass, as its code keeps it
-pub mod Places
+-- the announcement of a pass, as its code keeps it
+pub mod Standings
 -- what is dead in a table's tree
 pub mod Ages
 -- calls that pass by what is shown, and by what is known
 pub mod Lifts
--- the trees of a table, and its periods where a word of a card changes
+-- the trees of a table, and its epochs where a word of a card changes
 pub mod Trees
 -- words of fields that are no child words
 pub mod Fields
@@ -19,13 +19,13 @@ pub mod Calling
 -- splits and joins
 pub mod Handovers
 pub mod Parting
--- the words of the clock and of places
+-- the words of the epoch and of announcements
 pub mod Words
--- the steps of grace periods
+-- the steps of epochs
 pub mod Steps
 -- those of their words of slots
 pub mod Slots
--- what passes have noted for their cards
+-- what passes have retired for their cards
 pub mod Retired
 -- that no slot stays in use for nothing
 pub mod Leaks
@@ -37,9 +37,9 @@ pub mod LeaksOfHandovers
 pub mod Going
 -- and those on the words of slots
 pub mod Freeing
--- dead nodes that passes note there
-pub mod Noting
--- the words and the periods of a table as it opens
+-- dead nodes that passes retire there
+pub mod Retiring
+-- the words and the epochs of a table as it opens
 pub mod Opens
 -- so it starts whole
 pub mod Starting

@@ -99,7 +99,7 @@ pub record AtCleanNode (v : Worker) (node : ℕ) (parent : Seen) : Type 0 where
   pub calm : IsClean parent.word
 
 -- a worker may take a card, in a tree that is flat from this card on, or not flat if it is 0: it has none in hand, or,
--- if the tree is flat, one that has not won its flag, which it lays aside
+-- if the tree is flat, one that has not won its flag, which it discards
 abbrev pub MayTake : {L S K : Type 0} → ℕ → WorkerOf L S K → Type 0
 MayTake from v = (v.card ≡ None) ⊎ ((0 < from) × (v.flagged ≡ false))
 
@@ -137,7 +137,7 @@ pub record GivesPlace (w : Words) (what : Put) (x : ℕ) : Type 0 where
   pub edge : IsInternal x → (what.was ≡ None) × (¬ IsInBlock w x what.key)
 
 -- claim for an insert or a swap: at such a node, where there is place for what it puts, the worker has no card in hand,
--- or, in a flat tree, one that has not won its flag, which it lays aside. In a flat tree an insert's key is in the
+-- or, in a flat tree, one that has not won its flag, which it discards. In a flat tree an insert's key is in the
 -- parent's block, and the card's node gets a branch as its key. The card expects the parent's child word.
 pub record ClaimPut (s : Scene) (said : Stepped) (after : Scene) : Type 0 where
   pub op : Op
@@ -158,7 +158,7 @@ pub record ClaimPut (s : Scene) (said : Stepped) (after : Scene) : Type 0 where
 
 -- claim for a delete: at such a leaf of its key, with a grandparent whose update word it read clean, and whose child
 -- word the card expects, the worker has no card in hand, or, in a flat tree, one that has not won its flag, which it
--- lays aside
+-- discards
 pub record ClaimDelete (s : Scene) (said : Stepped) (after : Scene) : Type 0 where
   pub key : ℕ
   pub leaf : ℕ

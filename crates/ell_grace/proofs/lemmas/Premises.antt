@@ -16,7 +16,7 @@ use Rattle.ell_core.proofs.lemmas.stages.Order.{insert_over-changed}
 use Rattle.ell_core.proofs.lemmas.runs.Passed.{passed_on}
 use Rattle.ell_core.proofs.lemmas.runs.SmallRun.{over_state, answered_state, at, by, answers, over_passed}
 use Rattle.ell_core.proofs.lemmas.outcomes.Decide.{some_not_none}
-use Rattle.ell_grace.specs.epochs.Grace.{Grace, least_with, ticks, dies, begins, stamps, frees, scans, looks, settles}
+use Rattle.ell_grace.specs.epochs.Grace.{Grace, least_with, advances, dies, begins, gets_retire_epoch, frees, scans, looks, settles}
 use Rattle.ell_grace.specs.Premises.{BeginsWhenGone, IsLedTo, start, more, TakesWhenBusy}
 
 -- after the small run, in which card 1 took leaf 1 out of the tree, its worker takes a find in hand
@@ -59,7 +59,7 @@ begins_when_gone = record {
 -- nothing has begun
 abbrev nothing : Grace
 nothing = record {
-  clock = 0;
+  epoch = 0;
   gone = λ c. false;
   word = λ j. None;
   began = λ j. 0;
@@ -67,7 +67,7 @@ nothing = record {
   pending = λ i. None;
   least = λ i. 0;
   seen = λ i j. false;
-  safe = λ i. 0;
+  safe_epoch = λ i. 0;
   free = λ c. None;
 }
 
@@ -77,7 +77,7 @@ nothing_begun = start {w = nothing} (record {
   pending = λ i. refl;
   least = λ i. refl;
   seen = λ i j. refl;
-  safe = λ i. refl;
+  safe_epoch = λ i. refl;
   free = λ c r is. absurd (some_not_none is refl);
 })
 
@@ -85,38 +85,38 @@ nothing_begun = start {w = nothing} (record {
 abbrev dead : Grace
 dead = record nothing { gone = put nothing.gone 5 true }
 
--- pass 0 loads a stamp for it
-abbrev stamped : Grace
-stamped = record dead { pending = put dead.pending 0 (Some (5, dead.clock)) }
+-- pass 0 loads a retire epoch for it
+abbrev with_retire_epoch : Grace
+with_retire_epoch = record dead { pending = put dead.pending 0 (Some (5, dead.epoch)) }
 
 -- and sets it free
 abbrev freed : Grace
-freed = record stamped { free = put stamped.free 5 (Some 0) }
+freed = record with_retire_epoch { free = put with_retire_epoch.free 5 (Some 0) }
 
--- the clock goes on
+-- the epoch advances
 abbrev later : Grace
-later = record freed { clock = freed.clock + 1 }
+later = record freed { epoch = freed.epoch + 1 }
 
 -- pass 0 begins a scan
 abbrev scanning : Grace
-scanning = record later { least = put later.least 0 later.clock; seen = put later.seen 0 (λ j. false) }
+scanning = record later { least = put later.least 0 later.epoch; seen = put later.seen 0 (λ j. false) }
 
--- it looks at its own place, which is the only one
+-- it looks at its own announcement, which is the only one
 abbrev looked : Grace
 looked = record scanning {
   least = put scanning.least 0 (least_with (scanning.least 0) (scanning.word 0));
   seen = put scanning.seen 0 (put (scanning.seen 0) 0 true);
 }
 
--- so it has a safe number
+-- so it has a safe epoch
 abbrev settled : Grace
-settled = record looked { safe = put looked.safe 0 (looked.least 0) }
+settled = record looked { safe_epoch = put looked.safe_epoch 0 (looked.least 0) }
 
 -- and it begins an operation
 abbrev busy : Grace
 busy = record settled {
   word = put settled.word 0 (Some 1);
-  began = put settled.began 0 settled.clock;
+  began = put settled.began 0 settled.epoch;
   was_gone = put settled.was_gone 0 settled.gone;
 }
 
@@ -127,9 +127,9 @@ led_to_busy : IsLedTo 1 busy
 led_to_busy =
     more (more (more (more (more (more (more (more nothing_begun
     (dies {w' = dead} 5 refl))
-    (stamps {w' = stamped} 0 5 refl refl))
+    (gets_retire_epoch {w' = with_retire_epoch} 0 5 refl refl))
     (frees {w' = freed} 0 5 0 refl refl))
-    (ticks {w' = later} refl))
+    (advances {w' = later} refl))
     (scans {w' = scanning} 0 refl))
     (looks {w' = looked} 0 0 refl))
     (settles {w' = settled} 0 all_seen refl))
@@ -142,9 +142,9 @@ takes_when_busy = record {
   led = led_to_busy;
   taker = 0;
   card = 5;
-  stamp = 0;
+  retire_epoch = 0;
   free = refl;
-  safe = omega arith;
+  safe_epoch = omega arith;
   pass = 0;
   word = 1;
   busy = refl;

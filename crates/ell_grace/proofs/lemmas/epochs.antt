@@ -1,2 +1,2 @@
--- Grace periods.
+-- The protocol of epochs.
 pub mod Grace

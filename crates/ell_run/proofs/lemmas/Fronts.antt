@@ -13,7 +13,7 @@ use Rattle.ell_cards.specs.Models.{KeepsItsOwn}
 use Rattle.ell_tree.specs.Effects.{reply_of_change}
 use Rattle.ell_ops.specs.Meaning.{after as after_op}
 use Rattle.ell_tree.specs.declared.operations.NotDone.{NotDone}
-use Rattle.ell_tree.specs.Ends.{Answers, NotDoneFor, LaidDown}
+use Rattle.ell_tree.specs.Ends.{Answers, NotDoneFor, GivenUp}
 use Rattle.ell_tree.specs.Hindrances.{Meets}
 use Rattle.ell_tree.specs.Ledgers.{PassModel, TreeModel, Owns, IsIdle, answers, hindrances, present_in}
 use Rattle.ell_parts.specs.PartedOps.{PartedOps, part}
@@ -98,7 +98,7 @@ front_all plan tries items i before after piece all h =
 
 -- the next operation is not done
 pub front_not_done : (tree : TreeModel) (tries : ℕ) (items : List (ℕ × Op)) (i : ℕ) (d : ℕ × Op) (before mid after : PassModel) (piece : List (ℕ × Reply)) (why : NotDone) →
-    i < length items → OwnsKeysOf before items → IsFrontDone items i before mid piece → LaidDown tree (get_or items i d).1 mid after → NotDoneFor tree.plan tries mid after why →
+    i < length items → OwnsKeysOf before items → IsFrontDone items i before mid piece → GivenUp tree (get_or items i d).1 mid after → NotDoneFor tree.plan tries mid after why →
     IsWorkedOff tree.plan tries items before after piece
 front_not_done tree tries items i d before mid after piece why below owned h l not_done_for =
     let few = h.few in

@@ -98,8 +98,8 @@ pub mod Linearizing
 pub mod Took
 -- what a pass answered last among the calls of a run
 pub mod LinearizingAnswers
--- calls that were laid down
-pub mod LayingDown
+-- calls that were given up
+pub mod GivingUp
 -- passes that were joined to others
 pub mod Spent
 -- calls that are in hand still

@@ -10,7 +10,7 @@ use Rattle.ell_core.specs.state.Machine.{WorkerView}
 use Rattle.ell_tree.proofs.lemmas.Removing.{that_or_other}
 use Rattle.ell_tree.specs.Computing.{Concludes, IsNotDone, PutsValue, RemovesIf, UpdatesValue}
 use Rattle.ell_tree.specs.declared.operations.NotDone.{NotDone}
-use Rattle.ell_tree.specs.Ends.{Answers, LaidDown}
+use Rattle.ell_tree.specs.Ends.{Answers, GivenUp}
 use Rattle.ell_tree.specs.Ledgers.{TreeModel, PassModel, Owns}
 use Rattle.ell_tree.specs.Looks.{EndsLooks, OnlyLooks}
 use Rattle.ell_tree.specs.PassParts.{IsLeftPart, IsRightPart, IsUnion}
@@ -38,8 +38,8 @@ pub member_answered : (owned : List ℕ) (t : TreeModel) (op : Op) (said : Reply
 member_answered owned t op said p q h a = record { own = a.own.table ∙ h.own; idle = a.idle; ownable = a.share.ownable ∙ h.ownable }
 
 -- and without one
-pub member_laid_down : (owned : List ℕ) (t : TreeModel) (op : Op) (p q : PassModel) → IsMember owned t p → LaidDown t op p q → IsMember owned t q
-member_laid_down owned t op p q h l = record { own = l.own.table ∙ h.own; idle = l.idle; ownable = l.share.ownable ∙ h.ownable }
+pub member_given_up : (owned : List ℕ) (t : TreeModel) (op : Op) (p q : PassModel) → IsMember owned t p → GivenUp t op p q → IsMember owned t q
+member_given_up owned t op p q h l = record { own = l.own.table ∙ h.own; idle = l.idle; ownable = l.share.ownable ∙ h.ownable }
 
 -- and after a call of several operations, of which the last one was answered
 member_concluded : (owned : List ℕ) (t : TreeModel) (op : Op) (said : Reply) (p q : PassModel) → IsMember owned t p → Concludes t op said p q

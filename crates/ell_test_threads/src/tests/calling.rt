@@ -51,7 +51,7 @@ fn claim(rt: &impl Abort, tree: &Tree<Global>, pass: &Pass<Global>, owned: &[u64
 }
 
 /// Makes an operation on a key of the pass, or on a shared one, where these keys may have owners.
-#[tactic(auto, using(crate::proofs::lemmas::Sharers::member_answered, crate::proofs::lemmas::Sharers::member_laid_down))]
+#[tactic(auto, using(crate::proofs::lemmas::Sharers::member_answered, crate::proofs::lemmas::Sharers::member_given_up))]
 pub fn ask<G: StepGate>(
     rt: &impl Abort,
     tree: &Tree<Global>,
@@ -78,7 +78,7 @@ pub fn ask<G: StepGate>(
 }
 
 // Takes such a key away: the value that it took.
-#[tactic(auto, using(crate::proofs::lemmas::Sharers::member_answered, crate::proofs::lemmas::Sharers::member_laid_down))]
+#[tactic(auto, using(crate::proofs::lemmas::Sharers::member_answered, crate::proofs::lemmas::Sharers::member_given_up))]
 fn take<G: StepGate>(
     rt: &impl Abort,
     tree: &Tree<Global>,

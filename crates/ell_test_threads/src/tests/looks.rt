@@ -14,11 +14,11 @@ use ell_tree::NoGate;
 
 // Inserts of 4 and 7 are to flag node 10, and a delete of 5 is to flag node 20 and to mark node 10, which it cuts out.
 //
-//            20
-//          /    \
-//        10      .
-//       /  \    / \
-//      5   10  20  .
+// 20
+// /    \
+// 10      .
+// /  \    / \
+// 5   10  20  .
 const START: [(u64, u64); 3] = [(5, 50), (10, 100), (20, 200)];
 
 // The keys that have an owner. Others are shared.

@@ -201,11 +201,11 @@ fn a_scan_goes_on_where_keys_go_and_come_again(rt: HostRuntime) {
 // 10 and 11 read this. It goes on from node 20: 12 reads its key, 13 comes to the last node, 14 reads its key, 15 comes
 // to leaf 20, and 16 and 17 read this.
 //
-//            20
-//          /    \
-//        10      .
-//       /  \    / \
-//      5   10  20  .
+// 20
+// /    \
+// 10      .
+// /  \    / \
+// 5   10  20  .
 const SMALL: [(u64, u64); 3] = [(5, 50), (10, 100), (20, 200)];
 
 // The step before which the scan is held, what another pass does then, and what the scan tells.

@@ -1,7 +1,7 @@
-//! Safe numbers of a table of cards.
+//! Safe epochs of a table of cards.
 ghost use Rattle.std.specs.Prelude.{◌≡◌, ◌≤◌};
 ghost use Rattle.ell_runs.specs.Views.{IsFree};
-ghost use Rattle.ell_runs.specs.Starts.{most_places};
+ghost use Rattle.ell_runs.specs.Starts.{most_announcements};
 
 use ell_cards::{CardTable, FixedMemory, NoGate, Pass, TreeKind};
 use std::alloc::Global;
@@ -37,28 +37,30 @@ fn parted(
     table.split(pass, &[]).ok().expect(rt, "a place")
 }
 
-// A table whose keys are shared, with places for this many passes, and its first pass.
-fn with_places(
+// A table whose cards come back, for this many passes, and its first pass.
+fn reusing(
     rt: &(impl Abort + AllocGlobal),
-    places: u64,
+    announcements: u64,
 ) -> (CardTable<FixedMemory<Global>>, Pass<FixedMemory<Global>>)
-    requires { (1 ≤ places) × (places ≤ most_places) }
+    requires { (1 ≤ announcements) × (announcements ≤ most_announcements) }
     ensures { (result.1.table ≡ result.0.id) × IsFree result.1.view }
 {
-    CardTable::reserve(rt.alloc(), TreeKind::Reusing(places), &START, &[], 1).expect(rt, "table")
+    CardTable::reserve(rt.alloc(), TreeKind::Reusing(announcements), &START, &[], 1).expect(
+        rt, "table",
+    )
 }
 
 #[test]
-fn a_look_that_goes_on_holds_safe_numbers_down(rt: HostRuntime) {
-    let (table, pass) = with_places(&rt, 3);
+fn a_look_that_goes_on_holds_safe_epochs_down(rt: HostRuntime) {
+    let (table, pass) = reusing(&rt, 3);
     let (mut one, mut two) = parted(&rt, &table, pass);
     let steps = table.told_to(&NoGate);
-    assert!(rt; table.safe_number(&mut one) == 2);
+    assert!(rt; table.safe_epoch(&mut one) == 2);
     assert!(rt; steps.look(&mut two).node == 4);
-    assert!(rt; table.safe_number(&mut one) == 2 && table.safe_number(&mut two) == 2);
+    assert!(rt; table.safe_epoch(&mut one) == 2 && table.safe_epoch(&mut two) == 2);
     steps.end_look(&mut two);
-    assert!(rt; table.safe_number(&mut one) == 5);
+    assert!(rt; table.safe_epoch(&mut one) == 5);
     assert!(rt; steps.look(&mut two).node == 4);
     let mut both = joined(&rt, &table, one, two);
-    assert!(rt; table.safe_number(&mut both) == 6);
+    assert!(rt; table.safe_epoch(&mut both) == 6);
 }

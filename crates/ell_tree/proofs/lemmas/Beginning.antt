@@ -7,7 +7,7 @@ use Rattle.ell_runs.specs.Views.{Does, latest}
 use Rattle.ell_runs.specs.Changes.{after_begin, after_again, after_leave, in_the_way, tries_hindered}
 use Rattle.ell_runs.specs.Seeing.{SeesBegin}
 use Rattle.ell_tree.specs.Hindrances.{way_of}
-use Rattle.ell_tree.specs.Tries.{Begins, Lays}
+use Rattle.ell_tree.specs.Tries.{Begins, GivesUp}
 use Rattle.ell_cards.proofs.lemmas.views.Steps.{own_same}
 use Rattle.ell_tree.proofs.lemmas.Counts.{took_one}
 
@@ -54,10 +54,10 @@ begins_anew old new op s busy =
       took = took_one old (anew (Some op) old.view) refl;
     })
 
--- an operation that is laid down
-pub lays : (old new : PassModel) (op : Op) → EndsBy old new (after_leave old.view) → Does old.view op → Lays op old new
-lays old new op s busy = subst (λ (m : PassModel). Lays op old m) (sym s) (record {
-  laid = busy;
+-- an operation that is given up
+pub gives_up : (old new : PassModel) (op : Op) → EndsBy old new (after_leave old.view) → Does old.view op → GivesUp op old new
+gives_up old new op s busy = subst (λ (m : PassModel). GivesUp op old m) (sym s) (record {
+  given_up = busy;
   own = own_same old;
   sight = refl;
   ledger = refl;
@@ -71,7 +71,7 @@ lays old new op s busy = subst (λ (m : PassModel). Lays op old m) (sym s) (reco
   facts = refl;
   least = refl;
   idle = refl;
-  outside = refl;
+  unpinned = refl;
   no_card = refl;
   taken = refl;
   took = let one = took_one old (after_leave old.view) refl in record { steps = one.steps; made = one.made };

@@ -8,13 +8,12 @@ use Rattle.ell_core.specs.declared.exchange.Exchange.{Exchange}
 use Rattle.ell_core.specs.declared.view.Entry.{Entry}
 use Rattle.ell_core.specs.state.Machine.{ledger_of}
 use Rattle.ell_core.specs.statements.Effects.{contents_in, reply_of_change}
-use Rattle.ell_runs.specs.declared.view.View.{View}
 use Rattle.ell_runs.specs.Seeing.{SeesEnd}
-use Rattle.ell_cards.specs.Models.{PassModel, Steps}
+use Rattle.ell_cards.specs.Models.{PassModel}
 use Rattle.ell_runs.specs.Changes.{if_won}
 use Rattle.ell_tree.specs.declared.operations.NotDone.{NotDone}
 use Rattle.ell_tree.specs.declared.trying.Tried.TheVariants.{Answered}
-use Rattle.ell_tree.specs.CardsTaken.{claims_in, cards_taken, TakesNoCard, TakesAtMost, TakesCards, TakesOneIf, TryTakes}
+use Rattle.ell_tree.specs.CardsTaken.{claims_in, TakesNoCard, TakesAtMost, TakesCards, TakesOneIf, TryTakes}
 use Rattle.ell_runs.specs.Contention.{is_claim}
 use Rattle.ell_tree.specs.Ends.{AnswersAs, changes_by, reply_by}
 use Rattle.ell_tree.specs.Ledgers.{Owns, TreeModel, present_in}

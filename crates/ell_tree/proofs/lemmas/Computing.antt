@@ -17,7 +17,7 @@ use Rattle.ell_cards.specs.Models.{KeepsItsOwn, PassModel, ledger}
 use Rattle.ell_runs.specs.Seeing.{HasSeenMore, SeesCall}
 use Rattle.ell_runs.specs.Views.{SameShare}
 use Rattle.ell_tree.specs.Ledgers.{TreeModel, present_in, Owns, IsIdle}
-use Rattle.ell_tree.specs.Ends.{Answers, LaidDown}
+use Rattle.ell_tree.specs.Ends.{Answers, GivenUp}
 use Rattle.ell_tree.specs.Called.{SeesLast, SeesPut, SeesRead, SeesUpdate, put_by}
 use Rattle.ell_tree.specs.Computing.{IsUntouched, Concludes, LastChangesNothing, PutsValue, ReadsValue, UpdatesValue}
 use Rattle.ell_tree.specs.Promises.{MayDo}
@@ -54,27 +54,27 @@ untouched_by t op said p q leaves other h = let last = its_take op (λ took. See
   answered = let one = h.answered in omega arith;
   share = h.share;
   idle = h.idle;
-  outside = λ was. h.outside;
+  unpinned = λ was. h.unpinned;
   sees = no_change_call op said last.0 p.sight q.sight other last.1;
 }
 
 -- so is one whose ledger is as it was
 pub untouched_still : (p q : PassModel) → KeepsItsOwn p q → q.view.worker.ledger ≡ p.view.worker.ledger → SameShare p.view q.view
-    → IsIdle q → q.memory.inside ≡ false → HasSeenMore p.sight q.sight → IsUntouched p q
-untouched_still p q own ledgers share idle outside sees = let same : ledger q ≡ ledger p = ap ledger_of ledgers in record {
+    → IsIdle q → q.memory.is_pinned ≡ false → HasSeenMore p.sight q.sight → IsUntouched p q
+untouched_still p q own ledgers share idle unpinned sees = let same : ledger q ≡ ledger p = ap ledger_of ledgers in record {
   own = own;
   map = λ key. ap (λ f. contents_in f key) same;
   owned = λ key. (λ owns none. owns (ap (λ f. f key) same ∙ none), λ owns none. owns (sym (ap (λ f. f key) same) ∙ none));
   answered = let count = ap (λ (l : List Act). length l) sees.mine in omega (arith, count);
   share = share;
   idle = idle;
-  outside = λ was. outside;
+  unpinned = λ was. unpinned;
   sees = no_change_more p.sight q.sight sees;
 }
 
--- and one that lays an operation down
-pub untouched_laid : (t : TreeModel) (op : Op) (p q : PassModel) → LaidDown t op p q → IsUntouched p q
-untouched_laid t op p q h = untouched_still p q h.own h.ledger h.share h.idle h.outside h.sees
+-- and one that gives an operation up
+pub untouched_given_up : (t : TreeModel) (op : Op) (p q : PassModel) → GivenUp t op p q → IsUntouched p q
+untouched_given_up t op p q h = untouched_still p q h.own h.ledger h.share h.idle h.unpinned h.sees
 
 pub untouched_trans : (p q r : PassModel) → IsUntouched p q → IsUntouched q r → IsUntouched p r
 untouched_trans p q r g h = record {
@@ -84,7 +84,7 @@ untouched_trans p q r g h = record {
   answered = let one = g.answered in let more = h.answered in omega arith;
   share = share_trans p.view q.view r.view g.share h.share;
   idle = h.idle;
-  outside = λ was. h.outside (g.outside was);
+  unpinned = λ was. h.unpinned (g.unpinned was);
   sees = no_change_trans p.sight q.sight r.sight g.sees h.sees;
 }
 
@@ -101,7 +101,7 @@ concludes t op said p q r g h =
       answered = let one = h.answered in let more = g.answered in omega arith;
       share = share_trans p.view q.view r.view g.share h.share;
       idle = h.idle;
-      outside = h.outside;
+      unpinned = h.unpinned;
       sees = by_take op (λ took. SeesCall op said took q.sight r.sight) (λ took. SeesLast op said took p.sight r.sight)
           (λ took. sees_last op said took p.sight q.sight r.sight g.sees) h.sees;
     }
@@ -119,7 +119,7 @@ concludes_after t op said p q r g h =
       answered = let one = h.answered in let more = g.answered in omega arith;
       share = share_trans p.view q.view r.view g.share h.share;
       idle = h.idle;
-      outside = h.outside;
+      unpinned = h.unpinned;
       sees = by_take op (λ took. SeesLast op said took q.sight r.sight) (λ took. SeesLast op said took p.sight r.sight)
           (λ took. sees_last_after op said took p.sight q.sight r.sight g.sees) h.sees;
     }
@@ -167,7 +167,7 @@ untouched_self p idle = record {
   answered = omega arith;
   share = record { share = refl; ownable = refl };
   idle = idle;
-  outside = λ was. was;
+  unpinned = λ was. was;
   sees = no_change_self p.sight;
 }
 
@@ -219,8 +219,8 @@ pub put_on : (key value : ℕ) (was : Option ℕ) → key_of (put_by key value w
 put_on key value None = refl
 put_on key value (Some was) = refl
 
-pub laid_last : (t : TreeModel) (key value : ℕ) (was : Option ℕ) (p q : PassModel) → LaidDown t (put_by key value was) p q → LastChangesNothing t key q.view
-laid_last t key value was p q h = record { op = put_by key value was; on = put_on key value was; nothing = inl h.nothing }
+pub given_up_at_last : (t : TreeModel) (key value : ℕ) (was : Option ℕ) (p q : PassModel) → GivenUp t (put_by key value was) p q → LastChangesNothing t key q.view
+given_up_at_last t key value was p q h = record { op = put_by key value was; on = put_on key value was; nothing = inl h.nothing }
 
 -- what a pass has seen of a call that only reads, that updates a value, or that puts one
 pub reads_seen : (t : TreeModel) (key : ℕ) (was : Option ℕ) (p q : PassModel) → ReadsValue t key was p q → SeesRead key was p q

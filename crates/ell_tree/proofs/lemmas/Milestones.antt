@@ -120,7 +120,7 @@ pub milestones_more : (cards : ℕ) (u v : View) → ((f : Fact) → Knows u f �
 milestones_more cards u v k least =
     let more = ends_more cards u.worker.knows v.worker.knows (test_still u.worker.knows v.worker.knows k) in omega (arith, more, least)
 
--- after a pass has laid its operation down, they are the same
+-- after a pass has given its operation up, they are the same
 pub milestones_same : (cards : ℕ) (u v : View) → v.worker.knows ≡ u.worker.knows → v.next_at_least ≡ u.next_at_least → milestones_known cards v ≡ milestones_known cards u
 milestones_same cards u v facts least = λ t. ends_known cards (facts t) + (least t - 1)
 

@@ -60,7 +60,7 @@ answers_before Sees Sees' t op said p q r own same count share sees h =
       answered = h.answered ∙ ap (λ (l : List Act). length l + 1) count;
       share = share_trans p.view q.view r.view share h.share;
       idle = h.idle;
-      outside = h.outside;
+      unpinned = h.unpinned;
       sees = sees;
     }
 

@@ -62,10 +62,10 @@ first_pass plan made given opens = subst (IsFirst made.0) (sym opens.pass) (subs
   steps = refl;
   made = refl;
   label = refl;
-  safe = refl;
+  safe_epoch = refl;
   milestones = λ cards. milestones_none cards;
   idle = refl;
-  outside = refl;
+  unpinned = refl;
   sight = refl;
 }))
 
@@ -94,12 +94,12 @@ left_part keys p part s = subst (IsLeftPart keys p) (sym s) (record {
   taken = refl;
   steps = refl;
   made = refl;
-  safe = refl;
+  safe_epoch = refl;
   milestones = λ cards. refl;
   share = refl;
   ownable = refl;
   idle = refl;
-  inside = refl;
+  pinned = refl;
   sight = refl;
 })
 
@@ -113,12 +113,12 @@ right_part keys p part s = subst (IsRightPart keys p) (sym s) (record {
   taken = refl;
   steps = refl;
   made = refl;
-  safe = refl;
+  safe_epoch = refl;
   milestones = λ cards. refl;
   share = refl;
   ownable = refl;
   idle = refl;
-  outside = refl;
+  unpinned = refl;
   sight = refl;
 })
 
@@ -146,7 +146,7 @@ union left right both e = subst (IsUnion left right) (sym e) (record {
   next = refl;
   steps = refl;
   made = refl;
-  safe = refl;
+  safe_epoch = refl;
   milestones = λ cards. (
     milestones_more cards left.view (joined_view left.view right.view) (λ f h. known_left left.view.worker.knows right.view.worker.knows f h) (omega arith),
     milestones_more cards right.view (joined_view left.view right.view) (λ f h. known_right left.view.worker.knows right.view.worker.knows f h) (omega arith),
@@ -154,6 +154,6 @@ union left right both e = subst (IsUnion left right) (sym e) (record {
   share = refl;
   ownable = refl;
   idle = refl;
-  inside = refl;
+  pinned = refl;
   sight = refl;
 })

@@ -3,7 +3,7 @@ use Rattle.std.proofs.lemmas.Bool.{false≢true}
 use Rattle.ell_ops.specs.declared.op.Op.{Op}
 use Rattle.ell_ops.specs.declared.op.Op.TheVariants.{Delete}
 use Rattle.ell_ops.specs.declared.reply.Reply.TheVariants.{Yes}
-use Rattle.ell_cards.proofs.lemmas.shown.InRuns.{laid_down_last_changes_nothing}
+use Rattle.ell_cards.proofs.lemmas.shown.InRuns.{given_up_last_changes_nothing}
 use Rattle.ell_cards.proofs.lemmas.views.Steps.{own_trans}
 use Rattle.ell_runs.specs.declared.view.Act.{Act}
 use Rattle.ell_runs.specs.Plans.{TablePlan}
@@ -12,10 +12,10 @@ use Rattle.ell_runs.specs.Seeing.{SeesBegin}
 use Rattle.ell_tree.specs.declared.searching.Place.{Place}
 use Rattle.ell_tree.specs.Called.{SeesTake}
 use Rattle.ell_tree.specs.Computing.{IsUntouched, RemovesIf}
-use Rattle.ell_tree.specs.Ends.{Answers, LaidDown, TakesValue, is_value}
+use Rattle.ell_tree.specs.Ends.{Answers, GivenUp, TakesValue, is_value}
 use Rattle.ell_tree.specs.Ledgers.{Owns, TreeModel, present_in}
 use Rattle.ell_tree.specs.Searches.{EndsAt, there_at}
-use Rattle.ell_tree.specs.Tries.{Begins, Halts, Lays}
+use Rattle.ell_tree.specs.Tries.{Begins, Halts, GivesUp}
 use Rattle.ell_tree.proofs.lemmas.Computing.{concludes}
 use Rattle.ell_tree.proofs.lemmas.Keeping.{share_trans}
 use Rattle.ell_tree.proofs.lemmas.Owning.{has_there, would_before}
@@ -51,19 +51,19 @@ pub not_at : (plan : TablePlan) (p q : PassModel) (place : Place) (key was : ℕ
 not_at plan p q place key was same ends e owns = λ had.
     is_other was (there_at place key) e (sym (has_there plan p q same place (Delete key) ends owns) ∙ had)
 
--- an operation that begins, halts at its only try, and is laid down
-pub halts_laid : (t : TreeModel) (op : Op) (p q r s : PassModel) (n : ℕ) → Begins op [] n p q → SeesBegin op p.sight q.sight → Halts op q r → Lays op r s → LaidDown t op p s
-halts_laid t op p q r s n begins sees halts lays = record {
-  own = own_trans p r s (own_trans p q r begins.own halts.own) lays.own;
-  ledger = lays.ledger ∙ (halts.ledger ∙ begins.ledger);
-  answered = ap (λ (l : List Act). length l) (sees_none op p.sight q.sight s.sight sees (lays.sight ∙ halts.sight)).mine;
-  share = share_trans p.view r.view s.view (share_trans p.view q.view r.view begins.share halts.share) lays.share;
+-- an operation that begins, halts at its only try, and is given up
+pub halts_given_up : (t : TreeModel) (op : Op) (p q r s : PassModel) (n : ℕ) → Begins op [] n p q → SeesBegin op p.sight q.sight → Halts op q r → GivesUp op r s → GivenUp t op p s
+halts_given_up t op p q r s n begins sees halts gives_up = record {
+  own = own_trans p r s (own_trans p q r begins.own halts.own) gives_up.own;
+  ledger = gives_up.ledger ∙ (halts.ledger ∙ begins.ledger);
+  answered = ap (λ (l : List Act). length l) (sees_none op p.sight q.sight s.sight sees (gives_up.sight ∙ halts.sight)).mine;
+  share = share_trans p.view r.view s.view (share_trans p.view q.view r.view begins.share halts.share) gives_up.share;
   would = would_before op p q begins.ledger halts.would;
-  nothing = laid_down_last_changes_nothing t.plan s.view op lays.laid;
-  idle = lays.idle;
-  outside = lays.outside;
-  no_card = lays.no_card;
-  sees = sees_none op p.sight q.sight s.sight sees (lays.sight ∙ halts.sight);
+  nothing = given_up_last_changes_nothing t.plan s.view op gives_up.given_up;
+  idle = gives_up.idle;
+  unpinned = gives_up.unpinned;
+  no_card = gives_up.no_card;
+  sees = sees_none op p.sight q.sight s.sight sees (gives_up.sight ∙ halts.sight);
 }
 
 -- what a delete took is what the key had before others that have changed nothing

@@ -10,20 +10,20 @@ use Rattle.ell_runs.specs.Views.{Does, Knows}
 use Rattle.ell_cards.specs.declared.view.Retired.{Retired}
 use Rattle.ell_cards.specs.Ended.{HasPut}
 use Rattle.ell_cards.specs.Models.{PassModel}
-use Rattle.ell_cards.specs.Noting.{HasNoted}
+use Rattle.ell_cards.specs.RetiringInSlots.{RetiresOnly}
 use Rattle.ell_cards.proofs.lemmas.views.Steps.{own_same, own_trans}
 use Rattle.ell_tree.specs.declared.searching.Place.{Place}
 use Rattle.ell_tree.specs.Helps.{IsInsert}
 use Rattle.ell_tree.specs.Keeping.{Keeps, KeepsAll, KeepsAllButMet, LosesNothing}
 use Rattle.ell_tree.specs.Searches.{node_with}
 
--- what a pass kept it has kept once it has noted nodes
-keeps_noted : (a m : PassModel) (retired : Retired) (n : ℕ) → Keeps a m n → Keeps a (record m { memory = record (m.memory) { retired = retired } }) n
-keeps_noted a m retired n h = record { own = own_trans a m _ h.own (own_same m); sight = h.sight; slot = h.slot; view = h.view; took = record { steps = h.took.steps; made = h.took.made } }
+-- what a pass kept it has kept once it has retired nodes
+keeps_retired : (a m : PassModel) (retired : Retired) (n : ℕ) → Keeps a m n → Keeps a (record m { memory = record (m.memory) { retired = retired } }) n
+keeps_retired a m retired n h = record { own = own_trans a m _ h.own (own_same m); sight = h.sight; slot = h.slot; view = h.view; took = record { steps = h.took.steps; made = h.took.made } }
 
-pub keeps_all_noted : (a m m' : PassModel) (n : ℕ) → KeepsAll a m n → HasNoted m m' → KeepsAll a m' n
-keeps_all_noted a m m' n h same = subst (λ x. KeepsAll a x n) (sym same) (record {
-  keeps = keeps_noted a m _ n h.keeps;
+pub keeps_all_retired : (a m m' : PassModel) (n : ℕ) → KeepsAll a m n → RetiresOnly m m' → KeepsAll a m' n
+keeps_all_retired a m m' n h same = subst (λ x. KeepsAll a x n) (sym same) (record {
+  keeps = keeps_retired a m _ n h.keeps;
   taken = h.taken;
   card = h.card;
   flagged = h.flagged;
@@ -31,9 +31,9 @@ keeps_all_noted a m m' n h same = subst (λ x. KeepsAll a x n) (sym same) (recor
   hindrances = h.hindrances;
 })
 
-pub keeps_but_met_noted : (a m m' : PassModel) (n : ℕ) → KeepsAllButMet a m n → HasNoted m m' → KeepsAllButMet a m' n
-keeps_but_met_noted a m m' n h same = subst (λ x. KeepsAllButMet a x n) (sym same) (record {
-  keeps = keeps_noted a m _ n h.keeps;
+pub keeps_but_met_retired : (a m m' : PassModel) (n : ℕ) → KeepsAllButMet a m n → RetiresOnly m m' → KeepsAllButMet a m' n
+keeps_but_met_retired a m m' n h same = subst (λ x. KeepsAllButMet a x n) (sym same) (record {
+  keeps = keeps_retired a m _ n h.keeps;
   taken = h.taken;
   card = h.card;
   flagged = h.flagged;

@@ -25,7 +25,7 @@ use Rattle.ell_runs.specs.Changes.{after_upd, told_value}
 use Rattle.ell_runs.proofs.lemmas.views.Afters.{after_key_of, after_value_of, after_down}
 use Rattle.ell_runs.specs.Guards.{MayAnswer, TellsOf}
 use Rattle.ell_runs.specs.Calls.{TellsKey, TellsLedgerValue}
-use Rattle.ell_runs.specs.Depths.{depth_of, IsShallow}
+use Rattle.ell_runs.specs.Depths.{depth_of}
 use Rattle.ell_runs.proofs.lemmas.views.Depths.{depth_more, went_deeper}
 use Rattle.ell_runs.proofs.lemmas.views.Entries.{places_more}
 use Rattle.ell_cards.proofs.lemmas.views.Steps.{view_seen}

@@ -53,7 +53,7 @@ sees_call op said took p q m r b same end =
       mine = e.mine ∙ ap (λ (l : List Act). record { begin = e.begin; end = length e.before; op = op; said = said; took = took } ∷ l) b.mine;
     }
 
--- and one that was laid down is none
+-- and one that was given up is none
 pub sees_none : (op : Op) (p q m : Sight) → SeesBegin op p q → m ≡ q → HasSeenMore p m
 sees_none op p q m b same = subst (HasSeenMore p) (sym same) (record { more = begun_part op p q b; mine = b.mine })
 

@@ -44,14 +44,13 @@ impl Handle {
     /// Once the nodes of a card are out of the tree, and no call that might know of them is under way, its slot is free
     /// for another card. A slot is held back while a call that began before it became free goes on.
     ///
-    /// `Spent` means that a change was not made and found no slot, and it may be made again. If more than
-    /// `2 * n + 3 * h + 4 + y` cards were asked for, where the tree has `n` keys, there may be `h` handles, and `y`
-    /// slots were set free too lately for the call, then it returns `Spent` only as numbers come to an end, once slots
-    /// were taken, or passed over as they were in use, 2^36 times (`cards_left`). Only deletes take the last two slots,
-    /// so in a tree that keys fill they can be taken away. All this, and that slots and places come back, is tested,
-    /// and no clause says it.
-    /// `another` returns `TooManyHandles` if the tree has as many handles as asked
-    /// for; one that is released makes room for another. Errors are as for `open`.
+    /// `Spent` means that a change was not made and found no slot, and it may be made again. If more than `2 * n + 3 *
+    /// h + 4 + y` cards were asked for, where the tree has `n` keys, there may be `h` handles, and `y` slots were set
+    /// free too lately for the call, then it returns `Spent` only as numbers come to an end, once slots were taken, or
+    /// passed over as they were in use, 2^36 times (`cards_left`). Only deletes take the last two slots, so in a tree
+    /// that keys fill they can be taken away. All this, and that slots and announcements come back, is tested, and no
+    /// clause says it. `another` returns `TooManyHandles` if the tree has as many handles as asked for; one that is
+    /// released makes room for another. Errors are as for `open`.
     pub fn open_reusing(
         alloc: Global,
         start: &[Pair],
@@ -59,8 +58,8 @@ impl Handle {
         handles: u64,
     ) -> Result<Handle, Refusal>
         // The handle is the first of a new flat tree with the start pairs whose cards come back, with slots for the
-        // cards asked for and places for the handles asked for, or the nearest number that there may be. It has the
-        // whole share, and has seen nothing of the tree's history.
+        // cards asked for and announcements for the handles asked for, or the nearest number that there may be. It has
+        // the whole share, and has seen nothing of the tree's history.
         ensures opened { IfOk result (IsOpenedReusing (as_pairs start.now) cards (handles_for handles)) }
         // `BadStart` is returned exactly if the start keys do not strictly ascend or there are more than 1,000,000,
         // then `BadKey` exactly for a key above the greatest one, then `BadCards` exactly if the number of cards is not

@@ -8,5 +8,5 @@ returns c = record {
   stretches = shown.stretches_are_of_one_state;
   answered = shown.answers_have_their_points;
   taken = shown.deletes_take_what_they_tell;
-  laid_down = shown.laid_down_last_changes_nothing;
+  given_up = shown.given_up_last_changes_nothing;
 }

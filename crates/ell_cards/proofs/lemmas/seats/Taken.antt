@@ -4,7 +4,7 @@ use Rattle.ell_runs.specs.declared.view.Slots.{Slots}
 use Rattle.ell_runs.specs.declared.view.View.{View}
 use Rattle.ell_cards.specs.Models.{PassModel, Sees, SeesOn, Steps}
 use Rattle.ell_runs.specs.Plans.{TablePlan}
-use Rattle.ell_cards.specs.Stepping.{Enters, EntersBy, KeepsPass, SeesBy, SeesOnBy, StepsBy, IsTaken}
+use Rattle.ell_cards.specs.Stepping.{Pins, PinsBy, KeepsPass, SeesBy, SeesOnBy, StepsBy, IsTaken}
 
 -- what is taken leaves the pass as it has to be
 pub taken_keeps : (plan : TablePlan) (c : Call) (v : View) → KeepsPass plan v (IsTaken plan c v)
@@ -19,8 +19,8 @@ pub sees_on_by : (old new : PassModel) (v : View) → SeesOnBy old new → new.v
 sees_on_by old new v by known = λ t. record { table = by.own.table t; view = known t; steps = by.steps t; label = by.own.label t; memory = by.memory t; sight = new.sight }
 
 -- and after one that may have begun an operation
-pub enters_by : (slots : Option Slots) (c : Call) (old new : PassModel) (v : View) → EntersBy slots c old new → new.view ≡ v → Enters slots old new v
-enters_by slots c old new v by known = λ t. record { table = by.own.table t; view = known t; steps = by.steps t; label = by.own.label t; memory = by.memory t; sight = new.sight }
+pub pins_by : (slots : Option Slots) (c : Call) (old new : PassModel) (v : View) → PinsBy slots c old new → new.view ≡ v → Pins slots old new v
+pins_by slots c old new v by known = λ t. record { table = by.own.table t; view = known t; steps = by.steps t; label = by.own.label t; memory = by.memory t; sight = new.sight }
 
 -- a pass after one step that took this call
 pub steps_by : (old new : PassModel) (v : View) → StepsBy old new → new.view ≡ v → Steps old new v

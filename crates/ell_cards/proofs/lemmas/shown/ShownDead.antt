@@ -6,7 +6,7 @@ use Rattle.ell_runs.specs.declared.view.Told.TheVariants.{Info, Met}
 use Rattle.ell_runs.specs.declared.view.View.{View}
 use Rattle.ell_cards.specs.Apart.{cut_node}
 use Rattle.ell_runs.specs.Met.{NamesMet}
-use Rattle.ell_cards.specs.Noting.{KnowsDeadNodes, NeverCome}
+use Rattle.ell_cards.specs.RetiringInSlots.{KnowsDeadNodes, NeverCome}
 use Rattle.ell_runs.specs.Dead.{HasTakenOut, KnowsReplaced, KnowsUnused, KnowsNeverComes}
 use Rattle.ell_runs.specs.Views.{IsTold}
 use Rattle.ell_cards.specs.Shown.{shown}

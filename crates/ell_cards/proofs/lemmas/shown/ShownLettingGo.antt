@@ -1,4 +1,4 @@
--- What a pass is to have noted before it lets its card in hand go, by what is shown of what it knows.
+-- What a pass is to have retired before it lets its card in hand go, by what is shown of what it knows.
 use Rattle.std.proofs.Common.{◌≡◌, ℕ, Option, true, sym, ◌∙◌, subst, arith}
 use Rattle.ell_word.specs.Node.{card}
 use Rattle.ell_layout.specs.declared.field.Field.TheVariants as field
@@ -50,8 +50,8 @@ module _ (s : Slots) (v : View) (r : Retired) (c : ℕ) where
         leaf = below.whole;
         above = above.has;
         below = below.has;
-        parent_noted = λ has. h.parent_noted (has_slot_low s.last above.whole h.parent above.is has);
-        leaf_noted = λ node has. h.leaf_noted (λ three. node (sym (place_whole below.whole h.leaf below.is) ∙ three)) (has_slot_low s.last below.whole h.leaf below.is has);
+        parent_retired = λ has. h.parent_retired (has_slot_low s.last above.whole h.parent above.is has);
+        leaf_retired = λ node has. h.leaf_retired (λ three. node (sym (place_whole below.whole h.leaf below.is) ∙ three)) (has_slot_low s.last below.whole h.leaf below.is has);
       }
 
   retired_whole : IsRetired s (shown v) r c → IsRetired s v r c

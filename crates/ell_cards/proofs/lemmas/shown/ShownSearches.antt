@@ -22,7 +22,7 @@ use Rattle.ell_cards.specs.Apart.{cut_node, IsApart}
 use Rattle.ell_runs.specs.Depths.{depth_told, met_at}
 use Rattle.ell_runs.specs.Plans.{TablePlan}
 use Rattle.ell_runs.specs.Views.{IsTold, StandsAt}
-use Rattle.ell_runs.specs.Changes.{counted, forgotten, way_now, in_the_way, read_in_way, first_in_way, was_hindered, given_up, at_rest, after_begin, after_again, after_leave, after_answer, after_upd, places_by, told_info, depth_there, knows_delete, is_this}
+use Rattle.ell_runs.specs.Changes.{counted, forgotten, way_now, in_the_way, read_in_way, first_in_way, was_hindered, after_try, at_rest, after_begin, after_again, after_leave, after_answer, after_upd, places_by, told_info, depth_there, knows_delete, is_this}
 use Rattle.ell_runs.specs.Calls.{after}
 use Rattle.ell_cards.specs.Shown.{IsWord, cut_word, cut_field, shown_seen, shown_glance, shown_told, shown, FieldIsWhole}
 use Rattle.ell_cards.proofs.lemmas.shown.CutWords.{same_cut, cut_node_in, cut_tag_in, cut_same}
@@ -48,8 +48,8 @@ way_for None node parent above = refl
 pub way_shown : (v : View) → way_now (shown v) ≡ way_now v
 way_shown v = way_for v.worker.operation v.worker.search.node v.worker.search.parent v.worker.search.grandparent
 
-given_up_shown : (v : View) → shown (given_up v) ≡ given_up (shown v)
-given_up_shown v =
+after_try_shown : (v : View) → shown (after_try v) ≡ after_try (shown v)
+after_try_shown v =
     ap (λ way. record (shown v) {
       hindrances = way ++ v.hindrances;
       hindered = v.hindered + (if was_hindered v.worker.knows (way ++ v.met) then 1 else 0);
@@ -57,11 +57,11 @@ given_up_shown v =
 
 -- again, leave and answer
 pub again_shown : (v : View) → shown (after_again v) ≡ after_again (shown v)
-again_shown v = ap (after_begin v.worker.operation) (given_up_shown v)
+again_shown v = ap (after_begin v.worker.operation) (after_try_shown v)
 
 pub leave_shown : (v : View) → shown (after_leave v) ≡ after_leave (shown v)
 leave_shown v =
-    ap (λ w. counted (record (at_rest v.worker.ledger w) { laid_down = v.worker.operation })) (given_up_shown v)
+    ap (λ w. counted (record (at_rest v.worker.ledger w) { given_up = v.worker.operation })) (after_try_shown v)
 
 pub answer_shown : (said : Reply) (took : Option ℕ) (v : View) → shown (after_answer said took v) ≡ after_answer said took (shown v)
 answer_shown said took v = refl

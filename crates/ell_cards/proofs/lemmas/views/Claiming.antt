@@ -36,7 +36,7 @@ beside_same node v = record {
   looks = refl;
   glances = refl;
   answered = refl;
-  laid_down = refl;
+  given_up = refl;
   before = refl;
   hindered = refl;
   earlier = λ hs e. e;
@@ -72,7 +72,7 @@ beside_trans node u v w h k = record {
   looks = k.looks ∙ h.looks;
   glances = k.glances ∙ h.glances;
   answered = k.answered ∙ h.answered;
-  laid_down = k.laid_down ∙ h.laid_down;
+  given_up = k.given_up ∙ h.given_up;
   before = k.before ∙ h.before;
   hindered = k.hindered ∙ h.hindered;
   earlier = λ hs e. k.earlier hs (h.earlier hs e);
@@ -107,7 +107,7 @@ next_beside node n v = record {
   looks = refl;
   glances = refl;
   answered = refl;
-  laid_down = refl;
+  given_up = refl;
   before = refl;
   hindered = refl;
   earlier = λ hs e. e;
@@ -131,7 +131,7 @@ lost_beside node c v low = record {
   looks = refl;
   glances = refl;
   answered = refl;
-  laid_down = refl;
+  given_up = refl;
   before = refl;
   hindered = refl;
   earlier = λ hs e. ap (λ (l : List Hindrance). Claim c ∷ l) e;
@@ -155,7 +155,7 @@ row_beside first last node v w r low up = record {
   looks = r.looks;
   glances = r.glances;
   answered = r.answered;
-  laid_down = r.laid_down;
+  given_up = r.given_up;
   before = r.knew_before;
   hindered = r.hindered;
   earlier = λ hs e. r.hindrances ∙ (e ∙ ap (λ (ms : List Hindrance). ms ++ hs) (sym r.met));
@@ -202,7 +202,7 @@ asks_step plan node a b w s beside made =
     subst (λ (p : PassModel). AsksForCard plan node 1 a p) (sym s)
     (record { own = record { table = refl; label = refl }; sight = refl; inside = refl; view = beside; steps = omega arith; made = made })
 
--- looks at places are not
+-- looks at announcements are not
 asks_looked : (plan : TablePlan) (node : NewNode) (a b : PassModel) → LooksAround a b → AsksForCard plan node 0 a b
 asks_looked plan node a b same =
     subst (λ (p : PassModel). AsksForCard plan node 0 a p) (sym same)
@@ -233,7 +233,7 @@ asks_row plan node first last row b d false low s =
 pub row_by : (plan : TablePlan) (s : Slots) → plan.slots ≡ Some s → (first last : ℕ) → first ≤ last → last ≤ plan.last_card → IsRow plan first last
 row_by plan s placed first last order room = record { order = order; room = room; one = λ empty. absurd (some_not_none placed empty) }
 
--- A pass read the claim word, and then perhaps looked at places. It may claim the next card then.
+-- A pass read the claim word, and then perhaps looked at announcements. It may claim the next card then.
 module _ (plan : TablePlan) (node : NewNode) (a b e : PassModel) (first : ℕ) (read : Steps a b (after_next first a.view)) (same : LooksAround b e)
     (low : a.view.next_at_least ≤ first) where
   view_then : e.view ≡ after_next first a.view
@@ -265,7 +265,7 @@ module _ (plan : TablePlan) (node : NewNode) (a b e : PassModel) (first : ℕ) (
         asks_trans plan node a e d 1 1 2 asks_then
         (asks_row plan node first last row e d won (let least = ap (λ (v : View). v.next_at_least) view_then in omega (arith, least, low)) s) (omega arith)
 
-    -- and then perhaps looked at places again, and took the last one's slot, or found it in use
+    -- and then perhaps looked at announcements again, and took the last one's slot, or found it in use
     pub asks_on : (won : Bool) → ClaimsAll won → (l f : PassModel) → LooksAround d l → (took : Bool) → f ≡ (if took then with_slot last l else l) → AsksForCard plan node 2 a f
     asks_on won s l f looked took is =
         asks_trans plan node a l f 2 0 2 (asks_trans plan node a d l 2 0 2 (asks_there won s) (asks_looked plan node d l looked) (omega arith))
@@ -278,7 +278,7 @@ module _ (plan : TablePlan) (node : NewNode) (a b e : PassModel) (first : ℕ) (
     -- with its slot
     pub takes_card : 1 ≤ first → plan.last_card ≤ greatest_number → (f : PassModel) → f.view ≡ d.view → ClaimsAll true → (plan.slots ≢ None → f.memory.slot ≡ Some last)
         → (plan.slots ≢ None → f.memory.retired ≡ none_retired) → TakesCard plan node last a f
-    takes_card some limit f is s took unnoted =
+    takes_card some limit f is s took unretired =
         let r = row_there f is s in
         record {
           first = omega (arith, some, row.order);
@@ -292,7 +292,7 @@ module _ (plan : TablePlan) (node : NewNode) (a b e : PassModel) (first : ℕ) (
           told = r.says;
           hindrances = r.hindrances;
           slot = took;
-          unnoted = unnoted;
+          unretired = unretired;
           won = r.claimed last row.order (omega arith);
           one = λ empty. ap (λ (v : View). v.won) (is ∙ view_there true s) ∙ one (row.one empty);
         }
@@ -302,7 +302,7 @@ module _ (plan : TablePlan) (node : NewNode) (a b e : PassModel) (first : ℕ) (
             let none : last - first ≡ 0 = omega (arith, only) in
             ap (λ m. (after_row m first node (after_next first a.view)).won) none ∙ ap (λ c. (exchange.Claim, c) ∷ a.view.won) (sym only)
 
-    -- or that was in use, and the card may be laid aside
+    -- or that was in use, and the card may be discarded
     pub claims_in_vain : plan.slots ≢ None → (f : PassModel) → f.view ≡ d.view → f.memory.slot ≡ d.memory.slot → f.memory.retired ≡ d.memory.retired → ClaimsAll true
         → IsFresh plan e.memory.slot true last → ClaimsInVain a f
     claims_in_vain places f is slot retired s fresh =
@@ -312,7 +312,7 @@ module _ (plan : TablePlan) (node : NewNode) (a b e : PassModel) (first : ℕ) (
           hand = record {
             unflagged = λ c holds. r.unflagged;
             below = λ c holds. (let only = same_Some last c (sym r.card ∙ holds) in omega (arith, only, r.least));
-            aside = λ c holds took. fresh places refl (sym before ∙ (sym slot ∙ (took ∙ (sym holds ∙ r.card))));
+            discarded = λ c holds took. fresh places refl (sym before ∙ (sym slot ∙ (took ∙ (sym holds ∙ r.card))));
           };
           hindrances = r.hindrances;
           slot = slot ∙ (before ∙ slot_then);

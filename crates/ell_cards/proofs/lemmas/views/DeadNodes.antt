@@ -4,7 +4,7 @@ use Rattle.std.proofs.lemmas.Bool.Decides.{nat_tests}
 use Rattle.ell_word.specs.Node.{card}
 use Rattle.ell_cards.specs.declared.card_nodes.CardNodes.{CardNodes}
 use Rattle.ell_cards.specs.CardNodes.{has_node, node_alone, nodes_of_both}
-use Rattle.ell_cards.specs.Noting.{AllOfCard}
+use Rattle.ell_cards.specs.RetiringInSlots.{AllOfCard}
 
 -- a node alone is the one at its place
 alone : (place i : ℕ) → has_node (node_alone place) i ≡ true → place ≡ i

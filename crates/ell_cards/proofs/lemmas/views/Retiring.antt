@@ -5,11 +5,11 @@ use Rattle.ell_cards.specs.declared.card_nodes.CardNodes.{CardNodes}
 use Rattle.ell_cards.specs.declared.retiring.Whose.TheVariants.{Own}
 use Rattle.ell_cards.specs.declared.view.Retired.{Retired}
 use Rattle.ell_cards.specs.LettingGo.{CutIsRetired}
-use Rattle.ell_cards.specs.Noting.{retires_in}
+use Rattle.ell_cards.specs.RetiringInSlots.{retires_in}
 use Rattle.ell_cards.specs.Retiring.{with_retired}
 use Rattle.ell_cards.specs.SlotWords.{has_slot_in}
 
--- what is noted of nodes that a card took out stays noted once some of its own are
+-- what is retired of nodes that a card took out stays retired once some of its own are
 parent_stays : (has : Bool) (nodes : CardNodes) (r : Retired) → (if has then with_retired Own nodes r else r).parent ≡ r.parent
 parent_stays true nodes r = refl
 parent_stays false nodes r = refl
@@ -24,6 +24,6 @@ cut_stays s v r c nodes h = record {
   leaf = h.leaf;
   above = h.above;
   below = h.below;
-  parent_noted = λ slot. parent_stays (has_slot_in s.last c) nodes r ∙ h.parent_noted slot;
-  leaf_noted = λ node slot. leaf_stays (has_slot_in s.last c) nodes r ∙ h.leaf_noted node slot;
+  parent_retired = λ slot. parent_stays (has_slot_in s.last c) nodes r ∙ h.parent_retired slot;
+  leaf_retired = λ node slot. leaf_stays (has_slot_in s.last c) nodes r ∙ h.leaf_retired node slot;
 }

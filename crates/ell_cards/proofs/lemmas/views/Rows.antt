@@ -1,4 +1,4 @@
--- What a pass knows after a row of claims, in which each card but the last one is laid aside.
+-- What a pass knows after a row of claims, in which each card but the last one is discarded.
 use Rattle.std.proofs.Common.{◌≢◌, ◌<◌, ◌≤◌, ◌-◌, ◌*◌, unwrap_or, ◌≡◌, ◌⊎◌, ℕ, zero, suc, ◌+◌, ◌==◌, ◌%◌, if◌then◌else◌, Bool, true, false, Some, List, [], ◌∷◌, inl, inr, refl, sym, ap, ◌∙◌, subst, arith}
 use Rattle.std.proofs.lemmas.Bool.{cases_eq}
 use Rattle.std.proofs.lemmas.Option.{same_Some}
@@ -111,7 +111,7 @@ pub record IsAfterRow (first last : ℕ) (node : NewNode) (old new : View) : Typ
   pub looks : new.looks ≡ old.looks
   pub glances : new.glances ≡ old.glances
   pub answered : new.answered ≡ old.answered
-  pub laid_down : new.laid_down ≡ old.laid_down
+  pub given_up : new.given_up ≡ old.given_up
   pub knew_before : new.knew_before ≡ old.knew_before
   pub hindrances : new.hindrances ≡ old.hindrances
   pub hindered : new.hindered ≡ old.hindered
@@ -143,7 +143,7 @@ rows_keep zero c node v = subst (λ m. IsAfterRow c m node v (cut_planned (after
   looks = refl;
   glances = refl;
   answered = refl;
-  laid_down = refl;
+  given_up = refl;
   knew_before = refl;
   hindrances = refl;
   hindered = refl;
@@ -180,7 +180,7 @@ rows_keep (suc n) c node v =
       looks = h.looks;
       glances = h.glances;
       answered = h.answered;
-      laid_down = h.laid_down;
+      given_up = h.given_up;
       knew_before = h.knew_before;
       hindrances = h.hindrances;
       hindered = h.hindered;
@@ -240,8 +240,8 @@ wants_same from v w more same (Delete k) parent x key node_key h = record {
   calm = h.calm;
 }
 
--- so in a flat tree, where it might claim the card from which it has claimed a row, it may claim the next one too, once it
--- has read that: then the last one of the row is laid aside
+-- so in a flat tree, where it might claim the card from which it has claimed a row, it may claim the next one too, once
+-- it has read that: then the last one of the row is discarded
 pub row_claims_on : (from : ℕ) → 0 < from → (n c : ℕ) (node : NewNode) (next : ℕ) (v : View) → next ≢ c + n → MayClaim from v c node
     → MayClaim from (after call.Next next (after_row n c node v)) next node
 row_claims_on from flat n c node next v other m =

@@ -15,15 +15,16 @@ use Rattle.ell_runs.proofs.lemmas.views.Entries.{info_latest, info_node, info_ta
 use Rattle.ell_word.specs.Link.{link_in}
 use Rattle.ell_layout.specs.Cards.{says_by}
 
--- nothing but its table and its label is a pass's own
+-- whatever else of a pass becomes another, it keeps its own
 pub own_same : (a : PassModel) {view : View} {steps : ℕ} {memory : PassMemory} {sight : Sight} → KeepsItsOwn a (record a { view = view; steps = steps; memory = memory; sight = sight })
 own_same a = record { table = refl; label = refl }
 
+-- so it does where a step changed all else
 pub own_step : (a b : PassModel) {view : View} {steps : ℕ} {memory : PassMemory} {sight : Sight} → b ≡ record a { view = view; steps = steps; memory = memory; sight = sight }
     → KeepsItsOwn a b
 own_step a b s = record { table = ap (λ (m : PassModel). m.table) s; label = ap (λ (m : PassModel). m.label) s }
 
--- what it kept twice it kept
+-- and by steps that come one after the other
 pub own_trans : (a b c : PassModel) → KeepsItsOwn a b → KeepsItsOwn b c → KeepsItsOwn a c
 own_trans a b c h h' = record { table = h'.table ∙ h.table; label = h'.label ∙ h.label }
 

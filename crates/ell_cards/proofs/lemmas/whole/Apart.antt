@@ -5,33 +5,33 @@ use lib.ListN.{get_elem?}
 use Rattle.ell_core.proofs.lemmas.outcomes.Decide.{some_not_none}
 use Rattle.ell_cards.specs.declared.view.Known.{Known}
 use Rattle.ell_runs.specs.declared.view.Slots.{Slots}
-use Rattle.ell_cards.specs.Ages.{HasPeriods}
+use Rattle.ell_cards.specs.Ages.{HasEpochs}
 use Rattle.ell_cards.specs.Apart.{IsApart, IsToldApart}
 use Rattle.ell_runs.specs.Plans.{TablePlan}
-use Rattle.ell_cards.specs.Periods.{WholeState}
+use Rattle.ell_cards.specs.Epochs.{WholeState}
 use Rattle.ell_runs.specs.States.{TableState}
-use Rattle.ell_cards.specs.Ties.{child_now, ChildrenAreApart, PassesTellApart}
-use Rattle.ell_cards.specs.Whole.{PeriodsAre, IsWhole}
-use Rattle.ell_cards.proofs.lemmas.ties.Apart.{tells_apart, tells_apart_plain}
-use Rattle.ell_cards.proofs.lemmas.ties.Found.{child_apart, child_apart_plain}
-use Rattle.ell_cards.proofs.lemmas.ties.Touched.{IsReady}
+use Rattle.ell_cards.specs.RefinementLaws.{child_now, ChildrenAreApart, PassesTellApart}
+use Rattle.ell_cards.specs.Whole.{EpochsAre, IsWhole}
+use Rattle.ell_cards.proofs.lemmas.refinement.Apart.{tells_apart, tells_apart_plain}
+use Rattle.ell_cards.proofs.lemmas.refinement.Found.{child_apart, child_apart_plain}
+use Rattle.ell_cards.proofs.lemmas.refinement.Touched.{IsReady}
 use Rattle.ell_cards.proofs.lemmas.whole.Trees.{tree_at}
 
--- where the periods of a table are sound, each pass is ready
-pub ready_there : (plan : TablePlan) (s : Slots) (tree : TableState) (t : WholeState) (h : HasPeriods plan s tree t) (id : ℕ) (k : Known)
+-- where the epochs of a table are sound, each pass is ready
+pub ready_there : (plan : TablePlan) (s : Slots) (tree : TableState) (t : WholeState) (h : HasEpochs plan s tree t) (id : ℕ) (k : Known)
     → get_elem? t.views id ≡ some k → IsReady plan tree id k h.was_dead
-ready_there plan s tree t h id k here = by k.period.announced refl
+ready_there plan s tree t h id k here = by k.participant.announced refl
   where
-    by_place : (a : ℕ) → k.period.announced ≡ Some a → (o : Option ℕ) → k.period.place ≡ o → IsReady plan tree id k h.was_dead
-    by_place a says None none = absurd (some_not_none says ((h.periods.each id k here).none none))
-    by_place a says (Some q) at = elim (h.ages.since id q a k here at says) [
+    by_announcement : (a : ℕ) → k.participant.announced ≡ Some a → (o : Option ℕ) → k.participant.announcement ≡ o → IsReady plan tree id k h.was_dead
+    by_announcement a says None none = absurd (some_not_none says ((h.epochs.each id k here).none none))
+    by_announcement a says (Some q) at = elim (h.ages.since id q a k here at says) [
       | inl rest ↦ inl rest
       | inr forgot ↦ inr (q, a, at, says, forgot)
     ]
 
-    by : (o : Option ℕ) → k.period.announced ≡ o → IsReady plan tree id k h.was_dead
-    by None none = inl ((h.periods.each id k here).rests none)
-    by (Some a) says = by_place a says k.period.place refl
+    by : (o : Option ℕ) → k.participant.announced ≡ o → IsReady plan tree id k h.was_dead
+    by None none = inl ((h.epochs.each id k here).rests none)
+    by (Some a) says = by_announcement a says k.participant.announcement refl
 
 seat_there : (plan : TablePlan) (t : WholeState) (h : IsWhole plan t) (id : ℕ) (k : Known) → get_elem? t.views id ≡ some k
     → get_elem? h.tree.views id ≡ some k.tree
@@ -46,8 +46,8 @@ passes_tell_apart plan t h id k here = by plan.slots refl
     by : (o : Option Slots) → plan.slots ≡ o → IsApart plan k.tree
     by None none = tells_apart_plain plan none h.tree h.reached id k.tree there
     by (Some s) placed =
-        let has = (subst (λ o. PeriodsAre plan o h.tree t) placed h.periods).0 in
-        tells_apart plan s h.tree t has.ages.now.machine has.lie has.dead has.was_dead has.tied placed h.reached id k here there
+        let has = (subst (λ o. EpochsAre plan o h.tree t) placed h.epochs).0 in
+        tells_apart plan s h.tree t has.ages.now.machine has.lie has.dead has.was_dead has.refines placed h.reached id k here there
         (ready_there plan s h.tree t has id k here)
 
 -- and it would tell each node from them that is a child of one
@@ -60,6 +60,6 @@ children_are_apart plan t h id k here x inner met right = by plan.slots refl
     by : (o : Option Slots) → plan.slots ≡ o → IsToldApart plan k.tree (child_now h.tree x right)
     by None none = child_apart_plain plan none h.tree h.reached id k.tree there x right inner met
     by (Some s) placed =
-        let has = (subst (λ o. PeriodsAre plan o h.tree t) placed h.periods).0 in
-        child_apart plan s h.tree t has.ages.now.machine has.lie has.dead has.was_dead has.tied has.ages.now id k here there
+        let has = (subst (λ o. EpochsAre plan o h.tree t) placed h.epochs).0 in
+        child_apart plan s h.tree t has.ages.now.machine has.lie has.dead has.was_dead has.refines has.ages.now id k here there
         (ready_there plan s h.tree t has id k here) x right inner met placed h.reached

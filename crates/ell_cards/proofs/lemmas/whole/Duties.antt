@@ -1,4 +1,4 @@
--- What a pass has noted for its card in hand, before it lets that go, is all that the card made dead.
+-- What a pass has retired for its card in hand, before it lets that go, is all that the card made dead.
 use Rattle.std.proofs.Common.{◌≡◌, ◌≢◌, ℕ, zero, suc, ◌+◌, ◌*◌, ◌%◌, ◌<◌, ◌==◌, if◌then◌else◌, Bool, true, false, not, inl, inr, refl, sym, ap, ◌∙◌, subst, arith, eq-eqb, eqb-true, ne_eqb, ◌&&◌, ◌||◌, nat_lt}
 use Rattle.std.proofs.lemmas.Bool.{cases_eq, false≢true}
 use mathlib.Core.Option.{some}
@@ -102,10 +102,10 @@ module _ (plan : TablePlan) (tree : TableState) (id : ℕ) (v : View) (there : g
         brings = (m.invariant.words.inserts c).brings (insert_over-changed (stage c) over)
 
         at : (i : ℕ) → i < 3 → (is_node_born (stage c) i ≡ true → ⊥) → (r.own.internal ≡ true) × (r.own.left ≡ true) → P (4 * c + i)
-        at zero few unborn noted = are.own 0 noted.0
-        at (suc zero) few unborn noted = are.own 1 noted.1
-        at (suc (suc zero)) few unborn noted = absurd (unborn (right_born (stage c) over))
-        at (suc (suc (suc i))) few unborn noted = absurd (omega arith)
+        at zero few unborn is_so = are.own 0 is_so.0
+        at (suc zero) few unborn is_so = are.own 1 is_so.1
+        at (suc (suc zero)) few unborn is_so = absurd (unborn (right_born (stage c) over))
+        at (suc (suc (suc i))) few unborn is_so = absurd (omega arith)
 
         by : (b : Bool) → is_replace_card w c ≡ b → P (4 * c + i)
         by true e = at i few unborn (p.replaced (sym left ∙ (eqb-true (w.key (left_leaf c)) (w.key (right_leaf c)) e ∙ right)) own_slot)
@@ -163,10 +163,10 @@ module _ (plan : TablePlan) (tree : TableState) (id : ℕ) (v : View) (there : g
   all_retired (cut knows h own) x few slot (inl (inl (changed, outer, is))) = absurd (one_kind (stage c) (changed-insert (stage c) changed) (over-delete (stage c) (allowed_delete knows)))
   all_retired (cut knows h own) x few slot (inl (inr (was_cut, inl is))) =
       let parent = told_is plan tree m id v there c field.P h.parent h.above in
-      subst P is (are.parent (h.parent_noted (subst (λ y. has_slot_in s.last (card y) ≡ true) (sym is ∙ parent) slot)))
+      subst P is (are.parent (h.parent_retired (subst (λ y. has_slot_in s.last (card y) ≡ true) (sym is ∙ parent) slot)))
   all_retired (cut knows h own) x few slot (inl (inr (was_cut, inr is))) =
       let leaf = told_is plan tree m id v there c field.L h.leaf h.below in
-      subst P is (are.leaf (h.leaf_noted (λ three. absurd (omega (arith, few, is, leaf, three))) (subst (λ y. has_slot_in s.last (card y) ≡ true) (sym is ∙ leaf) slot)))
+      subst P is (are.leaf (h.leaf_retired (λ three. absurd (omega (arith, few, is, leaf, three))) (subst (λ y. has_slot_in s.last (card y) ≡ true) (sym is ∙ leaf) slot)))
   all_retired (cut knows h own) x few slot (inr (on, never)) = all_own own x few on
   all_retired (backed knows own) x few slot (inl (inl (changed, outer, is))) = absurd (one_kind (stage c) (changed-insert (stage c) changed) (backed-delete (stage c) (allowed_backed knows)))
   all_retired (backed knows own) x few slot (inl (inr (was_cut, is))) = absurd (over_not_cut (stage c) was_cut (allowed_backed knows))

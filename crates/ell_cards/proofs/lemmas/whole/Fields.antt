@@ -18,7 +18,7 @@ use Rattle.ell_runs.specs.Plans.{TablePlan}
 use Rattle.ell_runs.specs.Naming.{IsNamed}
 use Rattle.ell_cards.specs.Shown.{IsWord, FieldIsWhole, CanBeShown}
 use Rattle.ell_runs.specs.States.{TableState}
-use Rattle.ell_cards.specs.Ties.{ExpectsNear}
+use Rattle.ell_cards.specs.RefinementLaws.{ExpectsNear}
 use Rattle.ell_runs.specs.Turns.{found_by}
 use Rattle.ell_cards.specs.Whole.{FieldsAreWhole}
 use Rattle.ell_cards.proofs.lemmas.shown.CutWords.{compares_alike}

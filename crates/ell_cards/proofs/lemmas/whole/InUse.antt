@@ -30,24 +30,24 @@ use Rattle.ell_grace.proofs.lemmas.outs.Taken.{born_low}
 use Rattle.ell_cards.specs.declared.view.Known.{Known}
 use Rattle.ell_runs.specs.declared.view.Slots.{Slots}
 use Rattle.ell_runs.specs.declared.view.View.{View}
-use Rattle.ell_cards.specs.Ages.{HasPeriods}
+use Rattle.ell_cards.specs.Ages.{HasEpochs}
 use Rattle.ell_cards.specs.Leaks.{Holds, IsHeld, IsInFlaggedHand, NothingLeaks}
 use Rattle.ell_cards.specs.Leaks.Holds.{waiting, lost}
 use Rattle.ell_runs.specs.Laws.{machine_of_table}
 use Rattle.ell_runs.specs.Machines.{HasMachine}
 use Rattle.ell_runs.specs.Plans.{TablePlan}
-use Rattle.ell_cards.specs.PeriodLaws.{IsInUse, IsBusy, SlotsInUseAreFew}
-use Rattle.ell_cards.specs.Periods.{WholeState, slot_word}
-use Rattle.ell_cards.specs.SlotWords.{is_noted, slot_of}
+use Rattle.ell_cards.specs.EpochLaws.{IsInUse, IsBusy, SlotsInUseAreFew}
+use Rattle.ell_cards.specs.Epochs.{WholeState, slot_word}
+use Rattle.ell_cards.specs.SlotWords.{is_retired, slot_of}
 use Rattle.ell_runs.specs.States.{TableState}
-use Rattle.ell_cards.specs.Tied.{HasWon}
+use Rattle.ell_cards.specs.Refinement.{HasWon}
 use Rattle.ell_runs.specs.TurnEffects.{own_words}
-use Rattle.ell_cards.specs.Whole.{trees_of, PeriodsAre}
+use Rattle.ell_cards.specs.Whole.{trees_of, EpochsAre}
 use Rattle.ell_runs.proofs.lemmas.own_words.OwnTree.{reached_born}
 use Rattle.ell_runs.proofs.lemmas.own_words.OwnWords.{own_pairs}
-use Rattle.ell_cards.proofs.lemmas.ties.Winning.{IsWonStage}
+use Rattle.ell_cards.proofs.lemmas.refinement.Winning.{IsWonStage}
 use Rattle.ell_cards.proofs.lemmas.whole.LeaksOfCalls.{in_hand}
-use Rattle.ell_cards.proofs.lemmas.words.NotedBits.{low_bits}
+use Rattle.ell_cards.proofs.lemmas.words.RetiredBits.{low_bits}
 
 -- the numbers from 1 to this one
 upto : ℕ → List ℕ
@@ -88,7 +88,7 @@ module _ (w : Words) where
 
   of_seat : Maybe Known → List ℕ
   of_seat none = []
-  of_seat (some k) = of_card k.tree.worker.card k.period.lost
+  of_seat (some k) = of_card k.tree.worker.card k.participant.lost
 
   few_of_card : (o other : Option ℕ) → length (of_card o other) ≤ 3
   unfolding of_card
@@ -99,7 +99,7 @@ module _ (w : Words) where
   few_of_seat : (o : Maybe Known) → length (of_seat o) ≤ 3
   unfolding of_seat
   few_of_seat none = omega arith
-  few_of_seat (some k) = few_of_card k.tree.worker.card k.period.lost
+  few_of_seat (some k) = few_of_card k.tree.worker.card k.participant.lost
 
   of_seats : List Known → List ℕ → List ℕ
   of_seats views [] = []
@@ -124,25 +124,25 @@ module _ (w : Words) where
 
   has_hand : (k : Known) (c : ℕ) → k.tree.worker.card ≡ Some c → of_seat (some k) ≡ c ∷ card (w.p c) ∷ card (w.l c) ∷ []
   unfolding of_seat of_card
-  has_hand k c hand = ap (λ o. of_card o k.period.lost) hand
+  has_hand k c hand = ap (λ o. of_card o k.participant.lost) hand
 
-  has_lost : (k : Known) (c : ℕ) → k.tree.worker.card ≡ None → k.period.lost ≡ Some c → of_seat (some k) ≡ c ∷ []
+  has_lost : (k : Known) (c : ℕ) → k.tree.worker.card ≡ None → k.participant.lost ≡ Some c → of_seat (some k) ≡ c ∷ []
   unfolding of_seat of_card
-  has_lost k c empty at = ap (λ o. of_card o k.period.lost) empty ∙ ap (of_card None) at
+  has_lost k c empty at = ap (λ o. of_card o k.participant.lost) empty ∙ ap (of_card None) at
 
 -- a card that has won its flag, is not of the opening tree and has not ended has its flag
 won_open : (s : Stage) → IsWonStage s → is_start s ≡ false → has_ended s ≡ false → (insert_open s ≡ true) ⊎ (delete_open s ≡ true)
 won_open s (claimed, settled) unstarted un = grind arith
 
--- a word that sets no slot free leaves a node unnoted
-pub some_unnoted : (n : ℕ) → n % 8 ≢ 0 → (i : ℕ) × (i < 3) × (is_noted n i ≡ false)
-some_unnoted n used = elim (cases_Bool (is_noted n 0)) [
+-- a word that sets no slot free leaves a node unretired
+pub some_unretired : (n : ℕ) → n % 8 ≢ 0 → (i : ℕ) × (i < 3) × (is_retired n i ≡ false)
+some_unretired n used = elim (cases_Bool (is_retired n 0)) [
   | inr e ↦ (0, omega arith, e)
-  | inl a ↦ elim (cases_Bool (is_noted n 1)) [
+  | inl a ↦ elim (cases_Bool (is_retired n 1)) [
     | inr e ↦ (1, omega arith, e)
-    | inl b ↦ elim (cases_Bool (is_noted n 2)) [
+    | inl b ↦ elim (cases_Bool (is_retired n 2)) [
       | inr e ↦ (2, omega arith, e)
-      | inl c ↦ absurd (used (let low = low_bits n in let all = full (is_noted n 0) (is_noted n 1) (is_noted n 2) a b c in omega arith))
+      | inl c ↦ absurd (used (let low = low_bits n in let all = full (is_retired n 0) (is_retired n 1) (is_retired n 2) a b c in omega arith))
     ]
   ]
 ]
@@ -158,9 +158,9 @@ tree_from (x ∷ xs) zero v e = (x, refl, some-injective x.tree v e)
 tree_from (x ∷ xs) (suc i) v e = tree_from xs i v e
 
 -- What nodes there are of cards that are in the tree, that passes have in hand, or that are of the opening tree.
-module _ (plan : TablePlan) (s : Slots) (tree : TableState) (t : WholeState) (flat : plan.flat ≡ true) (same : trees_of t.views ≡ tree.views) (h : HasPeriods plan s tree t)
+module _ (plan : TablePlan) (s : Slots) (tree : TableState) (t : WholeState) (flat : plan.flat ≡ true) (same : trees_of t.views ≡ tree.views) (h : HasEpochs plan s tree t)
     (leaks : NothingLeaks s t tree.views h.ages.now.machine.words h.ages.now.machine.stages h.lie)
-    (idle : (seat c : ℕ) (k : Known) → get_elem? t.views seat ≡ some k → k.period.lost ≡ Some c → k.tree.worker.card ≡ None) (busy : List ℕ)
+    (idle : (seat c : ℕ) (k : Known) → get_elem? t.views seat ≡ some k → k.participant.lost ≡ Some c → k.tree.worker.card ≡ None) (busy : List ℕ)
     (listed : (seat : ℕ) (k : Known) → get_elem? t.views seat ≡ some k → IsBusy k → Contains busy seat) where
   abbrev r : HasMachine plan tree
   r = h.ages.now.machine
@@ -255,9 +255,9 @@ module _ (plan : TablePlan) (s : Slots) (tree : TableState) (t : WholeState) (fl
     abbrev c : ℕ
     c = h.lie slot
 
-    -- one that has ended, of which a node is not noted
-    ended_card : is_start (stage c) ≡ false → has_ended (stage c) ≡ true → (i : ℕ) → i < 3 → is_noted (get_or t.words (slot_word s slot) 0) i ≡ false → Listed c
-    ended_card unstarted ended i few unnoted = by (is_node_born (stage (card x)) (x % 4)) refl
+    -- one that has ended, of which a node is not retired
+    ended_card : is_start (stage c) ≡ false → has_ended (stage c) ≡ true → (i : ℕ) → i < 3 → is_retired (get_or t.words (slot_word s slot) 0) i ≡ false → Listed c
+    ended_card unstarted ended i few unretired = by (is_node_born (stage (card x)) (x % 4)) refl
       where
         x : ℕ
         x = 4 * c + i
@@ -266,14 +266,14 @@ module _ (plan : TablePlan) (s : Slots) (tree : TableState) (t : WholeState) (fl
         at = omega (arith, few)
 
         never : NeverComes w stage x → Listed c
-        never is = own c (leaks.owed slot i c inside used few unnoted (inr (at, is)))
+        never is = own c (leaks.owed slot i c inside used few unretired (inr (at, is)))
 
         over : has_ended (stage (card x)) ≡ true
         over = ap (λ d. has_ended (stage d)) at ∙ ended
 
         in_or_out : IsInOrOut w stage x → Listed c
         in_or_out (inl reached) = subst Listed at (of_node x reached)
-        in_or_out (inr (inl out)) = subst Listed at (taken out.0 x out.1 (leaks.owed slot i out.0 inside used few unnoted (inl out.1)))
+        in_or_out (inr (inl out)) = subst Listed at (taken out.0 x out.1 (leaks.owed slot i out.0 inside used few unretired (inl out.1)))
         in_or_out (inr (inr unused)) = never (over, inr unused)
 
         by : (b : Bool) → is_node_born (stage (card x)) (x % 4) ≡ b → Listed c
@@ -289,7 +289,7 @@ module _ (plan : TablePlan) (s : Slots) (tree : TableState) (t : WholeState) (fl
       | inr other ↦ elim (cases_Bool (is_start (stage c))) [
         | inl start ↦ of_start c start (omega arith)
         | inr unstarted ↦ elim (cases_Bool (has_ended (stage c))) [
-          | inl ended ↦ (let node = some_unnoted (get_or t.words (slot_word s slot) 0) used in ended_card unstarted ended node.0 node.1 node.2)
+          | inl ended ↦ (let node = some_unretired (get_or t.words (slot_word s slot) 0) used in ended_card unstarted ended node.0 node.1 node.2)
           | inr goes_on ↦ own c (elim (won_open (stage c) won unstarted goes_on) [
             | inl puts ↦ in_hand plan tree r c (r.invariant.workers.insert_in_hand c puts)
             | inr cuts ↦ in_hand plan tree r c (r.invariant.workers.delete_in_hand c cuts)
@@ -303,7 +303,7 @@ module _ (plan : TablePlan) (s : Slots) (tree : TableState) (t : WholeState) (fl
 
   -- so slots in live are those of listed cards
   slots_listed : (slot : ℕ) → IsInUse s t slot → Contains (map slot_of all_cards) slot
-  slots_listed slot live = subst (Contains (map slot_of all_cards)) (h.tied.own slot live.0) (has_mapped slot_of all_cards (h.lie slot) (slot_listed slot live.0 live.1))
+  slots_listed slot live = subst (Contains (map slot_of all_cards)) (h.refines.own slot live.0) (has_mapped slot_of all_cards (h.lie slot) (slot_listed slot live.0 live.1))
 
   pub few_slots : (pairs : List (ℕ × ℕ)) → ListsTreePairs (own_words tree) pairs → (slots : List ℕ) → IsDistinct (λ a b. a == b) slots → AllByRecursion (IsInUse s t) slots
       → length slots ≤ length plan.start + (2 * length pairs + 3) + 3 * length busy
@@ -335,12 +335,12 @@ module _ (plan : TablePlan) (s : Slots) (tree : TableState) (t : WholeState) (fl
         );
       }
 
--- So it is wherever steps have led a table with places, in which each pass that is busy is listed.
+-- So it is wherever steps have led a table whose cards come back, in which each pass that is busy is listed.
 pub slots_in_use_are_few : SlotsInUseAreFew
-slots_in_use_are_few plan s t at flat h pairs lists busy listed slots distinct live = by plan.slots at h.periods
+slots_in_use_are_few plan s t at flat h pairs lists busy listed slots distinct live = by plan.slots at h.epochs
   where
-    by : (o : Option Slots) → o ≡ Some s → PeriodsAre plan o h.tree t → length slots ≤ length plan.start + (2 * length pairs + 3) + 3 * length busy
-    by None wrong periods = absurd (some_not_none wrong refl)
-    by (Some a) is periods =
-        let it : PeriodsAre plan (Some s) h.tree t = subst (λ (x : Slots). PeriodsAre plan (Some x) h.tree t) (same_Some a s is) periods in
-        few_slots plan s h.tree t flat h.views it.0 it.1 (λ seat c k there. (it.0.periods.each seat k there).idle c) busy listed pairs lists slots distinct live
+    by : (o : Option Slots) → o ≡ Some s → EpochsAre plan o h.tree t → length slots ≤ length plan.start + (2 * length pairs + 3) + 3 * length busy
+    by None wrong epochs = absurd (some_not_none wrong refl)
+    by (Some a) is epochs =
+        let it : EpochsAre plan (Some s) h.tree t = subst (λ (x : Slots). EpochsAre plan (Some x) h.tree t) (same_Some a s is) epochs in
+        few_slots plan s h.tree t flat h.views it.0 it.1 (λ seat c k there. (it.0.epochs.each seat k there).idle c) busy listed pairs lists slots distinct live

@@ -1,4 +1,4 @@
--- No slot stays in use for nothing where a pass makes a step on the words of periods or of slots.
+-- No slot stays in use for nothing where a pass makes a step on the words of epochs or of slots.
 use Rattle.std.proofs.Common.{◌≡◌, ◌≢◌, ℕ, ◌+◌, ◌*◌, ◌%◌, ◌<◌, ◌≤◌, Bool, true, false, Some, None, List, length, get_or, set, inl, inr, ◌⊎◌, refl, sym, ap, ◌∙◌, subst, arith, get_or-set_same, get_or-set_other}
 use Rattle.std.proofs.lemmas.Bool.{cases_eq, false≢true}
 use Rattle.std.proofs.lemmas.Option.{same_Some}
@@ -10,20 +10,20 @@ use Rattle.ell_layout.proofs.lemmas.Writes.{put_same, put_other}
 use Rattle.ell_core.specs.history.Stages.{Stages}
 use Rattle.ell_core.proofs.lemmas.outcomes.Decide.{some_not_none}
 use Rattle.ell_cards.specs.declared.view.Known.{Known}
-use Rattle.ell_cards.specs.declared.view.Period.{Period}
+use Rattle.ell_cards.specs.declared.view.Participant.{Participant}
 use Rattle.ell_runs.specs.declared.view.Slots.{Slots}
 use Rattle.ell_runs.specs.declared.view.View.{View}
 use Rattle.ell_runs.specs.Holding.{HoldsWaiting}
 use Rattle.ell_cards.specs.Leaks.{Holds, IsHeld, IsInFlaggedHand, Kills, NothingLeaks}
 use Rattle.ell_cards.specs.Leaks.Holds.{waiting, lost}
-use Rattle.ell_cards.specs.Periods.{WholeState, slot_word}
-use Rattle.ell_cards.specs.SlotWords.{is_noted, slot_of, turn_of, taken_word}
-use Rattle.ell_cards.specs.Tied.{HasWon}
+use Rattle.ell_cards.specs.Epochs.{WholeState, slot_word}
+use Rattle.ell_cards.specs.SlotWords.{is_retired, slot_of, generation_of, taken_word}
+use Rattle.ell_cards.specs.Refinement.{HasWon}
 use Rattle.ell_runs.proofs.lemmas.seats.Seats.{set_there}
-use Rattle.ell_cards.proofs.lemmas.words.NotedBits.{none_noted}
+use Rattle.ell_cards.proofs.lemmas.words.RetiredBits.{none_is_retired}
 
 -- a pass holds a slot by the card for which it took one last, and the one whose flag it lost
-pub holds_so : (k : Known) (p : Period) → p.slot ≡ k.period.slot → p.lost ≡ k.period.lost → (c : ℕ) → Holds k c → Holds (record k { period = p }) c
+pub holds_so : (k : Known) (p : Participant) → p.slot ≡ k.participant.slot → p.lost ≡ k.participant.lost → (c : ℕ) → Holds k c → Holds (record k { participant = p }) c
 holds_so k p slot same c (waiting at waits) = waiting (slot ∙ at) waits
 holds_so k p slot same c (lost at) = lost (same ∙ at)
 
@@ -37,9 +37,9 @@ held_on views id k now here c mine h = elim (cases_eq h.seat id) [
 ]
 
 module _ (s : Slots) (t : WholeState) (trees : List View) (w : Words) (stage : Stages) (lie : ℕ → ℕ) (h : NothingLeaks s t trees w stage lie) (id : ℕ) (k : Known)
-    (here : get_elem? t.views id ≡ some k) (p : Period) where
+    (here : get_elem? t.views id ≡ some k) (p : Participant) where
   abbrev now : Known
-  now = record k { period = p }
+  now = record k { participant = p }
 
   -- where the words of slots are as they were, and the pass holds what it held
   pub leaks_same : (words : List ℕ) → ((slot : ℕ) → slot ≤ s.last → get_or words (slot_word s slot) 0 % 8 ≢ 0 → Holds k (lie slot) → Holds now (lie slot)) → ((slot : ℕ) → get_or words (slot_word s slot) 0 ≡ get_or t.words (slot_word s slot) 0)
@@ -49,11 +49,11 @@ module _ (s : Slots) (t : WholeState) (trees : List View) (w : Words) (stage : S
       | inl won ↦ inl won
       | inr held ↦ inr (held_on t.views id k now here (lie slot) (holds slot low used) held)
     ];
-    bits = λ slot i low used is. h.bits slot i low (λ full. used (ap (λ n. n % 8) (same slot) ∙ full)) (subst (λ n. is_noted n i ≡ true) (same slot) is);
-    owed = λ slot i c low used few is. h.owed slot i c low (λ full. used (ap (λ n. n % 8) (same slot) ∙ full)) few (subst (λ n. is_noted n i ≡ false) (same slot) is);
+    bits = λ slot i low used is. h.bits slot i low (λ full. used (ap (λ n. n % 8) (same slot) ∙ full)) (subst (λ n. is_retired n i ≡ true) (same slot) is);
+    owed = λ slot i c low used few is. h.owed slot i c low (λ full. used (ap (λ n. n % 8) (same slot) ∙ full)) few (subst (λ n. is_retired n i ≡ false) (same slot) is);
   }
 
-  -- where the word of a slot becomes another one, which notes what it did, or sets the slot free
+  -- where the word of a slot becomes another one, by which all is retired that was so, or which sets the slot free
   module _ (slot n : ℕ) (inside : slot ≤ s.last) (room : slot_word s slot < length t.words) where
     abbrev W : List ℕ
     W = set t.words (slot_word s slot) n
@@ -68,13 +68,13 @@ module _ (s : Slots) (t : WholeState) (trees : List View) (w : Words) (stage : S
     at_other other low apart = get_or-set_other t.words (slot_word s slot) (slot_word s other) n 0 (λ e. apart (omega arith))
 
     pub leaks_turned : ((other : ℕ) → other ≤ s.last → get_or W (slot_word s other) 0 % 8 ≢ 0 → Holds k (lie other) → Holds now (lie other)) → (n % 8 ≢ 0 → old % 8 ≢ 0)
-        → (n % 8 ≢ 0 → (i : ℕ) → is_noted n i ≡ true → (is_noted old i ≡ true) ⊎ HasWon stage (lie slot))
-        → (n % 8 ≢ 0 → (i : ℕ) → is_noted old i ≡ true → is_noted n i ≡ true)
+        → (n % 8 ≢ 0 → (i : ℕ) → is_retired n i ≡ true → (is_retired old i ≡ true) ⊎ HasWon stage (lie slot))
+        → (n % 8 ≢ 0 → (i : ℕ) → is_retired old i ≡ true → is_retired n i ≡ true)
         → NothingLeaks s (record { words = W; homes = t.homes; views = set t.views id now }) trees w stage lie
     leaks_turned holds was new more = record {
       used = used;
       bits = bits;
-      owed = λ other i c low live few is. h.owed other i c low (used_at other low live) few (not_noted other i low live is);
+      owed = λ other i c low live few is. h.owed other i c low (used_at other low live) few (not_retired other i low live is);
     }
       where
         used_at : (other : ℕ) → other ≤ s.last → get_or W (slot_word s other) 0 % 8 ≢ 0 → get_or t.words (slot_word s other) 0 % 8 ≢ 0
@@ -89,43 +89,43 @@ module _ (s : Slots) (t : WholeState) (trees : List View) (w : Words) (stage : S
           | inr held ↦ inr (held_on t.views id k now here (lie other) (holds other low live) held)
         ]
 
-        bits : (other i : ℕ) → other ≤ s.last → get_or W (slot_word s other) 0 % 8 ≢ 0 → is_noted (get_or W (slot_word s other) 0) i ≡ true → HasWon stage (lie other)
+        bits : (other i : ℕ) → other ≤ s.last → get_or W (slot_word s other) 0 % 8 ≢ 0 → is_retired (get_or W (slot_word s other) 0) i ≡ true → HasWon stage (lie other)
         bits other i low live is = elim (cases_eq other slot) [
-          | inl e ↦ elim (new (λ f. live (ap (λ m. m % 8) (at_slot other e) ∙ f)) i (subst (λ m. is_noted m i ≡ true) (at_slot other e) is)) [
-            | inl noted ↦ h.bits other i low (used_at other low live) (subst (λ x. is_noted (get_or t.words (slot_word s x) 0) i ≡ true) (sym e) noted)
+          | inl e ↦ elim (new (λ f. live (ap (λ m. m % 8) (at_slot other e) ∙ f)) i (subst (λ m. is_retired m i ≡ true) (at_slot other e) is)) [
+            | inl is_so ↦ h.bits other i low (used_at other low live) (subst (λ x. is_retired (get_or t.words (slot_word s x) 0) i ≡ true) (sym e) is_so)
             | inr won ↦ subst (λ x. HasWon stage (lie x)) (sym e) won
           ]
-          | inr apart ↦ h.bits other i low (used_at other low live) (subst (λ m. is_noted m i ≡ true) (at_other other low apart) is)
+          | inr apart ↦ h.bits other i low (used_at other low live) (subst (λ m. is_retired m i ≡ true) (at_other other low apart) is)
         ]
 
-        -- what is not noted was not noted
-        not_noted : (other i : ℕ) → other ≤ s.last → get_or W (slot_word s other) 0 % 8 ≢ 0 → is_noted (get_or W (slot_word s other) 0) i ≡ false
-            → is_noted (get_or t.words (slot_word s other) 0) i ≡ false
-        not_noted other i low live is = elim (cases_eq other slot) [
-          | inl e ↦ by (is_noted (get_or t.words (slot_word s other) 0) i) refl (λ was_noted.
-              false≢true (sym is ∙ subst (λ m. is_noted m i ≡ true) (sym (at_slot other e))
-              (more (λ f. live (ap (λ m. m % 8) (at_slot other e) ∙ f)) i (subst (λ x. is_noted (get_or t.words (slot_word s x) 0) i ≡ true) e was_noted))))
-          | inr apart ↦ subst (λ m. is_noted m i ≡ false) (at_other other low apart) is
+        -- what is not retired was not retired
+        not_retired : (other i : ℕ) → other ≤ s.last → get_or W (slot_word s other) 0 % 8 ≢ 0 → is_retired (get_or W (slot_word s other) 0) i ≡ false
+            → is_retired (get_or t.words (slot_word s other) 0) i ≡ false
+        not_retired other i low live is = elim (cases_eq other slot) [
+          | inl e ↦ by (is_retired (get_or t.words (slot_word s other) 0) i) refl (λ was_retired.
+              false≢true (sym is ∙ subst (λ m. is_retired m i ≡ true) (sym (at_slot other e))
+              (more (λ f. live (ap (λ m. m % 8) (at_slot other e) ∙ f)) i (subst (λ x. is_retired (get_or t.words (slot_word s x) 0) i ≡ true) e was_retired))))
+          | inr apart ↦ subst (λ m. is_retired m i ≡ false) (at_other other low apart) is
         ]
           where
-            by : (b : Bool) → is_noted (get_or t.words (slot_word s other) 0) i ≡ b → ((is_noted (get_or t.words (slot_word s other) 0) i ≡ true) → ⊥) → is_noted (get_or t.words (slot_word s other) 0) i ≡ false
+            by : (b : Bool) → is_retired (get_or t.words (slot_word s other) 0) i ≡ b → ((is_retired (get_or t.words (slot_word s other) 0) i ≡ true) → ⊥) → is_retired (get_or t.words (slot_word s other) 0) i ≡ false
             by true e never = absurd (never e)
             by false e never = e
 
   -- where a pass takes the slot of its card in hand, which is not flagged
   module _ (c : ℕ) (hand : HoldsWaiting k.tree c) (inside : slot_of c ≤ s.last) (room : slot_word s (slot_of c) < length t.words) (own : (slot : ℕ) → slot ≤ s.last → slot_of (lie slot) ≡ slot)
-      (unlost : k.period.lost ≡ None) (slotted : p.slot ≡ Some c) (fresh : (d i : ℕ) → i < 3 → Kills w stage d (4 * c + i) → ⊥) where
+      (unlost : k.participant.lost ≡ None) (slotted : p.slot ≡ Some c) (fresh : (d i : ℕ) → i < 3 → Kills w stage d (4 * c + i) → ⊥) where
     abbrev V : List ℕ
-    V = set t.words (slot_word s (slot_of c)) (taken_word (turn_of c))
+    V = set t.words (slot_word s (slot_of c)) (taken_word (generation_of c))
 
     abbrev lie' : ℕ → ℕ
     lie' = put lie (slot_of c) c
 
-    taken_at : (other : ℕ) → other ≡ slot_of c → get_or V (slot_word s other) 0 ≡ taken_word (turn_of c)
-    taken_at other e = ap (λ x. get_or V (slot_word s x) 0) e ∙ get_or-set_same t.words (slot_word s (slot_of c)) (taken_word (turn_of c)) 0 room
+    taken_at : (other : ℕ) → other ≡ slot_of c → get_or V (slot_word s other) 0 ≡ taken_word (generation_of c)
+    taken_at other e = ap (λ x. get_or V (slot_word s x) 0) e ∙ get_or-set_same t.words (slot_word s (slot_of c)) (taken_word (generation_of c)) 0 room
 
     not_at : (other : ℕ) → other ≤ s.last → other ≢ slot_of c → get_or V (slot_word s other) 0 ≡ get_or t.words (slot_word s other) 0
-    not_at other low apart = get_or-set_other t.words (slot_word s (slot_of c)) (slot_word s other) (taken_word (turn_of c)) 0 (λ e. apart (omega arith))
+    not_at other low apart = get_or-set_other t.words (slot_word s (slot_of c)) (slot_word s other) (taken_word (generation_of c)) 0 (λ e. apart (omega arith))
 
     lies_at : (other : ℕ) → other ≡ slot_of c → lie' other ≡ c
     lies_at other e = ap lie' e ∙ put_same lie (slot_of c) c
@@ -149,17 +149,17 @@ module _ (s : Slots) (t : WholeState) (trees : List View) (w : Words) (stage : S
               ])
         ]
 
-        bits : (other i : ℕ) → other ≤ s.last → get_or V (slot_word s other) 0 % 8 ≢ 0 → is_noted (get_or V (slot_word s other) 0) i ≡ true → HasWon stage (lie' other)
+        bits : (other i : ℕ) → other ≤ s.last → get_or V (slot_word s other) 0 % 8 ≢ 0 → is_retired (get_or V (slot_word s other) 0) i ≡ true → HasWon stage (lie' other)
         bits other i low live is = elim (cases_eq other (slot_of c)) [
-          | inl e ↦ absurd (none_noted (turn_of c) i (subst (λ m. is_noted m i ≡ true) (taken_at other e) is))
+          | inl e ↦ absurd (none_is_retired (generation_of c) i (subst (λ m. is_retired m i ≡ true) (taken_at other e) is))
           | inr apart ↦ subst (HasWon stage) (sym (put_other lie (slot_of c) c other apart))
-              (h.bits other i low (λ full. live (ap (λ m. m % 8) (not_at other low apart) ∙ full)) (subst (λ m. is_noted m i ≡ true) (not_at other low apart) is))
+              (h.bits other i low (λ full. live (ap (λ m. m % 8) (not_at other low apart) ∙ full)) (subst (λ m. is_retired m i ≡ true) (not_at other low apart) is))
         ]
 
-        owed : (other i d : ℕ) → other ≤ s.last → get_or V (slot_word s other) 0 % 8 ≢ 0 → i < 3 → is_noted (get_or V (slot_word s other) 0) i ≡ false
+        owed : (other i d : ℕ) → other ≤ s.last → get_or V (slot_word s other) 0 % 8 ≢ 0 → i < 3 → is_retired (get_or V (slot_word s other) 0) i ≡ false
             → Kills w stage d (4 * lie' other + i) → IsInFlaggedHand trees d
         owed other i d low live few is kills = elim (cases_eq other (slot_of c)) [
           | inl e ↦ absurd (fresh d i few (subst (λ x. Kills w stage d (4 * x + i)) (lies_at other e) kills))
-          | inr apart ↦ h.owed other i d low (λ full. live (ap (λ m. m % 8) (not_at other low apart) ∙ full)) few (subst (λ m. is_noted m i ≡ false) (not_at other low apart) is)
+          | inr apart ↦ h.owed other i d low (λ full. live (ap (λ m. m % 8) (not_at other low apart) ∙ full)) few (subst (λ m. is_retired m i ≡ false) (not_at other low apart) is)
               (subst (λ x. Kills w stage d (4 * x + i)) (put_other lie (slot_of c) c other apart) kills)
         ]

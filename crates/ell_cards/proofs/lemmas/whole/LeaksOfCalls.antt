@@ -27,16 +27,16 @@ use Rattle.ell_runs.specs.declared.call.Call.TheVariants as call
 use Rattle.ell_ops.specs.declared.op.Op.{Op}
 use Rattle.ell_ops.specs.declared.op.Op.TheVariants.{Find, Insert, Delete, Swap}
 use Rattle.ell_core.specs.declared.fact.Fact.{Fact}
-use Rattle.ell_core.proofs.lemmas.keeping.claim.Taking.{laid_aside}
+use Rattle.ell_core.proofs.lemmas.keeping.claim.Taking.{hand_discarded}
 use Rattle.ell_grace.specs.Dead.{HasUses}
 use Rattle.ell_grace.proofs.lemmas.outs.Taken.{taken_born}
 use Rattle.ell_cards.specs.declared.view.Known.{Known}
-use Rattle.ell_cards.specs.declared.view.Period.{Period}
+use Rattle.ell_cards.specs.declared.view.Participant.{Participant}
 use Rattle.ell_cards.specs.declared.view.Retired.{Retired}
 use Rattle.ell_runs.specs.declared.view.Sight.{Sight}
 use Rattle.ell_runs.specs.declared.view.Slots.{Slots}
 use Rattle.ell_runs.specs.declared.view.View.{View}
-use Rattle.ell_cards.specs.Ages.{IsOut, IsNotedThere, RetiredStaysNoted}
+use Rattle.ell_cards.specs.Ages.{IsOut, IsRetiredThere, RetiredStaysRetired}
 use Rattle.ell_runs.specs.Calls.{May, after, atomic_of, is_won}
 use Rattle.ell_runs.specs.Changes.{after_flag, after_mark, unmarking, with_fact, is_mark_of}
 use Rattle.ell_runs.specs.Holding.{HasFlagged, HoldsWaiting}
@@ -45,19 +45,19 @@ use Rattle.ell_cards.specs.Leaks.{Holds, IsHeld, IsInFlaggedHand, Kills, Nothing
 use Rattle.ell_cards.specs.Leaks.Holds.{waiting, lost}
 use Rattle.ell_cards.specs.LettingGo.{IsRetired, MayLetGo}
 use Rattle.ell_cards.specs.LettingGo.IsRetired.{put, cut, backed}
-use Rattle.ell_cards.specs.Periods.{WholeState, slot_word}
-use Rattle.ell_cards.specs.SlotWords.{has_slot_in, is_noted, slot_of}
+use Rattle.ell_cards.specs.Epochs.{WholeState, slot_word}
+use Rattle.ell_cards.specs.SlotWords.{has_slot_in, is_retired, slot_of}
 use Rattle.ell_runs.specs.Machines.{HasMachine}
 use Rattle.ell_runs.specs.Plans.{TablePlan, flat_from}
 use Rattle.ell_runs.specs.Views.{IsFree}
 use Rattle.ell_runs.specs.States.{TableState, seat_worker}
-use Rattle.ell_cards.specs.Tied.{HasWon, FlagsCard, MayInMemory}
+use Rattle.ell_cards.specs.Refinement.{HasWon, FlagsCard, MayInMemory}
 use Rattle.ell_runs.specs.TurnEffects.{turn_wins, win_of}
 use Rattle.ell_runs.specs.Turns.{Makes, found_by, view_after, state_after}
 use Rattle.ell_runs.proofs.lemmas.seats.Seats.{mine_sound, set_there}
-use Rattle.ell_cards.proofs.lemmas.whole.Ages.{noted_as}
+use Rattle.ell_cards.proofs.lemmas.whole.Ages.{retired_as}
 use Rattle.ell_cards.proofs.lemmas.whole.Duties.{all_retired}
-use Rattle.ell_cards.proofs.lemmas.ties.Winning.{IsWonStage, born_won, ended_long, start_won, insert_is_won, delete_is_won}
+use Rattle.ell_cards.proofs.lemmas.refinement.Winning.{IsWonStage, born_won, ended_long, start_won, insert_is_won, delete_is_won}
 
 -- a card that has won its flag is of the opening tree, or an insert's, or a delete's
 won_kind : (s : Stage) → IsWonStage s → (is_start s ≡ true) ⊎ ((insert_won s ≡ true) ⊎ (delete_won s ≡ true))
@@ -204,7 +204,7 @@ module _ (plan : TablePlan) (s : TableState) (m : HasMachine plan s) (seat : ℕ
   keeps_flagged call.Again n may d h = inr tt
   keeps_flagged call.Leave n may d h = inr tt
   keeps_flagged (call.Answer said took) n may d h = inr tt
-  keeps_flagged (call.Claim e q) n may d h = absurd (false≢true (sym (laid_aside (flat_from plan) v.worker d may.0.ready h.holds).1 ∙ h.flagged))
+  keeps_flagged (call.Claim e q) n may d h = absurd (false≢true (sym (hand_discarded (flat_from plan) v.worker d may.0.ready h.holds).1 ∙ h.flagged))
   keeps_flagged (call.IFlag e p from) n may d h = absurd (false≢true (sym may.may.unflagged ∙ h.flagged))
   keeps_flagged (call.DFlag e gp from) n may d h = absurd (false≢true (sym may.may.unflagged ∙ h.flagged))
   keeps_flagged (call.Mark e p was) n may d h = inl (mark_keeps (n == was) e p (unpacked n) v (after (call.Mark e p was) n v) refl d h)
@@ -291,10 +291,10 @@ lets_go sl slot r v (call.Answer said took) go mem = mem
 lets_go sl slot r v _ go mem = absurd go
 
 module _ (plan : TablePlan) (flat : plan.flat ≡ true) (sl : Slots) (tree : TableState) (t : WholeState) (id : ℕ) (k : Known) (here : get_elem? t.views id ≡ some k) (there : get_elem? tree.views id ≡ some k.tree)
-    (c : Call) (may : May plan c k.tree) (mem : MayInMemory sl k.period.slot k.period.retired k.tree c) (unlost : k.period.lost ≡ None)
+    (c : Call) (may : May plan c k.tree) (mem : MayInMemory sl k.participant.slot k.participant.retired k.tree c) (unlost : k.participant.lost ≡ None)
     (m : HasMachine plan tree) (uses : HasUses (machine_of_table plan tree m)) (m' : HasMachine plan (state_after tree id k.tree c)) (words : WordsLater m.words m'.words) (later : StagesLater m.stages m'.stages)
     (wins : (d : ℕ) → wins_of (m'.stages d) ≡ wins_of (m.stages d) ++ turn_wins tree (Makes id c) d) (lie : ℕ → ℕ) (was : NothingLeaks sl t tree.views m.words m.stages lie)
-    (retired : RetiredStaysNoted plan sl tree t m uses lie) (fits : (d : ℕ) → HasWon m.stages d → has_slot_in sl.last d ≡ true) (own : (slot : ℕ) → slot ≤ sl.last → slot_of (lie slot) ≡ slot) where
+    (retired : RetiredStaysRetired plan sl tree t m uses lie) (fits : (d : ℕ) → HasWon m.stages d → has_slot_in sl.last d ≡ true) (own : (slot : ℕ) → slot ≤ sl.last → slot_of (lie slot) ≡ slot) where
   abbrev after_it : TableState
   after_it = state_after tree id k.tree c
 
@@ -323,23 +323,23 @@ module _ (plan : TablePlan) (flat : plan.flat ≡ true) (sl : Slots) (tree : Tab
     | inr apart ↦ inl (record { seat = h.seat; view = h.view; there = set_else tree.views id h.seat v' apart ∙ h.there; has = h.has })
   ]
 
-  -- what the card that a pass lets go made dead is noted
-  let_go_noted : (d : ℕ) → LetsCardGo c → HasFlagged k.tree d → (slot i : ℕ) → slot ≤ sl.last → get_or t.words (slot_word sl slot) 0 % 8 ≢ 0 → i < 3
-      → is_noted (get_or t.words (slot_word sl slot) 0) i ≡ false → Kills m.words m.stages d (4 * lie slot + i) → ⊥
-  let_go_noted d go hand slot i low used few is kills =
-      let may_go = lets_go sl k.period.slot k.period.retired k.tree c go mem in
+  -- what the card that a pass lets go made dead is retired
+  let_go_retired : (d : ℕ) → LetsCardGo c → HasFlagged k.tree d → (slot i : ℕ) → slot ≤ sl.last → get_or t.words (slot_word sl slot) 0 % 8 ≢ 0 → i < 3
+      → is_retired (get_or t.words (slot_word sl slot) 0) i ≡ false → Kills m.words m.stages d (4 * lie slot + i) → ⊥
+  let_go_retired d go hand slot i low used few is kills =
+      let may_go = lets_go sl k.participant.slot k.participant.retired k.tree c go mem in
       let at = may_go.taken d hand in
       let are = retired id d k here at hand.holds in
       let won = flagged_won plan tree m id k.tree there d hand in
       let card_is : card (4 * lie slot + i) ≡ lie slot = omega (arith, few) in
       let place : (4 * lie slot + i) % 4 ≡ i = omega (arith, few) in
       let lies_won : HasWon m.stages (lie slot) = killed_won d slot i few kills in
-      let done = all_retired plan tree id k.tree there m sl k.period.retired d hand (λ x. IsOut plan tree m uses x × IsNotedThere sl t.words lie x) are (fits d won) flat
+      let done = all_retired plan tree id k.tree there m sl k.participant.retired d hand (λ x. IsOut plan tree m uses x × IsRetiredThere sl t.words lie x) are (fits d won) flat
       (may_go.retired d hand) (4 * lie slot + i) (subst (λ j. j < 3) (sym place) few) (subst (λ e. has_slot_in sl.last e ≡ true) (sym card_is) (fits (lie slot) lies_won)) kills in
-      let noted = noted_as plan sl t.words lie (lie slot) i few done.1 in
+      let retired_out = retired_as plan sl t.words lie (lie slot) i few done.1 in
       let same = own slot low in
-      false≢true (sym is ∙ subst (λ x. is_noted (get_or t.words (slot_word sl x) 0) i ≡ true) same
-      (noted (subst (λ x. x ≤ sl.last) (sym same) low) (ap lie same) (λ full. used (ap (λ x. get_or t.words (slot_word sl x) 0 % 8) (sym same) ∙ full))))
+      false≢true (sym is ∙ subst (λ x. is_retired (get_or t.words (slot_word sl x) 0) i ≡ true) same
+      (retired_out (subst (λ x. x ≤ sl.last) (sym same) low) (ap lie same) (λ full. used (ap (λ x. get_or t.words (slot_word sl x) 0 % 8) (sym same) ∙ full))))
     where
       killed_won : (d slot i : ℕ) → i < 3 → Kills m.words m.stages d (4 * lie slot + i) → HasWon m.stages (lie slot)
       killed_won d slot i few (inl takes) =
@@ -347,12 +347,12 @@ module _ (plan : TablePlan) (flat : plan.flat ≡ true) (sl : Slots) (tree : Tab
       killed_won d slot i few (inr (on, never)) = subst (HasWon m.stages) (omega (arith, few)) (ended_won (m.stages (card (4 * lie slot + i))) never.0)
 
   pub leaks_after_call : (W : List ℕ) (homes : List (Maybe (Unit {0}))) → ((slot : ℕ) → slot ≤ sl.last → get_or W (slot_word sl slot) 0 ≡ get_or t.words (slot_word sl slot) 0)
-      → (p : Period) (g : Sight) → p.slot ≡ k.period.slot → ((d : ℕ) → FlagsCard c d → is_won (atomic_of c) (found_by tree c) ≡ false → p.lost ≡ Some d)
-      → NothingLeaks sl (record { words = W; homes = homes; views = set t.views id (record { tree = v'; period = p; sight = g }) }) after_it.views m'.words m'.stages lie
+      → (p : Participant) (g : Sight) → p.slot ≡ k.participant.slot → ((d : ℕ) → FlagsCard c d → is_won (atomic_of c) (found_by tree c) ≡ false → p.lost ≡ Some d)
+      → NothingLeaks sl (record { words = W; homes = homes; views = set t.views id (record { tree = v'; participant = p; sight = g }) }) after_it.views m'.words m'.stages lie
   leaks_after_call W homes same p g slotted lost_it = record { used = used; bits = bits; owed = owed }
     where
       now : Known
-      now = record { tree = v'; period = p; sight = g }
+      now = record { tree = v'; participant = p; sight = g }
 
       used_before : (slot : ℕ) → slot ≤ sl.last → get_or W (slot_word sl slot) 0 % 8 ≢ 0 → get_or t.words (slot_word sl slot) 0 % 8 ≢ 0
       used_before slot low used full = used (ap (λ n. n % 8) (same slot low) ∙ full)
@@ -363,7 +363,7 @@ module _ (plan : TablePlan) (flat : plan.flat ≡ true) (sl : Slots) (tree : Tab
 
       held : (d : ℕ) → Holds k d → HasWon m'.stages d ⊎ IsHeld (set t.views id now) d
       held d (lost at) = absurd (some_not_none at unlost)
-      held d (waiting at waits) = elim (waiting_goes plan tree m id k.tree there sl k.period.slot k.period.retired c (found_by tree c) may mem d waits at) [
+      held d (waiting at waits) = elim (waiting_goes plan tree m id k.tree there sl k.participant.slot k.participant.retired c (found_by tree c) may mem d waits at) [
         | inl still ↦ inr (record { seat = id; knows = now; there = set_there t.views id now k here; holds = waiting (slotted ∙ at) still })
         | inr flags ↦ flagged d flags waits (is_won (atomic_of c) (found_by tree c)) refl
       ]
@@ -379,23 +379,23 @@ module _ (plan : TablePlan) (flat : plan.flat ≡ true) (sl : Slots) (tree : Tab
         ]
       ]
 
-      bits : (slot i : ℕ) → slot ≤ sl.last → get_or W (slot_word sl slot) 0 % 8 ≢ 0 → is_noted (get_or W (slot_word sl slot) 0) i ≡ true → HasWon m'.stages (lie slot)
-      bits slot i low live is = won_later m.stages m'.stages later (lie slot) (was.bits slot i low (used_before slot low live) (subst (λ n. is_noted n i ≡ true) (same slot low) is))
+      bits : (slot i : ℕ) → slot ≤ sl.last → get_or W (slot_word sl slot) 0 % 8 ≢ 0 → is_retired (get_or W (slot_word sl slot) 0) i ≡ true → HasWon m'.stages (lie slot)
+      bits slot i low live is = won_later m.stages m'.stages later (lie slot) (was.bits slot i low (used_before slot low live) (subst (λ n. is_retired n i ≡ true) (same slot low) is))
 
-      owed : (slot i d : ℕ) → slot ≤ sl.last → get_or W (slot_word sl slot) 0 % 8 ≢ 0 → i < 3 → is_noted (get_or W (slot_word sl slot) 0) i ≡ false
+      owed : (slot i d : ℕ) → slot ≤ sl.last → get_or W (slot_word sl slot) 0 % 8 ≢ 0 → i < 3 → is_retired (get_or W (slot_word sl slot) 0) i ≡ false
           → Kills m'.words m'.stages d (4 * lie slot + i) → IsInFlaggedHand after_it.views d
       owed slot i d low live few is kills = by (has_ended (m'.stages d)) refl
         where
-          unnoted_before : is_noted (get_or t.words (slot_word sl slot) 0) i ≡ false
-          unnoted_before = subst (λ n. is_noted n i ≡ false) (same slot low) is
+          unretired_before : is_retired (get_or t.words (slot_word sl slot) 0) i ≡ false
+          unretired_before = subst (λ n. is_retired n i ≡ false) (same slot low) is
 
           -- it had ended
           ended_before : has_ended (m.stages d) ≡ true → IsInFlaggedHand after_it.views d
           ended_before ended =
               let killed = killed_before m.words m'.words m.stages m'.stages words later d claimed (lower d) ended (4 * lie slot + i) kills in
-              elim (hand_on d (was.owed slot i d low (used_before slot low live) few unnoted_before killed)) [
+              elim (hand_on d (was.owed slot i d low (used_before slot low live) few unretired_before killed)) [
                 | inl hand ↦ hand
-                | inr go ↦ absurd (let_go_noted d go.0 go.1 slot i low (used_before slot low live) few unnoted_before killed)
+                | inr go ↦ absurd (let_go_retired d go.0 go.1 slot i low (used_before slot low live) few unretired_before killed)
               ]
 
           -- or it ends now, and was in hand
@@ -407,8 +407,8 @@ module _ (plan : TablePlan) (flat : plan.flat ≡ true) (sl : Slots) (tree : Tab
                 | inr cuts ↦ in_hand plan tree m d (m.invariant.workers.delete_in_hand d cuts)
               ])) [
                 | inl hand ↦ hand
-                | inr go ↦ absurd (false≢true (sym un ∙ retired_ended plan tree m id k.tree there sl k.period.retired d
-                    ((lets_go sl k.period.slot k.period.retired k.tree c go.0 mem).retired d go.1)))
+                | inr go ↦ absurd (false≢true (sym un ∙ retired_ended plan tree m id k.tree there sl k.participant.retired d
+                    ((lets_go sl k.participant.slot k.participant.retired k.tree c go.0 mem).retired d go.1)))
               ]
 
           before : (b : Bool) → has_ended (m.stages d) ≡ b → has_ended (m'.stages d) ≡ true → IsInFlaggedHand after_it.views d

@@ -21,12 +21,12 @@ use Rattle.ell_cards.specs.Leaks.Holds.{waiting, lost}
 use Rattle.ell_runs.specs.Machines.{HasMachine}
 use Rattle.ell_runs.specs.Plans.{TablePlan}
 use Rattle.ell_runs.specs.Views.{IsFree}
-use Rattle.ell_cards.specs.Periods.{WholeState, slot_word}
-use Rattle.ell_cards.specs.SlotWords.{is_noted}
+use Rattle.ell_cards.specs.Epochs.{WholeState, slot_word}
+use Rattle.ell_cards.specs.SlotWords.{is_retired}
 use Rattle.ell_runs.specs.States.{TableState}
-use Rattle.ell_cards.specs.Ties.{left_known, right_known}
+use Rattle.ell_cards.specs.RefinementLaws.{left_known, right_known}
 use Rattle.ell_cards.specs.Whole.{joined_known, spent_known}
-use Rattle.ell_cards.proofs.lemmas.ties.Winning.{born_won}
+use Rattle.ell_cards.proofs.lemmas.refinement.Winning.{born_won}
 use Rattle.ell_cards.proofs.lemmas.whole.LeaksOfCalls.{free_no_card, killed_before, killer_in_hand, won_later}
 use Rattle.ell_runs.proofs.lemmas.seats.Seats.{set_there}
 
@@ -84,7 +84,7 @@ module _ (plan : TablePlan) (sl : Slots) (tree tree' : TableState) (t : WholeSta
     owed = λ slot i d low used few is kills. by slot i d low used few is kills (has_ended (m'.stages d)) refl;
   }
     where
-      by : (slot i d : ℕ) → slot ≤ sl.last → get_or t.words (slot_word sl slot) 0 % 8 ≢ 0 → i < 3 → is_noted (get_or t.words (slot_word sl slot) 0) i ≡ false → Kills m'.words m'.stages d (4 * lie slot + i) → (b : Bool) → has_ended (m'.stages d) ≡ b
+      by : (slot i d : ℕ) → slot ≤ sl.last → get_or t.words (slot_word sl slot) 0 % 8 ≢ 0 → i < 3 → is_retired (get_or t.words (slot_word sl slot) 0) i ≡ false → Kills m'.words m'.stages d (4 * lie slot + i) → (b : Bool) → has_ended (m'.stages d) ≡ b
           → IsInFlaggedHand tree'.views d
       by slot i d low used few is kills false un = killer_in_hand plan tree' m' d (4 * lie slot + i) un kills
       by slot i d low used few is kills true ended =
@@ -145,7 +145,7 @@ module _ (plan : TablePlan) (tree : TableState) (m : HasMachine plan tree) (t : 
   ]
 
 module _ (plan : TablePlan) (tree : TableState) (m : HasMachine plan tree) (t : WholeState) (id other : ℕ) (k l : Known) (here : get_elem? t.views id ≡ some k) (here' : get_elem? t.views other ≡ some l)
-    (there : get_elem? tree.views id ≡ some k.tree) (there' : get_elem? tree.views other ≡ some l.tree) (apart : id ≢ other) (free : IsFree k.tree) (free' : IsFree l.tree) (unlost : l.period.lost ≡ None) (c : ℕ) where
+    (there : get_elem? tree.views id ≡ some k.tree) (there' : get_elem? tree.views other ≡ some l.tree) (apart : id ≢ other) (free : IsFree k.tree) (free' : IsFree l.tree) (unlost : l.participant.lost ≡ None) (c : ℕ) where
   pub join_holds : IsHeld t.views c → IsHeld (set (set t.views id (joined_known k l)) other spent_known) c
   join_holds h = elim (cases_eq h.seat other) [
     | inl e ↦

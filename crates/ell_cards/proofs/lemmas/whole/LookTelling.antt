@@ -16,16 +16,16 @@ use Rattle.ell_cards.specs.Apart.{IsApart}
 use Rattle.ell_runs.specs.Calls.{Load, May, atomic_of}
 use Rattle.ell_cards.specs.Addresses.{place_of}
 use Rattle.ell_runs.specs.Histories.{event_of, history_of}
-use Rattle.ell_cards.specs.Inside.{PassFits, PlaceFits}
+use Rattle.ell_cards.specs.Inside.{PassFits, StandingFits}
 use Rattle.ell_runs.specs.LookPlaces.{FindsHavePlaces, SeesMoreInLook}
 use Rattle.ell_cards.specs.Models.{PassModel, TableModel}
 use Rattle.ell_runs.specs.Plans.{TablePlan}
-use Rattle.ell_cards.specs.Periods.{WholeState, whole_size}
+use Rattle.ell_cards.specs.Epochs.{WholeState, whole_size}
 use Rattle.ell_runs.specs.Seeing.{HasSeen, IsCalm}
 use Rattle.ell_cards.specs.Shown.{shown, shown_call}
 use Rattle.ell_runs.specs.Starts.{SlotsFit}
 use Rattle.ell_cards.specs.Stepping.{IsQuiet, MayInTable, MayTell}
-use Rattle.ell_cards.specs.Tied.{MayInMemory}
+use Rattle.ell_cards.specs.Refinement.{MayInMemory}
 use Rattle.ell_runs.specs.Turns.{Makes, state_after, view_after}
 use Rattle.ell_cards.specs.Whole.{IsWhole}
 use Rattle.ell_runs.proofs.lemmas.runs.Reaching.{call_on}
@@ -69,11 +69,11 @@ module _ (plan : TablePlan) (k : Known) (s : WholeState) (h : IsWhole plan s) (i
       )
 
 -- so the rule allows it
-look_goes : (plan : TablePlan) (k : Known) (c : Call) (told : ℕ → View → Type 0) → May plan c (shown k.tree) → ((s : Slots) → plan.slots ≡ Some s → MayInMemory s k.period.slot k.period.retired (shown k.tree) c)
-    → (plan.slots ≢ None → k.period.lost ≡ None) → atomic_of c ≡ Load → IsQuiet c → IsCalm c → MayTell plan c (shown k.tree) told
-    → (id : ℕ) → Allows (IsWhole plan) 0 id (k, []) (place_of c) (λ n. n) (λ n x. told n (shown x.0.tree) × (x.0.period ≡ k.period) × (x.1 ≡ []) × TellsPlaces plan (shown x.0.tree) k.sight x.0.sight)
+look_goes : (plan : TablePlan) (k : Known) (c : Call) (told : ℕ → View → Type 0) → May plan c (shown k.tree) → ((s : Slots) → plan.slots ≡ Some s → MayInMemory s k.participant.slot k.participant.retired (shown k.tree) c)
+    → (plan.slots ≢ None → k.participant.lost ≡ None) → atomic_of c ≡ Load → IsQuiet c → IsCalm c → MayTell plan c (shown k.tree) told
+    → (id : ℕ) → Allows (IsWhole plan) 0 id (k, []) (place_of c) (λ n. n) (λ n x. told n (shown x.0.tree) × (x.0.participant ≡ k.participant) × (x.1 ≡ []) × TellsPlaces plan (shown x.0.tree) k.sight x.0.sight)
 look_goes plan k c told may asks unlost load quiet calm tells id s h homes here small =
-    goes_by plan k c (λ n. n) told (λ n. k.period) (stores_word c Load load tt (plain_shown c (load_stores c load))) may asks unlost (load_does plan c load) (λ some none. quiet) (λ fill. absurd (load_stores c load fill)) tells
+    goes_by plan k c (λ n. n) told (λ n. k.participant) (stores_word c Load load tt (plain_shown c (load_stores c load))) may asks unlost (load_does plan c load) (λ some none. quiet) (λ fill. absurd (load_stores c load fill)) tells
     (λ n word. nothing refl (λ some d flags. absurd (load_flags c load d flags))) id s h here small (λ v g. TellsPlaces plan (shown v) k.sight g)
     (all_by plan k s h id here)
     (λ d may is. sighted_all plan h.tree h.reached id k.tree (tree_here plan s h id k here) s.views k here refl h.seen h.made h.silent h.apart d (calm_whole d (subst IsCalm (sym is) calm)))
@@ -81,13 +81,13 @@ look_goes plan k c told may asks unlost load quiet calm tells id s h homes here 
 
 -- what the load owes, by what its caller says of the table and the pass
 module _ (t u : TableModel) (p q : PassModel) (same_table : t ≡ u) (same_pass : p ≡ q) (own : q.table ≡ u.id) (size : t.id.words ≡ whole_size t.plan) (fit : SlotsFit t.plan t.plan.slots) where
-  pub owed_looked : (k : Known) → shown k.tree ≡ p.view → (seat : ℕ) → k.period.slot ≡ p.memory.slot → k.period.retired ≡ p.memory.retired → (held : List (ℕ × Unit {0})) (keys : List ℕ) (share : Share) (standing : Standing) (word : ℕ)
-      (told : ℕ → View → Type 0) (c : Call) → t.id.slots ≡ 0 → held ≡ [] → PassFits keys share p.table.words p.view → PlaceFits standing p.table.words k.period
+  pub owed_looked : (k : Known) → shown k.tree ≡ p.view → (seat : ℕ) → k.participant.slot ≡ p.memory.slot → k.participant.retired ≡ p.memory.retired → (held : List (ℕ × Unit {0})) (keys : List ℕ) (share : Share) (standing : Standing) (word : ℕ)
+      (told : ℕ → View → Type 0) (c : Call) → t.id.slots ≡ 0 → held ≡ [] → PassFits keys share p.table.words p.view → StandingFits standing p.table.words k.participant
       → word ≡ place_of c → May u.plan c q.view → MayInTable u.plan q c → atomic_of c ≡ Load → IsQuiet c → IsCalm c → MayTell u.plan c q.view told
       → (p.table ≡ t.id) × (word < t.id.words)
-      × Allows (IsWhole t.plan) t.id.slots seat (k, held) word (λ n. n) (λ n x. told n (shown x.0.tree) × (x.0.period ≡ k.period) × (x.1 ≡ held) × TellsPlaces u.plan (shown x.0.tree) k.sight x.0.sight)
+      × Allows (IsWhole t.plan) t.id.slots seat (k, held) word (λ n. n) (λ n x. told n (shown x.0.tree) × (x.0.participant ≡ k.participant) × (x.1 ≡ held) × TellsPlaces u.plan (shown x.0.tree) k.sight x.0.sight)
   owed_looked k shows seat slotted retires held keys share standing word told c none empty fits placed at may kept load quiet calm tells =
       let is : q.view ≡ shown k.tree = ap (λ (m : PassModel). m.view) (sym same_pass) ∙ sym shows in
       owed_by t u p q same_table same_pass own size fit k seat slotted held keys share standing word (λ n. n)
-      (λ n x l. told n (shown x.0.tree) × (x.0.period ≡ k.period) × (x.1 ≡ l) × TellsPlaces u.plan (shown x.0.tree) k.sight x.0.sight) c none empty fits placed at may kept
+      (λ n x l. told n (shown x.0.tree) × (x.0.participant ≡ k.participant) × (x.1 ≡ l) × TellsPlaces u.plan (shown x.0.tree) k.sight x.0.sight) c none empty fits placed at may kept
       (look_goes u.plan k c told (subst (May u.plan c) is may) (asks_there t u p q same_table same_pass own size fit k shows slotted retires c kept) (λ some. placed.lost) load quiet calm (subst (λ v. MayTell u.plan c v told) is tells))

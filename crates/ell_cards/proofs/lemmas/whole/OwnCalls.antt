@@ -88,12 +88,12 @@ apart_first k none = record {
 -- two passes as one have the calls of both, and the other one has none
 pub apart_joined : (views : List Known) (id other : ℕ) (k l both spent : Known) → get_elem? views id ≡ some k → get_elem? views other ≡ some l → other ≢ id
     → both.sight.mine ≡ k.sight.mine ++ l.sight.mine → spent.sight.mine ≡ [] → AreAllApart views → AreAllApart (set (set views id both) other spent)
-apart_joined views id other k l both spent here there aside is none all = record {
+apart_joined views id other k l both spent here there discarded is none all = record {
   each = λ seat u at. elim (at_set (set views id both) other seat spent u at) [
     | inl e ↦ subst (λ (x : Known). AreApart x.sight.mine) e.1 (subst AreApart (sym none) tt)
     | inr e ↦ elim (at_set views id seat both u e.1) [
       | inl f ↦ subst (λ (x : Known). AreApart x.sight.mine) f.1 (subst AreApart (sym is)
-          (apart_both k.sight.mine l.sight.mine (all.each id k here) (all.each other l there) (λ a b has its. all.others id other k l here there (λ e. aside (sym e)) a b has its)))
+          (apart_both k.sight.mine l.sight.mine (all.each id k here) (all.each other l there) (λ a b has its. all.others id other k l here there (λ e. discarded (sym e)) a b has its)))
       | inr f ↦ all.each seat u f.1
     ]
   ];

@@ -12,10 +12,10 @@ use Rattle.ell_runs.specs.declared.view.Slots.{Slots}
 use Rattle.ell_runs.specs.Plans.{TablePlan}
 use Rattle.ell_runs.specs.Views.{IsFree}
 use Rattle.ell_runs.specs.Changes.{left_view, right_view, joined_view, spent_view}
-use Rattle.ell_cards.specs.Periods.{after_give, given_period}
+use Rattle.ell_cards.specs.Epochs.{after_give, given_participant}
 use Rattle.ell_runs.specs.Touching.{IsAtRest}
 use Rattle.ell_runs.specs.States.{TableState}
-use Rattle.ell_cards.specs.Ties.{left_known, right_known}
+use Rattle.ell_cards.specs.RefinementLaws.{left_known, right_known}
 use Rattle.ell_cards.specs.Shown.{StoresAreWhole}
 use Rattle.ell_cards.specs.Stepping.{MaySplit}
 use Rattle.ell_core.proofs.lemmas.outcomes.Decide.{some_not_none}
@@ -27,9 +27,9 @@ use Rattle.ell_runs.proofs.lemmas.runs.Spent.{neither}
 use Rattle.ell_cards.proofs.lemmas.whole.Seeing.{silent_set, silent_snoc, has_none, has_left, has_right, has_either, made_quiet, made_set, made_snoc, made_joined, history_snoc, all_on, all_set, all_snoc, seen_on, longer_part}
 use Rattle.ell_runs.specs.Starts.{SlotsFit}
 use Rattle.ell_runs.specs.Turns.{TableTurns, Splits as SplitsInto, Joins as JoinsWith, state_split, state_joined}
-use Rattle.ell_cards.proofs.lemmas.ties.Handovers.{split_goes, split_held, join_goes, join_held}
-use Rattle.ell_cards.proofs.lemmas.whole.Handovers.{split_periods, join_periods}
-use Rattle.ell_cards.specs.Whole.{trees_of, joined_known, spent_known, PeriodsAre, IsWhole, PlansFit}
+use Rattle.ell_cards.proofs.lemmas.refinement.Handovers.{split_goes, split_held, join_goes, join_held}
+use Rattle.ell_cards.proofs.lemmas.whole.Handovers.{split_epochs, join_epochs}
+use Rattle.ell_cards.specs.Whole.{trees_of, joined_known, spent_known, EpochsAre, IsWhole, PlansFit}
 use Rattle.ell_runs.proofs.lemmas.lifetimes.Joins.{each_joined as each_view_joined}
 use Rattle.ell_runs.proofs.lemmas.lifetimes.Splits.{each_split as each_view_split}
 use Rattle.ell_cards.proofs.lemmas.shown.ShownViews.{unfilled_whole}
@@ -47,11 +47,11 @@ trees_more [] k = refl
 trees_more (x ∷ xs) k = ap (λ l. x.tree ∷ l) (trees_more xs k)
 
 -- a split of the tree is a split of the table
-pub whole_splits : (plan : TablePlan) (k : Known) (keys : List ℕ) → ((q : ℕ) → k.period.other ≡ Some q → k.period.other_says ≡ None) → MaySplit k.tree
-    → (id : ℕ) → Splits (IsWhole plan) id k (record k { tree = left_view keys k.tree; period = after_give k.period }) (record { tree = right_view keys k.tree; period = given_period k.period; sight = given_sight k.sight })
+pub whole_splits : (plan : TablePlan) (k : Known) (keys : List ℕ) → ((q : ℕ) → k.participant.other ≡ Some q → k.participant.other_says ≡ None) → MaySplit k.tree
+    → (id : ℕ) → Splits (IsWhole plan) id k (record k { tree = left_view keys k.tree; participant = after_give k.participant }) (record { tree = right_view keys k.tree; participant = given_participant k.participant; sight = given_sight k.sight })
 whole_splits plan k keys quiet may id s h here =
-    let l' : Known = record k { tree = left_view keys k.tree; period = after_give k.period } in
-    let r : Known = record { tree = right_view keys k.tree; period = given_period k.period; sight = given_sight k.sight } in
+    let l' : Known = record k { tree = left_view keys k.tree; participant = after_give k.participant } in
+    let r : Known = record { tree = right_view keys k.tree; participant = given_participant k.participant; sight = given_sight k.sight } in
     let there : get_elem? h.tree.views id ≡ some k.tree = ap (λ v. get_elem? v id) (sym h.views) ∙ tree_at s.views id k here in
     let tree : TableState = record { words = h.tree.words; views = set h.tree.views id (left_view keys k.tree) ++ (right_view keys k.tree) ∷ [] } in
     let turn : TableTurns plan h.tree (SplitsInto id keys) tree = record {
@@ -79,7 +79,7 @@ whole_splits plan k keys quiet may id s h here =
       stores = each_view_split h.tree.views id k.tree there (left_view keys k.tree) (right_view keys k.tree) (λ v. StoresAreWhole v × PlansFit plan.slots v)
           (unfilled_whole (left_view keys k.tree) refl refl, unplanned_fits plan.slots (left_view keys k.tree) refl)
           (unfilled_whole (right_view keys k.tree) refl refl, unplanned_fits plan.slots (right_view keys k.tree) refl) h.stores;
-      periods = by h.tree there h.views plan.slots h.reached.starts.may.slots h.periods;
+      epochs = by h.tree there h.views plan.slots h.reached.starts.may.slots h.epochs;
     }
   where
     left_rests : IsAtRest (left_view keys k.tree)
@@ -88,31 +88,31 @@ whole_splits plan k keys quiet may id s h here =
     right_rests : IsAtRest (right_view keys k.tree)
     right_rests = is_at_rest (right_view keys k.tree) refl refl refl refl refl
 
-    by : (tree : TableState) → get_elem? tree.views id ≡ some k.tree → trees_of s.views ≡ tree.views → (o : Option Slots) → SlotsFit plan o → PeriodsAre plan o tree s
-        → PeriodsAre plan o (state_split tree id k.tree keys)
-        (record { words = s.words; homes = s.homes; views = set s.views id (record k { tree = left_view keys k.tree; period = after_give k.period }) ++ record { tree = right_view keys k.tree; period = given_period k.period; sight = given_sight k.sight } ∷ [] })
-    by tree there same None fit periods = tt
+    by : (tree : TableState) → get_elem? tree.views id ≡ some k.tree → trees_of s.views ≡ tree.views → (o : Option Slots) → SlotsFit plan o → EpochsAre plan o tree s
+        → EpochsAre plan o (state_split tree id k.tree keys)
+        (record { words = s.words; homes = s.homes; views = set s.views id (record k { tree = left_view keys k.tree; participant = after_give k.participant }) ++ record { tree = right_view keys k.tree; participant = given_participant k.participant; sight = given_sight k.sight } ∷ [] })
+    by tree there same None fit epochs = tt
     by tree there same (Some sl) fit (h, was) =
-        let tie = split_goes plan sl tree s h.lie h.dead h.was_dead (let low = fit.low in omega arith) (record { ages = h.ages; tied = h.tied }) id k here there keys may.free may.may in (
+        let refinement = split_goes plan sl tree s h.lie h.dead h.was_dead (let low = fit.low in omega arith) (record { ages = h.ages; refines = h.refines }) id k here there keys may.free may.may in (
           record {
             lie = h.lie;
             lies = h.lies;
             dead = h.dead;
             began = h.began;
             was_dead = h.was_dead;
-            periods = split_periods sl s id k here h.lie h.dead h.began h.was_dead h.periods (left_view keys k.tree) (right_view keys k.tree) left_rests right_rests quiet;
-            ages = tie.on.ages;
-            tied = tie.tied;
+            epochs = split_epochs sl s id k here h.lie h.dead h.began h.was_dead h.epochs (left_view keys k.tree) (right_view keys k.tree) left_rests right_rests quiet;
+            ages = refinement.on.ages;
+            refines = refinement.refines;
             flat = h.flat;
-            retired = retired_on plan sl tree h.ages.now.machine h.ages.now.uses (state_split tree id k.tree keys) tie.on.ages.now.machine tie.on.ages.now.uses tie.on.words tie.on.out
+            retired = retired_on plan sl tree h.ages.now.machine h.ages.now.uses (state_split tree id k.tree keys) refinement.on.ages.now.machine refinement.on.ages.now.uses refinement.on.words refinement.on.out
                 s (record { words = s.words; homes = s.homes; views = set s.views id (left_known keys k) ++ right_known keys k ∷ [] }) h.lie same (λ slot low. refl) (split_held s id k keys) h.retired;
           },
-          leaks_handed plan sl tree (state_split tree id k.tree keys) s (set s.views id (left_known keys k) ++ right_known keys k ∷ []) h.ages.now.machine tie.on.ages.now.machine tie.on.words tie.on.later tie.on.wins h.lie was
+          leaks_handed plan sl tree (state_split tree id k.tree keys) s (set s.views id (left_known keys k) ++ right_known keys k ∷ []) h.ages.now.machine refinement.on.ages.now.machine refinement.on.words refinement.on.later refinement.on.wins h.lie was
               (λ c. split_holds plan tree h.ages.now.machine s id k here there may.free c keys) (λ c. split_hands plan tree h.ages.now.machine s id k here there may.free c (left_view keys k.tree) (right_view keys k.tree)) s.homes,
         )
 
 -- a join of the tree is a join of the table
-pub whole_joins : (plan : TablePlan) (k l : Known) → IsFree k.tree → IsFree l.tree → l.period.lost ≡ None
+pub whole_joins : (plan : TablePlan) (k l : Known) → IsFree k.tree → IsFree l.tree → l.participant.lost ≡ None
     → (id other : ℕ) → Joins (IsWhole plan) id k other l (joined_known k l) spent_known
 whole_joins plan k l free other_free unlost id other s h here aside there =
     let ours : get_elem? h.tree.views id ≡ some k.tree = ap (λ v. get_elem? v id) (sym h.views) ∙ tree_at s.views id k here in
@@ -161,15 +161,15 @@ whole_joins plan k l free other_free unlost id other s h here aside there =
       stores = each_view_joined h.tree.views id other k.tree l.tree ours turn.there' aside (joined_view k.tree l.tree) (λ v. StoresAreWhole v × PlansFit plan.slots v)
           (unfilled_whole (joined_view k.tree l.tree) refl refl, unplanned_fits plan.slots (joined_view k.tree l.tree) refl)
           (unfilled_whole spent_view refl refl, unplanned_fits plan.slots spent_view refl) h.stores;
-      periods = by h.tree ours turn.there' h.views plan.slots h.reached.starts.may.slots h.periods theirs;
+      epochs = by h.tree ours turn.there' h.views plan.slots h.reached.starts.may.slots h.epochs theirs;
     }
   where
-    by : (tree : TableState) → get_elem? tree.views id ≡ some k.tree → get_elem? tree.views other ≡ some l.tree → trees_of s.views ≡ tree.views → (o : Option Slots) → SlotsFit plan o → PeriodsAre plan o tree s → get_elem? s.views other ≡ some l
-        → PeriodsAre plan o (state_joined tree id other k.tree l.tree)
+    by : (tree : TableState) → get_elem? tree.views id ≡ some k.tree → get_elem? tree.views other ≡ some l.tree → trees_of s.views ≡ tree.views → (o : Option Slots) → SlotsFit plan o → EpochsAre plan o tree s → get_elem? s.views other ≡ some l
+        → EpochsAre plan o (state_joined tree id other k.tree l.tree)
         (record { words = s.words; homes = s.homes; views = set (set s.views id (joined_known k l)) other spent_known })
-    by tree ours theirs same None fit periods there = tt
+    by tree ours theirs same None fit epochs there = tt
     by tree ours theirs same (Some sl) fit (h, was) there =
-        let tie = join_goes plan sl tree s h.lie h.dead h.was_dead (let low = fit.low in omega arith) (record { ages = h.ages; tied = h.tied }) id other k l here there ours theirs
+        let refinement = join_goes plan sl tree s h.lie h.dead h.was_dead (let low = fit.low in omega arith) (record { ages = h.ages; refines = h.refines }) id other k l here there ours theirs
         (λ e. aside (sym e)) free other_free in (
           record {
             lie = h.lie;
@@ -177,14 +177,14 @@ whole_joins plan k l free other_free unlost id other s h here aside there =
             dead = h.dead;
             began = h.began;
             was_dead = h.was_dead;
-            periods = join_periods sl s id other k l here there aside h.lie h.dead h.began h.was_dead h.periods;
-            ages = tie.on.ages;
-            tied = tie.tied;
+            epochs = join_epochs sl s id other k l here there aside h.lie h.dead h.began h.was_dead h.epochs;
+            ages = refinement.on.ages;
+            refines = refinement.refines;
             flat = h.flat;
-            retired = retired_on plan sl tree h.ages.now.machine h.ages.now.uses (state_joined tree id other k.tree l.tree) tie.on.ages.now.machine tie.on.ages.now.uses tie.on.words tie.on.out
+            retired = retired_on plan sl tree h.ages.now.machine h.ages.now.uses (state_joined tree id other k.tree l.tree) refinement.on.ages.now.machine refinement.on.ages.now.uses refinement.on.words refinement.on.out
                 s (record { words = s.words; homes = s.homes; views = set (set s.views id (joined_known k l)) other spent_known }) h.lie same (λ slot low. refl) (join_held s id other k l) h.retired;
           },
-          leaks_handed plan sl tree (state_joined tree id other k.tree l.tree) s (set (set s.views id (joined_known k l)) other spent_known) h.ages.now.machine tie.on.ages.now.machine tie.on.words tie.on.later tie.on.wins h.lie was
+          leaks_handed plan sl tree (state_joined tree id other k.tree l.tree) s (set (set s.views id (joined_known k l)) other spent_known) h.ages.now.machine refinement.on.ages.now.machine refinement.on.words refinement.on.later refinement.on.wins h.lie was
               (λ c. join_holds plan tree h.ages.now.machine s id other k l here there ours theirs (λ e. aside (sym e)) free other_free unlost c)
               (λ c. join_hands plan tree h.ages.now.machine s id other k l here there ours theirs (λ e. aside (sym e)) free other_free unlost c (joined_view k.tree l.tree) spent_view) s.homes,
         )

@@ -13,7 +13,7 @@ use Rattle.ell_runs.specs.Calls.{Load, Exchange, atomic_of, after, May}
 use Rattle.ell_runs.specs.Touching.{IsOfRoot, IsAtRest}
 use Rattle.ell_cards.specs.Shown.{IsNoClaim}
 use Rattle.ell_cards.specs.Stepping.{IsQuiet}
-use Rattle.ell_cards.specs.Tied.{FlagsCard}
+use Rattle.ell_cards.specs.Refinement.{FlagsCard}
 use Rattle.ell_runs.proofs.lemmas.lifetimes.Idle.{root_alone}
 use Rattle.ell_runs.proofs.lemmas.runs.Rests.{has_none}
 

@@ -235,9 +235,9 @@ made_snoc h views k all a c =
 
 pub made_joined : (h : List Event) (views : List Known) (id other : ℕ) (k l both spent : Known) → get_elem? views id ≡ some k → get_elem? views other ≡ some l → other ≢ id
     → ((a : Act) → Has k.sight.mine a → Has both.sight.mine a) → ((a : Act) → Has l.sight.mine a → Has both.sight.mine a) → AreMade h views → AreMade h (set (set views id both) other spent)
-made_joined h views id other k l both spent here there aside left right all a c =
+made_joined h views id other k l both spent here there discarded left right all a c =
     let m = all a c in
-    let now : get_elem? (set (set views id both) other spent) id ≡ some both = set_else (set views id both) other id spent (λ e. aside (sym e)) ∙ set_there views id both k here in
+    let now : get_elem? (set (set views id both) other spent) id ≡ some both = set_else (set views id both) other id spent (λ e. discarded (sym e)) ∙ set_there views id both k here in
     elim (cases_eq m.seat id) [
       | inl same ↦ record {
         seat = id;

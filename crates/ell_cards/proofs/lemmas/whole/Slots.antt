@@ -2,166 +2,166 @@ use Rattle.std.proofs.Common.{◌≡◌, ◌≢◌, ℕ, ◌+◌, ◌*◌, ◌%�
 use Rattle.std.proofs.lemmas.Option.{same_Some}
 use Rattle.std.proofs.lemmas.Bool.{cases_eq}
 use Rattle.std.proofs.lemmas.Bool.Decides.{nat_tests}
-use Rattle.ell_word.specs.Node.{turn_size}
+use Rattle.ell_word.specs.Node.{generation_size}
 use mathlib.Core.Option.{some}
 use lib.ListN.{get_elem?}
 use Rattle.ell_layout.specs.Words.{put}
 use Rattle.ell_layout.proofs.lemmas.Writes.{put_same, put_other}
-use Rattle.ell_grace.specs.epochs.Grace.{Grace, dies, stamps, frees, takes}
-use Rattle.ell_grace.specs.epochs.Periods.{GraceIsSound}
+use Rattle.ell_grace.specs.epochs.Grace.{Grace, dies, gets_retire_epoch, frees, takes}
+use Rattle.ell_grace.specs.epochs.Sound.{GraceIsSound}
 use Rattle.ell_grace.proofs.lemmas.epochs.Grace.{grace_goes_on, taken_cards_were_gone}
 use Rattle.ell_cards.specs.declared.view.Known.{Known}
-use Rattle.ell_cards.specs.declared.view.Period.{Period}
+use Rattle.ell_cards.specs.declared.view.Participant.{Participant}
 use Rattle.ell_cards.specs.declared.view.Retired.{Retired}
 use Rattle.ell_runs.specs.declared.view.Slots.{Slots}
-use Rattle.ell_cards.specs.Periods.{WholeState, clock_word, place_word, slot_word, slots_size, stamp_at, pending_by, period_in, word_at_place, announced_by, place_says, after_read, after_stamp, after_taking, LieInSlots, HasPlace, own, spare, StandsAs, PeriodHolds, PeriodsAreSound, grace_of}
-use Rattle.ell_cards.specs.SlotWords.{slot_of, turn_of, turn_in, stamp_in, free_word, card_by, freed_by, taken_word}
-use Rattle.ell_cards.proofs.lemmas.whole.Seats.{before_slots, clock_before_slots, stamp_by, stamps_same, period_was, part_put, part_same, holds_on}
-use Rattle.ell_cards.proofs.lemmas.whole.Steps.{word_again, announced_again, periods_after}
+use Rattle.ell_cards.specs.Epochs.{WholeState, epoch_word, announcement_word, slot_word, slots_size, retire_epoch_at, pending_by, participant_in, word_at_announcement, announced_by, announcement_says, after_read, after_retire_epoch, after_taking, LieInSlots, HasAnnouncement, own, spare, StandsAs, ParticipantHolds, EpochsAreSound, grace_of}
+use Rattle.ell_cards.specs.SlotWords.{slot_of, generation_of, generation_in, retire_epoch_in, free_word, card_by, freed_by, taken_word}
+use Rattle.ell_cards.proofs.lemmas.whole.Seats.{before_slots, epoch_before_slots, retire_epoch_by, retire_epochs_same, participant_was, part_put, part_same, holds_on}
+use Rattle.ell_cards.proofs.lemmas.whole.Steps.{word_again, announced_again, epochs_after}
 use Rattle.ell_cards.proofs.lemmas.whole.Trees.{grace_same}
 
--- the word that sets a slot free has its stamp, and fits a word
-pub free_stamp : (reading : ℕ) → stamp_in (free_word reading) ≡ reading
-free_stamp reading = omega arith
+-- the word that sets a slot free has its retire epoch, and fits a word
+pub free_retire_epoch : (epoch : ℕ) → retire_epoch_in (free_word epoch) ≡ epoch
+free_retire_epoch epoch = omega arith
 
-pub free_bits : (reading : ℕ) → free_word reading % 8 ≡ 0
-free_bits reading = omega arith
+pub free_bits : (epoch : ℕ) → free_word epoch % 8 ≡ 0
+free_bits epoch = omega arith
 
--- and the word of a slot that was taken has its turn, and no bit
-pub taken_turn : (turn : ℕ) → turn_in (taken_word turn) ≡ turn
-taken_turn turn = omega arith
+-- and the word of a slot that was taken has its generation, and no bit
+pub taken_generation : (generation : ℕ) → generation_in (taken_word generation) ≡ generation
+taken_generation generation = omega arith
 
-pub taken_bits : (turn : ℕ) → taken_word turn % 8 ≢ 0
-taken_bits turn e = omega arith
+pub taken_bits : (generation : ℕ) → taken_word generation % 8 ≢ 0
+taken_bits generation e = omega arith
 
 -- a word sets its slot free if it has all bits, and else not
-pub freed_with : (n : ℕ) → n % 8 ≡ 0 → freed_by n ≡ Some (stamp_in n)
-freed_with n full = ap (λ b. if b then Some (stamp_in n) else None) (eq-eqb (n % 8) 0 full)
+pub freed_with : (n : ℕ) → n % 8 ≡ 0 → freed_by n ≡ Some (retire_epoch_in n)
+freed_with n full = ap (λ b. if b then Some (retire_epoch_in n) else None) (eq-eqb (n % 8) 0 full)
 
 pub not_freed : (n : ℕ) → n % 8 ≢ 0 → freed_by n ≡ None
-not_freed n some_bit = ap (λ b. if b then Some (stamp_in n) else None) (ne_eqb (n % 8) 0 some_bit)
+not_freed n some_bit = ap (λ b. if b then Some (retire_epoch_in n) else None) (ne_eqb (n % 8) 0 some_bit)
 
--- the stamp of a card by which one lies in its slot, and by the word of that
-abbrev stamp_in_slot : ℕ → ℕ → ℕ → Option ℕ
-stamp_in_slot there n c = if there == c then freed_by n else None
+-- the retire epoch of a card by which one lies in its slot, and by the word of that
+abbrev retire_epoch_in_slot : ℕ → ℕ → ℕ → Option ℕ
+retire_epoch_in_slot there n c = if there == c then freed_by n else None
 
 -- it is that of the card which lies there, and no other card of the slot has one
-stamp_lies : (there n c : ℕ) → there ≡ c → stamp_in_slot there n c ≡ freed_by n
-stamp_lies there n c lies = ap (λ b. if b then freed_by n else None) (eq-eqb there c lies)
+retire_epoch_lies : (there n c : ℕ) → there ≡ c → retire_epoch_in_slot there n c ≡ freed_by n
+retire_epoch_lies there n c lies = ap (λ b. if b then freed_by n else None) (eq-eqb there c lies)
 
-stamp_gone : (there n c : ℕ) → there ≢ c → stamp_in_slot there n c ≡ None
-stamp_gone there n c other = ap (λ b. if b then freed_by n else None) (ne_eqb there c other)
+retire_epoch_gone : (there n c : ℕ) → there ≢ c → retire_epoch_in_slot there n c ≡ None
+retire_epoch_gone there n c other = ap (λ b. if b then freed_by n else None) (ne_eqb there c other)
 
-no_stamp : (there n c : ℕ) → n % 8 ≢ 0 → stamp_in_slot there n c ≡ None
-no_stamp there n c some_bit = none (there == c)
+no_retire_epoch : (there n c : ℕ) → n % 8 ≢ 0 → retire_epoch_in_slot there n c ≡ None
+no_retire_epoch there n c some_bit = none (there == c)
   where
     none : (b : Bool) → (if b then freed_by n else None) ≡ None
     none true = not_freed n some_bit
     none false = refl
 
--- the stamps of a table are so
-stamp_there : (s : Slots) (lie : ℕ → ℕ) (words : List ℕ) (c slot n : ℕ) → slot ≤ s.last → slot_of c ≡ slot → get_or words (slot_word s slot) 0 ≡ n
-    → stamp_at s lie words c ≡ stamp_in_slot (lie slot) n c
-stamp_there s lie words c slot n inside lies has =
+-- the retire epochs of a table are so
+retire_epoch_there : (s : Slots) (lie : ℕ → ℕ) (words : List ℕ) (c slot n : ℕ) → slot ≤ s.last → slot_of c ≡ slot → get_or words (slot_word s slot) 0 ≡ n
+    → retire_epoch_at s lie words c ≡ retire_epoch_in_slot (lie slot) n c
+retire_epoch_there s lie words c slot n inside lies has =
     let there : nat_le slot s.last ≡ true = grind (arith, nat_tests) in
     ap (λ x. if nat_le x s.last && lie x == c then freed_by (get_or words (slot_word s x) 0) else None) lies
     ∙ (ap (λ b. if b && lie slot == c then freed_by (get_or words (slot_word s slot) 0) else None) there
-    ∙ ap (λ m. stamp_in_slot (lie slot) m c) has)
+    ∙ ap (λ m. retire_epoch_in_slot (lie slot) m c) has)
 
--- The periods of a table where words of slots became others and a pass knows something else of those, if the clock and the
--- places say the same.
+-- The epochs of a table where words of slots became others and a pass knows something else of those, if the epoch and
+-- the announcements say the same.
 module _ (s : Slots) (t : WholeState) (id : ℕ) (k : Known) (here : get_elem? t.views id ≡ some k) (lie : ℕ → ℕ) (dead : ℕ → Bool) (began : ℕ → ℕ) (was_dead : ℕ → ℕ → Bool)
-    (h : PeriodsAreSound s t lie dead began was_dead) (words : List ℕ) (p : Period) (stands : StandsAs k.period p) (began_so : p.began ≡ k.period.began) (reading : (n : ℕ) → p.reading ≡ Some n → n ≤ get_or t.words (clock_word s) 0)
-    (surveyed : p.surveyed.clock ≤ get_or t.words (clock_word s) 0)
-    (least : p.least ≡ k.period.least) (looked : p.looked ≡ k.period.looked) (safe : p.safe ≡ k.period.safe) (lost : p.lost ≡ k.period.lost)
-    (clock : get_or words (clock_word s) 0 ≡ get_or t.words (clock_word s) 0) (places : (q : ℕ) → get_or words (place_word s q) 0 ≡ get_or t.words (place_word s q) 0) where
+    (h : EpochsAreSound s t lie dead began was_dead) (words : List ℕ) (p : Participant) (stands : StandsAs k.participant p) (began_so : p.began ≡ k.participant.began) (epoch : (n : ℕ) → p.epoch ≡ Some n → n ≤ get_or t.words (epoch_word s) 0)
+    (surveyed : p.surveyed.epoch ≤ get_or t.words (epoch_word s) 0)
+    (least : p.least ≡ k.participant.least) (looked : p.looked ≡ k.participant.looked) (safe_epoch : p.safe_epoch ≡ k.participant.safe_epoch) (lost : p.lost ≡ k.participant.lost)
+    (global : get_or words (epoch_word s) 0 ≡ get_or t.words (epoch_word s) 0) (announcements : (q : ℕ) → get_or words (announcement_word s q) 0 ≡ get_or t.words (announcement_word s q) 0) where
   abbrev now : Known
-  now = record k { period = p }
+  now = record k { participant = p }
 
   abbrev after : WholeState
   after = record { words = words; homes = t.homes; views = set t.views id now }
 
-  gains : (q : ℕ) → HasPlace p q → HasPlace k.period q
-  gains q (own is) = own (sym stands.place ∙ is)
+  gains : (q : ℕ) → HasAnnouncement p q → HasAnnouncement k.participant q
+  gains q (own is) = own (sym stands.announcement ∙ is)
   gains q (spare is) = spare (sym stands.other ∙ is)
 
-  now_holds : PeriodHolds s words now
+  now_holds : ParticipantHolds s words now
   now_holds =
-      let was = holds_on s t.words words k (λ q has. places q) (let same = clock in omega arith) (h.each id k here) in record {
-        place = λ q is. (let at = was.place q (sym stands.place ∙ is) in (at.0, at.1 ∙ ap place_says (sym stands.announced)));
-        other = λ q is. (let at = was.other q (sym stands.other ∙ is) in (at.0, at.1 ∙ ap place_says (sym stands.other_says)));
-        two = λ q is other. was.two q (sym stands.place ∙ is) (sym stands.other ∙ other);
-        none = λ is. stands.announced ∙ was.none (sym stands.place ∙ is);
-        reading = λ n is. (let low = reading n is in let same = clock in omega arith);
-        surveyed = (let low = surveyed in let same = clock in omega arith);
+      let was = holds_on s t.words words k (λ q has. announcements q) (let same = global in omega arith) (h.each id k here) in record {
+        announcement = λ q is. (let at = was.announcement q (sym stands.announcement ∙ is) in (at.0, at.1 ∙ ap announcement_says (sym stands.announced)));
+        other = λ q is. (let at = was.other q (sym stands.other ∙ is) in (at.0, at.1 ∙ ap announcement_says (sym stands.other_says)));
+        two = λ q is other. was.two q (sym stands.announcement ∙ is) (sym stands.other ∙ other);
+        none = λ is. stands.announced ∙ was.none (sym stands.announcement ∙ is);
+        epoch = λ n is. (let low = epoch n is in let same = global in omega arith);
+        surveyed = (let low = surveyed in let same = global in omega arith);
         rests = λ is. was.rests (sym stands.announced ∙ is);
         idle = λ c is. was.idle c (sym lost ∙ is);
       }
 
-  same_word : (q : ℕ) → word_at_place s words q ≡ word_at_place s t.words q
-  same_word q = ap (λ x. if nat_lt q s.places then announced_by x else None) (places q)
+  same_word : (q : ℕ) → word_at_announcement s words q ≡ word_at_announcement s t.words q
+  same_word q = ap (λ x. if nat_lt q s.announcements then announced_by x else None) (announcements q)
 
-  -- they are sound again if the grace periods are so, by what is dead, about to be freed, and free
+  -- they are sound again if those of the protocol are so, by what is dead, about to be freed, and free
   pub slots_after : (lie' : ℕ → ℕ) (dead' : ℕ → Bool) (pending : ℕ → Option (ℕ × ℕ)) (free : ℕ → Option ℕ)
-      → GraceIsSound s.places (record (grace_of s t lie dead began was_dead) { gone = dead'; pending = pending; free = free })
-      → ((j : ℕ) → pending_by (period_in (set t.views id now) j).stamp ≡ pending j)
-      → ((c : ℕ) → stamp_at s lie' words c ≡ free c)
-      → PeriodsAreSound s after lie' dead' began was_dead
-  slots_after lie' dead' pending free sound pends stamped =
-      periods_after s t id k here k.sight lie dead began was_dead h words p clock (λ j u other at q has. places q) (λ q has. inl (gains q has)) lie' dead' began was_dead
-      (λ r a at an. h.since id r a k here (sym stands.place ∙ at) (sym stands.announced ∙ an) ∙ sym began_so)
+      → GraceIsSound s.announcements (record (grace_of s t lie dead began was_dead) { gone = dead'; pending = pending; free = free })
+      → ((j : ℕ) → pending_by (participant_in (set t.views id now) j).retire_epoch ≡ pending j)
+      → ((c : ℕ) → retire_epoch_at s lie' words c ≡ free c)
+      → EpochsAreSound s after lie' dead' began was_dead
+  slots_after lie' dead' pending free sound pends with_retire_epoch =
+      epochs_after s t id k here k.sight lie dead began was_dead h words p global (λ j u other at q has. announcements q) (λ q has. inl (gains q has)) lie' dead' began was_dead
+      (λ r a at an. h.since id r a k here (sym stands.announcement ∙ at) (sym stands.announced ∙ an) ∙ sym began_so)
       (λ j r a u other there at an. h.since j r a u there at an)
-      (grace_same s.places (record (grace_of s t lie dead began was_dead) { gone = dead'; pending = pending; free = free })
+      (grace_same s.announcements (record (grace_of s t lie dead began was_dead) { gone = dead'; pending = pending; free = free })
       (grace_of s after lie' dead' began was_dead)
-      clock (λ c. refl) same_word (λ q. refl) (λ q c. refl) pends
+      global (λ c. refl) same_word (λ q. refl) (λ q c. refl) pends
       (part_same t.views id k here now (λ x. x.least) least)
       (λ j q. part_same t.views id k here now (λ x. nat_lt q x.looked) (ap (nat_lt q) looked) j)
-      (part_same t.views id k here now (λ x. x.safe) safe)
-      stamped sound)
+      (part_same t.views id k here now (λ x. x.safe_epoch) safe_epoch)
+      with_retire_epoch sound)
       now_holds
 
 -- the steps of a pass on the words of slots
 module _ (s : Slots) (t : WholeState) (id : ℕ) (k : Known) (here : get_elem? t.views id ≡ some k) (lie : ℕ → ℕ) (dead : ℕ → Bool) (began : ℕ → ℕ) (was_dead : ℕ → ℕ → Bool)
-    (h : PeriodsAreSound s t lie dead began was_dead) (size : length t.words ≡ slots_size s) where
+    (h : EpochsAreSound s t lie dead began was_dead) (size : length t.words ≡ slots_size s) where
   abbrev was : Grace
   was = grace_of s t lie dead began was_dead
 
-  -- it reads the clock for a card that is dead
-  abbrev reading_now : ℕ
-  reading_now = get_or t.words (clock_word s) 0
+  -- it reads the epoch for a card that is dead
+  abbrev epoch_now : ℕ
+  epoch_now = get_or t.words (epoch_word s) 0
 
   module _ (c : ℕ) where
-    abbrev stamped : Known
-    stamped = record k { period = after_stamp c reading_now k.period }
+    abbrev with_retire_epoch : Known
+    with_retire_epoch = record k { participant = after_retire_epoch c epoch_now k.participant }
 
     abbrev died : Grace
     died = record was { gone = put was.gone c true }
 
     abbrev pends : Grace
-    pends = record died { pending = put was.pending id (Some (c, was.clock)) }
+    pends = record died { pending = put was.pending id (Some (c, was.epoch)) }
 
-    pub card_stamped : PeriodsAreSound s (record { words = set t.words (clock_word s) (get_or t.words (clock_word s) 0); homes = t.homes; views = set t.views id (record k { period = after_stamp c (get_or t.words (clock_word s) 0) k.period }) })
+    pub card_with_retire_epoch : EpochsAreSound s (record { words = set t.words (epoch_word s) (get_or t.words (epoch_word s) 0); homes = t.homes; views = set t.views id (record k { participant = after_retire_epoch c (get_or t.words (epoch_word s) 0) k.participant }) })
         lie (put dead c true) began was_dead
-    card_stamped =
-        slots_after s t id k here lie dead began was_dead h (set t.words (clock_word s) (get_or t.words (clock_word s) 0)) (after_stamp c reading_now k.period)
-        (record { place = refl; other = refl; other_says = refl; announced = refl }) refl (h.each id k here).reading (h.each id k here).surveyed refl refl refl refl (again (clock_word s)) (λ q. again (place_word s q))
-        lie (put dead c true) (put was.pending id (Some (c, was.clock))) was.free
-        (grace_goes_on s.places died pends (grace_goes_on s.places was died h.sound (dies c refl)) (stamps id c (put_same was.gone c true) refl))
-        (part_put t.views id k here stamped (λ p. pending_by p.stamp))
-        (stamps_same s lie t.words (set t.words (clock_word s) (get_or t.words (clock_word s) 0)) (λ slot inside. again (slot_word s slot)))
+    card_with_retire_epoch =
+        slots_after s t id k here lie dead began was_dead h (set t.words (epoch_word s) (get_or t.words (epoch_word s) 0)) (after_retire_epoch c epoch_now k.participant)
+        (record { announcement = refl; other = refl; other_says = refl; announced = refl }) refl (h.each id k here).epoch (h.each id k here).surveyed refl refl refl refl (again (epoch_word s)) (λ q. again (announcement_word s q))
+        lie (put dead c true) (put was.pending id (Some (c, was.epoch))) was.free
+        (grace_goes_on s.announcements died pends (grace_goes_on s.announcements was died h.sound (dies c refl)) (gets_retire_epoch id c (put_same was.gone c true) refl))
+        (part_put t.views id k here with_retire_epoch (λ p. pending_by p.retire_epoch))
+        (retire_epochs_same s lie t.words (set t.words (epoch_word s) (get_or t.words (epoch_word s) 0)) (λ slot inside. again (slot_word s slot)))
       where
-        again : (j : ℕ) → get_or (set t.words (clock_word s) (get_or t.words (clock_word s) 0)) j 0 ≡ get_or t.words j 0
-        again = word_again t.words (clock_word s) (omega arith)
+        again : (j : ℕ) → get_or (set t.words (epoch_word s) (get_or t.words (epoch_word s) 0)) j 0 ≡ get_or t.words j 0
+        again = word_again t.words (epoch_word s) (omega arith)
 
-  -- it knows another reading of the clock, where the words say the same
-  pub clock_known : (words : List ℕ) → ((j : ℕ) → get_or words j 0 ≡ get_or t.words j 0) → (n : ℕ) → n ≤ get_or t.words (clock_word s) 0
-      → PeriodsAreSound s (record { words = words; homes = t.homes; views = set t.views id (record k { period = record (k.period) { reading = Some n } }) }) lie dead began was_dead
-  clock_known words again n low =
-      slots_after s t id k here lie dead began was_dead h words (record (k.period) { reading = Some n })
-      (record { place = refl; other = refl; other_says = refl; announced = refl }) refl (λ m is. (let same = same_Some n m is in omega arith)) (h.each id k here).surveyed refl refl refl refl (again (clock_word s)) (λ q. again (place_word s q))
+  -- it knows another epoch, where the words say the same
+  pub epoch_known : (words : List ℕ) → ((j : ℕ) → get_or words j 0 ≡ get_or t.words j 0) → (n : ℕ) → n ≤ get_or t.words (epoch_word s) 0
+      → EpochsAreSound s (record { words = words; homes = t.homes; views = set t.views id (record k { participant = record (k.participant) { epoch = Some n } }) }) lie dead began was_dead
+  epoch_known words again n low =
+      slots_after s t id k here lie dead began was_dead h words (record (k.participant) { epoch = Some n })
+      (record { announcement = refl; other = refl; other_says = refl; announced = refl }) refl (λ m is. (let same = same_Some n m is in omega arith)) (h.each id k here).surveyed refl refl refl refl (again (epoch_word s)) (λ q. again (announcement_word s q))
       lie dead was.pending was.free h.sound
-      (part_same t.views id k here (record k { period = record (k.period) { reading = Some n } }) (λ p. pending_by p.stamp) refl)
-      (stamps_same s lie t.words words (λ slot inside. again (slot_word s slot)))
+      (part_same t.views id k here (record k { participant = record (k.participant) { epoch = Some n } }) (λ p. pending_by p.retire_epoch) refl)
+      (retire_epochs_same s lie t.words words (λ slot inside. again (slot_word s slot)))
 
   -- the word of a slot
   module _ (slot : ℕ) (inside : slot ≤ s.last) where
@@ -170,14 +170,14 @@ module _ (s : Slots) (t : WholeState) (id : ℕ) (k : Known) (here : get_elem? t
 
     -- it reads that, whatever its search has read then
     pub slot_read : (retired : Retired)
-        → PeriodsAreSound s (record { words = set t.words (slot_word s slot) (get_or t.words (slot_word s slot) 0); homes = t.homes; views = set t.views id (record k { period = record (after_read slot (get_or t.words (slot_word s slot) 0) k.period) { retired = retired } }) })
+        → EpochsAreSound s (record { words = set t.words (slot_word s slot) (get_or t.words (slot_word s slot) 0); homes = t.homes; views = set t.views id (record k { participant = record (after_read slot (get_or t.words (slot_word s slot) 0) k.participant) { retired = retired } }) })
         lie dead began was_dead
     slot_read retired =
-        slots_after s t id k here lie dead began was_dead h (set t.words (slot_word s slot) (get_or t.words (slot_word s slot) 0)) (record (after_read slot found k.period) { retired = retired })
-        (record { place = refl; other = refl; other_says = refl; announced = refl }) refl (h.each id k here).reading (h.each id k here).surveyed refl refl refl refl (again (clock_word s)) (λ q. again (place_word s q))
+        slots_after s t id k here lie dead began was_dead h (set t.words (slot_word s slot) (get_or t.words (slot_word s slot) 0)) (record (after_read slot found k.participant) { retired = retired })
+        (record { announcement = refl; other = refl; other_says = refl; announced = refl }) refl (h.each id k here).epoch (h.each id k here).surveyed refl refl refl refl (again (epoch_word s)) (λ q. again (announcement_word s q))
         lie dead was.pending was.free h.sound
-        (part_same t.views id k here (record k { period = record (after_read slot found k.period) { retired = retired } }) (λ p. pending_by p.stamp) refl)
-        (stamps_same s lie t.words (set t.words (slot_word s slot) (get_or t.words (slot_word s slot) 0)) (λ x low. again (slot_word s x)))
+        (part_same t.views id k here (record k { participant = record (after_read slot found k.participant) { retired = retired } }) (λ p. pending_by p.retire_epoch) refl)
+        (retire_epochs_same s lie t.words (set t.words (slot_word s slot) (get_or t.words (slot_word s slot) 0)) (λ x low. again (slot_word s x)))
       where
         again : (j : ℕ) → get_or (set t.words (slot_word s slot) (get_or t.words (slot_word s slot) 0)) j 0 ≡ get_or t.words j 0
         again = word_again t.words (slot_word s slot) (omega arith)
@@ -193,136 +193,136 @@ module _ (s : Slots) (t : WholeState) (id : ℕ) (k : Known) (here : get_elem? t
       turned_else : (i : ℕ) → i ≢ slot_word s slot → get_or turned i 0 ≡ get_or t.words i 0
       turned_else i other = get_or-set_other t.words (slot_word s slot) i n' 0 other
 
-      turned_clock : get_or turned (clock_word s) 0 ≡ get_or t.words (clock_word s) 0
-      turned_clock = let behind = clock_before_slots s slot in turned_else (clock_word s) (λ e. omega arith)
+      turned_epoch : get_or turned (epoch_word s) 0 ≡ get_or t.words (epoch_word s) 0
+      turned_epoch = let behind = epoch_before_slots s slot in turned_else (epoch_word s) (λ e. omega arith)
 
-      turned_place : (q : ℕ) → get_or turned (place_word s q) 0 ≡ get_or t.words (place_word s q) 0
-      turned_place q = let behind = before_slots s q slot in turned_else (place_word s q) (λ e. omega arith)
+      turned_announcement : (q : ℕ) → get_or turned (announcement_word s q) 0 ≡ get_or t.words (announcement_word s q) 0
+      turned_announcement q = let behind = before_slots s q slot in turned_else (announcement_word s q) (λ e. omega arith)
 
-      -- the cards of other slots have the stamps that they had
-      stamp_else : (c : ℕ) → slot_of c ≢ slot → stamp_at s lie turned c ≡ stamp_at s lie t.words c
-      stamp_else c other = ap (stamp_by lie c (nat_le (slot_of c) s.last)) (turned_else (slot_word s (slot_of c)) (λ e. other (omega arith)))
+      -- the cards of other slots have the retire epochs that they had
+      retire_epoch_else : (c : ℕ) → slot_of c ≢ slot → retire_epoch_at s lie turned c ≡ retire_epoch_at s lie t.words c
+      retire_epoch_else c other = ap (retire_epoch_by lie c (nat_le (slot_of c) s.last)) (turned_else (slot_word s (slot_of c)) (λ e. other (omega arith)))
 
-      stamp_now : (lie' : ℕ → ℕ) (c : ℕ) → slot_of c ≡ slot → stamp_at s lie' turned c ≡ stamp_in_slot (lie' slot) n' c
-      stamp_now lie' c lies = stamp_there s lie' turned c slot n' inside lies turned_here
+      retire_epoch_now : (lie' : ℕ → ℕ) (c : ℕ) → slot_of c ≡ slot → retire_epoch_at s lie' turned c ≡ retire_epoch_in_slot (lie' slot) n' c
+      retire_epoch_now lie' c lies = retire_epoch_there s lie' turned c slot n' inside lies turned_here
 
-      stamp_was : (c : ℕ) → slot_of c ≡ slot → stamp_at s lie t.words c ≡ stamp_in_slot (lie slot) found c
-      stamp_was c lies = stamp_there s lie t.words c slot found inside lies refl
+      retire_epoch_was : (c : ℕ) → slot_of c ≡ slot → retire_epoch_at s lie t.words c ≡ retire_epoch_in_slot (lie slot) found c
+      retire_epoch_was c lies = retire_epoch_there s lie t.words c slot found inside lies refl
 
     -- a word that sets nothing free becomes one that does not either
-    pub slot_noted : (retired : Retired) (n' : ℕ) → get_or t.words (slot_word s slot) 0 % 8 ≢ 0 → n' % 8 ≢ 0
-        → PeriodsAreSound s (record { words = set t.words (slot_word s slot) n'; homes = t.homes; views = set t.views id (record k { period = record (k.period) { retired = retired } }) }) lie dead began was_dead
-    slot_noted retired n' some_bit some_bit' =
-        slots_after s t id k here lie dead began was_dead h (turned n') (record (k.period) { retired = retired })
-        (record { place = refl; other = refl; other_says = refl; announced = refl }) refl (h.each id k here).reading (h.each id k here).surveyed refl refl refl refl (turned_clock n') (turned_place n')
+    pub slot_retired : (retired : Retired) (n' : ℕ) → get_or t.words (slot_word s slot) 0 % 8 ≢ 0 → n' % 8 ≢ 0
+        → EpochsAreSound s (record { words = set t.words (slot_word s slot) n'; homes = t.homes; views = set t.views id (record k { participant = record (k.participant) { retired = retired } }) }) lie dead began was_dead
+    slot_retired retired n' some_bit some_bit' =
+        slots_after s t id k here lie dead began was_dead h (turned n') (record (k.participant) { retired = retired })
+        (record { announcement = refl; other = refl; other_says = refl; announced = refl }) refl (h.each id k here).epoch (h.each id k here).surveyed refl refl refl refl (turned_epoch n') (turned_announcement n')
         lie dead was.pending was.free h.sound
-        (part_same t.views id k here (record k { period = record (k.period) { retired = retired } }) (λ p. pending_by p.stamp) refl)
+        (part_same t.views id k here (record k { participant = record (k.participant) { retired = retired } }) (λ p. pending_by p.retire_epoch) refl)
         stays
       where
-        stays : (c : ℕ) → stamp_at s lie (turned n') c ≡ stamp_at s lie t.words c
+        stays : (c : ℕ) → retire_epoch_at s lie (turned n') c ≡ retire_epoch_at s lie t.words c
         stays c = elim (cases_eq (slot_of c) slot) [
-          | inl lies ↦ stamp_now n' lie c lies ∙ (no_stamp (lie slot) n' c some_bit' ∙ sym (stamp_was n' c lies ∙ no_stamp (lie slot) found c some_bit))
-          | inr other ↦ stamp_else n' c other
+          | inl lies ↦ retire_epoch_now n' lie c lies ∙ (no_retire_epoch (lie slot) n' c some_bit' ∙ sym (retire_epoch_was n' c lies ∙ no_retire_epoch (lie slot) found c some_bit))
+          | inr other ↦ retire_epoch_else n' c other
         ]
 
-    -- the card that lies there is set free with the stamp that the pass has for it
-    pub slot_freed : (retired : Retired) (reading : ℕ) → slot_of (lie slot) ≡ slot → k.period.stamp ≡ Some (record { card = lie slot; reading = reading })
-        → PeriodsAreSound s (record { words = set t.words (slot_word s slot) (free_word reading); homes = t.homes; views = set t.views id (record k { period = record (k.period) { retired = retired } }) }) lie dead began was_dead
-    slot_freed retired reading home has =
-        slots_after s t id k here lie dead began was_dead h (turned n') (record (k.period) { retired = retired })
-        (record { place = refl; other = refl; other_says = refl; announced = refl }) refl (h.each id k here).reading (h.each id k here).surveyed refl refl refl refl (turned_clock n') (turned_place n')
-        lie dead was.pending (put was.free card (Some reading))
-        (grace_goes_on s.places was (record was { free = put was.free card (Some reading) }) h.sound (frees id card reading pending refl))
-        (part_same t.views id k here (record k { period = record (k.period) { retired = retired } }) (λ p. pending_by p.stamp) refl)
-        stamp
+    -- the card that lies there is set free with the retire epoch that the pass has for it
+    pub slot_freed : (retired : Retired) (epoch : ℕ) → slot_of (lie slot) ≡ slot → k.participant.retire_epoch ≡ Some (record { card = lie slot; epoch = epoch })
+        → EpochsAreSound s (record { words = set t.words (slot_word s slot) (free_word epoch); homes = t.homes; views = set t.views id (record k { participant = record (k.participant) { retired = retired } }) }) lie dead began was_dead
+    slot_freed retired epoch home has =
+        slots_after s t id k here lie dead began was_dead h (turned n') (record (k.participant) { retired = retired })
+        (record { announcement = refl; other = refl; other_says = refl; announced = refl }) refl (h.each id k here).epoch (h.each id k here).surveyed refl refl refl refl (turned_epoch n') (turned_announcement n')
+        lie dead was.pending (put was.free card (Some epoch))
+        (grace_goes_on s.announcements was (record was { free = put was.free card (Some epoch) }) h.sound (frees id card epoch pending refl))
+        (part_same t.views id k here (record k { participant = record (k.participant) { retired = retired } }) (λ p. pending_by p.retire_epoch) refl)
+        retire_epoch
       where
         n' : ℕ
-        n' = free_word reading
+        n' = free_word epoch
 
         card : ℕ
         card = lie slot
 
-        pending : was.pending id ≡ Some (card, reading)
-        pending = ap (λ (p : Period). pending_by p.stamp) (period_was t.views id k here k) ∙ ap pending_by has
+        pending : was.pending id ≡ Some (card, epoch)
+        pending = ap (λ (p : Participant). pending_by p.retire_epoch) (participant_was t.views id k here k) ∙ ap pending_by has
 
-        stamp_apart : (c : ℕ) → c ≢ card → (slot_of c ≡ slot) ⊎ (slot_of c ≢ slot) → stamp_at s lie (turned n') c ≡ stamp_at s lie t.words c
-        stamp_apart c apart (inl lies) =
-            stamp_now n' lie c lies ∙ (stamp_gone card n' c (λ e. apart (sym e)) ∙ sym (stamp_was n' c lies ∙ stamp_gone card found c (λ e. apart (sym e))))
-        stamp_apart c apart (inr other) = stamp_else n' c other
+        retire_epoch_apart : (c : ℕ) → c ≢ card → (slot_of c ≡ slot) ⊎ (slot_of c ≢ slot) → retire_epoch_at s lie (turned n') c ≡ retire_epoch_at s lie t.words c
+        retire_epoch_apart c apart (inl lies) =
+            retire_epoch_now n' lie c lies ∙ (retire_epoch_gone card n' c (λ e. apart (sym e)) ∙ sym (retire_epoch_was n' c lies ∙ retire_epoch_gone card found c (λ e. apart (sym e))))
+        retire_epoch_apart c apart (inr other) = retire_epoch_else n' c other
 
-        stamp_card : stamp_at s lie (turned n') card ≡ Some reading
-        stamp_card =
-            stamp_now n' lie card home ∙ (stamp_lies card n' card refl ∙ (freed_with n' (free_bits reading) ∙ ap (λ r. Some r) (free_stamp reading)))
+        retire_epoch_card : retire_epoch_at s lie (turned n') card ≡ Some epoch
+        retire_epoch_card =
+            retire_epoch_now n' lie card home ∙ (retire_epoch_lies card n' card refl ∙ (freed_with n' (free_bits epoch) ∙ ap (λ r. Some r) (free_retire_epoch epoch)))
 
-        stamp : (c : ℕ) → stamp_at s lie (turned n') c ≡ put was.free card (Some reading) c
-        stamp c = elim (cases_eq c card) [
-          | inl e ↦ ap (stamp_at s lie (turned n')) e ∙ (stamp_card ∙ sym (ap (put was.free card (Some reading)) e ∙ put_same was.free card (Some reading)))
-          | inr n ↦ stamp_apart c n (cases_eq (slot_of c) slot) ∙ sym (put_other was.free card (Some reading) c n)
+        retire_epoch : (c : ℕ) → retire_epoch_at s lie (turned n') c ≡ put was.free card (Some epoch) c
+        retire_epoch c = elim (cases_eq c card) [
+          | inl e ↦ ap (retire_epoch_at s lie (turned n')) e ∙ (retire_epoch_card ∙ sym (ap (put was.free card (Some epoch)) e ∙ put_same was.free card (Some epoch)))
+          | inr n ↦ retire_epoch_apart c n (cases_eq (slot_of c) slot) ∙ sym (put_other was.free card (Some epoch) c n)
         ]
 
-    -- a slot that was set free, with a stamp below the safe number of the pass
-    module _ (home : slot_of (lie slot) ≡ slot) (full : get_or t.words (slot_word s slot) 0 % 8 ≡ 0) (past : stamp_in (get_or t.words (slot_word s slot) 0) < k.period.safe) where
+    -- a slot that was set free, with a retire epoch below the safe epoch of the pass
+    module _ (home : slot_of (lie slot) ≡ slot) (full : get_or t.words (slot_word s slot) 0 % 8 ≡ 0) (past : retire_epoch_in (get_or t.words (slot_word s slot) 0) < k.participant.safe_epoch) where
       abbrev card : ℕ
       card = lie slot
 
-      -- its card has that stamp, and so it may be taken
-      card_free : was.free card ≡ Some (stamp_in found)
-      card_free = stamp_was found card home ∙ (stamp_lies card found card refl ∙ freed_with found full)
+      -- its card has that retire epoch, and so it may be taken
+      card_free : was.free card ≡ Some (retire_epoch_in found)
+      card_free = retire_epoch_was found card home ∙ (retire_epoch_lies card found card refl ∙ freed_with found full)
 
-      card_past : stamp_in found < was.safe id
-      card_past = let same = ap (λ (p : Period). p.safe) (period_was t.views id k here k) in omega arith
+      card_past : retire_epoch_in found < was.safe_epoch id
+      card_past = let same = ap (λ (p : Participant). p.safe_epoch) (participant_was t.views id k here k) in omega arith
 
       -- that card is dead
       pub taken_is_dead : dead (lie slot) ≡ true
-      taken_is_dead = (h.sound.free card (stamp_in found) card_free).gone
+      taken_is_dead = (h.sound.free card (retire_epoch_in found) card_free).gone
 
-      -- and whoever announces something began that when it was dead
-      pub taken_was_dead : (q a : ℕ) → word_at_place s t.words q ≡ Some a → was_dead q (lie slot) ≡ true
-      taken_was_dead q a = taken_cards_were_gone s.places was h.sound id card (stamp_in found) card_free card_past q a
+      -- and whoever announces something was pinned when it was dead
+      pub taken_was_dead : (q a : ℕ) → word_at_announcement s t.words q ≡ Some a → was_dead q (lie slot) ≡ true
+      taken_was_dead q a = taken_cards_were_gone s.announcements was h.sound id card (retire_epoch_in found) card_free card_past q a
 
-      pub taken_was_dead_for : (j q a : ℕ) (u : Known) → get_elem? t.views j ≡ some u → u.period.place ≡ Some q → u.period.announced ≡ Some a
+      pub taken_was_dead_for : (j q a : ℕ) (u : Known) → get_elem? t.views j ≡ some u → u.participant.announcement ≡ Some q → u.participant.announced ≡ Some a
           → was_dead q (lie slot) ≡ true
       taken_was_dead_for j q a u at placed says = taken_was_dead q a announces
         where
-          announces : word_at_place s t.words q ≡ Some a
+          announces : word_at_announcement s t.words q ≡ Some a
           announces =
-              let has = (h.each j u at).place q placed in
-              let there : nat_lt q s.places ≡ true = let below = has.0 in grind (arith, nat_tests) in
-              ap (λ b. if b then announced_by (get_or t.words (place_word s q) 0) else None) there
-              ∙ (ap announced_by (has.1 ∙ ap place_says says) ∙ announced_again a)
+              let has = (h.each j u at).announcement q placed in
+              let there : nat_lt q s.announcements ≡ true = let below = has.0 in grind (arith, nat_tests) in
+              ap (λ b. if b then announced_by (get_or t.words (announcement_word s q) 0) else None) there
+              ∙ (ap announced_by (has.1 ∙ ap announcement_says says) ∙ announced_again a)
 
       -- the pass takes it, for another card there
-      pub slot_taken : (turn next : ℕ) → slot_of next ≡ slot
-          → PeriodsAreSound s (record { words = set t.words (slot_word s slot) (taken_word turn); homes = t.homes; views = set t.views id (record k { period = after_taking next k.period }) }) (put lie slot next) dead began was_dead
-      slot_taken turn next at =
-          slots_after s t id k here lie dead began was_dead h (turned n') (after_taking next k.period)
-          (record { place = refl; other = refl; other_says = refl; announced = refl }) refl (h.each id k here).reading (h.each id k here).surveyed refl refl refl refl (turned_clock n') (turned_place n')
+      pub slot_taken : (generation next : ℕ) → slot_of next ≡ slot
+          → EpochsAreSound s (record { words = set t.words (slot_word s slot) (taken_word generation); homes = t.homes; views = set t.views id (record k { participant = after_taking next k.participant }) }) (put lie slot next) dead began was_dead
+      slot_taken generation next at =
+          slots_after s t id k here lie dead began was_dead h (turned n') (after_taking next k.participant)
+          (record { announcement = refl; other = refl; other_says = refl; announced = refl }) refl (h.each id k here).epoch (h.each id k here).surveyed refl refl refl refl (turned_epoch n') (turned_announcement n')
           lie' dead was.pending (put was.free card None)
-          (grace_goes_on s.places was (record was { free = put was.free card None }) h.sound (takes id card (stamp_in found) card_free card_past refl))
-          (part_same t.views id k here (record k { period = after_taking next k.period }) (λ p. pending_by p.stamp) refl)
-          stamp
+          (grace_goes_on s.announcements was (record was { free = put was.free card None }) h.sound (takes id card (retire_epoch_in found) card_free card_past refl))
+          (part_same t.views id k here (record k { participant = after_taking next k.participant }) (λ p. pending_by p.retire_epoch) refl)
+          retire_epoch
         where
           n' : ℕ
-          n' = taken_word turn
+          n' = taken_word generation
 
           lie' : ℕ → ℕ
           lie' = put lie slot next
 
-          stamp_of_slot : (c : ℕ) → slot_of c ≡ slot → stamp_at s lie' (turned n') c ≡ None
-          stamp_of_slot c lies = stamp_now n' lie' c lies ∙ no_stamp (lie' slot) n' c (taken_bits turn)
+          retire_epoch_of_slot : (c : ℕ) → slot_of c ≡ slot → retire_epoch_at s lie' (turned n') c ≡ None
+          retire_epoch_of_slot c lies = retire_epoch_now n' lie' c lies ∙ no_retire_epoch (lie' slot) n' c (taken_bits generation)
 
-          stamp_there_else : (c : ℕ) → slot_of c ≢ slot → stamp_at s lie' (turned n') c ≡ stamp_at s lie (turned n') c
-          stamp_there_else c other = ap (λ d. if nat_le (slot_of c) s.last && d == c then freed_by (get_or (turned n') (slot_word s (slot_of c)) 0) else None)
+          retire_epoch_there_else : (c : ℕ) → slot_of c ≢ slot → retire_epoch_at s lie' (turned n') c ≡ retire_epoch_at s lie (turned n') c
+          retire_epoch_there_else c other = ap (λ d. if nat_le (slot_of c) s.last && d == c then freed_by (get_or (turned n') (slot_word s (slot_of c)) 0) else None)
               (put_other lie slot next (slot_of c) other)
 
-          stamp_apart : (c : ℕ) → c ≢ card → (slot_of c ≡ slot) ⊎ (slot_of c ≢ slot) → stamp_at s lie' (turned n') c ≡ stamp_at s lie t.words c
-          stamp_apart c apart (inl lies) = stamp_of_slot c lies ∙ sym (stamp_was n' c lies ∙ stamp_gone card found c (λ e. apart (sym e)))
-          stamp_apart c apart (inr other) = stamp_there_else c other ∙ stamp_else n' c other
+          retire_epoch_apart : (c : ℕ) → c ≢ card → (slot_of c ≡ slot) ⊎ (slot_of c ≢ slot) → retire_epoch_at s lie' (turned n') c ≡ retire_epoch_at s lie t.words c
+          retire_epoch_apart c apart (inl lies) = retire_epoch_of_slot c lies ∙ sym (retire_epoch_was n' c lies ∙ retire_epoch_gone card found c (λ e. apart (sym e)))
+          retire_epoch_apart c apart (inr other) = retire_epoch_there_else c other ∙ retire_epoch_else n' c other
 
-          stamp : (c : ℕ) → stamp_at s lie' (turned n') c ≡ put was.free card None c
-          stamp c = elim (cases_eq c card) [
-            | inl e ↦ stamp_of_slot c (ap slot_of e ∙ home) ∙ sym (ap (put was.free card None) e ∙ put_same was.free card None)
-            | inr n ↦ stamp_apart c n (cases_eq (slot_of c) slot) ∙ sym (put_other was.free card None c n)
+          retire_epoch : (c : ℕ) → retire_epoch_at s lie' (turned n') c ≡ put was.free card None c
+          retire_epoch c = elim (cases_eq c card) [
+            | inl e ↦ retire_epoch_of_slot c (ap slot_of e ∙ home) ∙ sym (ap (put was.free card None) e ∙ put_same was.free card None)
+            | inr n ↦ retire_epoch_apart c n (cases_eq (slot_of c) slot) ∙ sym (put_other was.free card None c n)
           ]
 
 -- which cards lie in slots, where the word of one becomes another one
@@ -345,16 +345,16 @@ module _ (s : Slots) (lie : ℕ → ℕ) (words : List ℕ) (lies : LieInSlots s
       stays apart = get_or-set_other words (slot_word s slot) (slot_word s other) n 0 (λ e. apart (omega arith))
 
   -- it sets the slot free
-  pub lie_freed : (reading : ℕ) → LieInSlots s (set words (slot_word s slot) (free_word reading)) lie
-  lie_freed reading = lie_turned (free_word reading) lie (λ other apart. refl) (λ inside taken. absurd (taken (free_bits reading)))
+  pub lie_freed : (epoch : ℕ) → LieInSlots s (set words (slot_word s slot) (free_word epoch)) lie
+  lie_freed epoch = lie_turned (free_word epoch) lie (λ other apart. refl) (λ inside taken. absurd (taken (free_bits epoch)))
 
-  -- it is of the same turn
-  pub lie_noted : (n : ℕ) → get_or words (slot_word s slot) 0 % 8 ≢ 0 → turn_in n ≡ turn_in (get_or words (slot_word s slot) 0) → LieInSlots s (set words (slot_word s slot) n) lie
-  lie_noted n taken turn =
-      lie_turned n lie (λ other apart. refl) (λ inside still. lies slot inside taken ∙ ap (λ x. turn_size * x + slot) (sym turn))
+  -- it is of the same generation
+  pub lie_retired : (n : ℕ) → get_or words (slot_word s slot) 0 % 8 ≢ 0 → generation_in n ≡ generation_in (get_or words (slot_word s slot) 0) → LieInSlots s (set words (slot_word s slot) n) lie
+  lie_retired n taken generation =
+      lie_turned n lie (λ other apart. refl) (λ inside still. lies slot inside taken ∙ ap (λ x. generation_size * x + slot) (sym generation))
 
   -- another card takes the slot
-  pub lie_taken : (c : ℕ) → slot_of c ≡ slot → LieInSlots s (set words (slot_word s slot) (taken_word (turn_of c))) (put lie slot c)
+  pub lie_taken : (c : ℕ) → slot_of c ≡ slot → LieInSlots s (set words (slot_word s slot) (taken_word (generation_of c))) (put lie slot c)
   lie_taken c at =
-      lie_turned (taken_word (turn_of c)) (put lie slot c) (λ other apart. put_other lie slot c other apart)
-      (λ inside taken. put_same lie slot c ∙ (let turn = taken_turn (turn_of c) in omega arith))
+      lie_turned (taken_word (generation_of c)) (put lie slot c) (λ other apart. put_other lie slot c other apart)
+      (λ inside taken. put_same lie slot c ∙ (let generation = taken_generation (generation_of c) in omega arith))

@@ -14,7 +14,7 @@ use Rattle.ell_runs.specs.Calls.{May, after}
 use Rattle.ell_runs.specs.Histories.{history_of}
 use Rattle.ell_cards.specs.Models.{PassModel, TableModel}
 use Rattle.ell_runs.specs.Plans.{TablePlan}
-use Rattle.ell_cards.specs.Periods.{WholeState, whole_size}
+use Rattle.ell_cards.specs.Epochs.{WholeState, whole_size}
 use Rattle.ell_runs.specs.Seeing.{HasSeenAll, HasSeenMore, IsCalm}
 use Rattle.ell_cards.specs.Shown.{shown, shown_call}
 use Rattle.ell_runs.specs.Starts.{SlotsFit}
@@ -30,7 +30,7 @@ use Rattle.ell_cards.proofs.lemmas.seats.Opened.{allowed, of_table}
 use Rattle.ell_runs.proofs.lemmas.seats.Seats.{set_there}
 use Rattle.ell_cards.proofs.lemmas.whole.Calling.{goes_by, load_does, made_after, seen_after, silent_after, tree_here, views_after}
 use Rattle.ell_cards.proofs.lemmas.whole.Calling.Notes.{nothing}
-use Rattle.ell_cards.proofs.lemmas.whole.Places.{size_some}
+use Rattle.ell_cards.proofs.lemmas.whole.Standings.{size_some}
 use Rattle.ell_cards.proofs.lemmas.whole.Seeing.{history_snoc, part_on, seen_all}
 use Rattle.ell_cards.proofs.lemmas.whole.Sighting.{sees_all, sighted_all}
 
@@ -49,9 +49,9 @@ module _ (plan : TablePlan) (k : Known) (s : WholeState) (h : IsWhole plan s) (i
       let there = tree_here plan s h id k here in
       let sees = sighted_all plan h.tree h.reached id k.tree there s.views k here refl h.seen h.made h.silent h.apart c tt in
       let g : Sight = record k.sight { seen = past ++ Quiet ∷ [] } in
-      let now : Known = record { tree = view_after h.tree k.tree c; period = k.period; sight = g } in
-      let told = seen_all plan (state_after h.tree id k.tree c) (call_on plan h.tree h.reached id c k.tree there tt) (set s.views id now) (views_after plan s h id k here c tt tt k.period g)
-      (seen_after plan s h id k here c tt tt k.period g sees) (made_after plan s h id k here c tt tt k.period g sees) (silent_after plan s h id k here c tt tt k.period g sees)
+      let now : Known = record { tree = view_after h.tree k.tree c; participant = k.participant; sight = g } in
+      let told = seen_all plan (state_after h.tree id k.tree c) (call_on plan h.tree h.reached id c k.tree there tt) (set s.views id now) (views_after plan s h id k here c tt tt k.participant g)
+      (seen_after plan s h id k here c tt tt k.participant g sees) (made_after plan s h id k here c tt tt k.participant g sees) (silent_after plan s h id k here c tt tt k.participant g sees)
       (sees.apart now refl) id now (set_there s.views id now k here) in
       let full = subst (λ (l : List Event). HasSeenAll plan now.tree (record k.sight { seen = l })) (history_snoc h.reached.turns (Makes id c)) told.all in (
         record { more = part_on k.sight.seen past (Quiet ∷ []) (h.seen id k here).part; mine = refl },
@@ -68,11 +68,11 @@ module _ (plan : TablePlan) (k : Known) (s : WholeState) (h : IsWhole plan s) (i
   next_calm _ is = absurd cc
 
 -- so the rule allows it
-next_goes : (plan : TablePlan) (k : Known) (told : ℕ → View → Type 0) → (plan.slots ≢ None → k.period.lost ≡ None) → MayTell plan call.Next (shown k.tree) told
-    → (id : ℕ) → Allows (IsWhole plan) 0 id (k, []) 0 (λ n. n) (λ n x. told n (shown x.0.tree) × (x.0.period ≡ k.period) × (x.1 ≡ []) × TellsAll plan (shown k.tree) k.sight x.0.sight)
+next_goes : (plan : TablePlan) (k : Known) (told : ℕ → View → Type 0) → (plan.slots ≢ None → k.participant.lost ≡ None) → MayTell plan call.Next (shown k.tree) told
+    → (id : ℕ) → Allows (IsWhole plan) 0 id (k, []) 0 (λ n. n) (λ n x. told n (shown x.0.tree) × (x.0.participant ≡ k.participant) × (x.1 ≡ []) × TellsAll plan (shown k.tree) k.sight x.0.sight)
 next_goes plan k told unlost tells id s h homes here small =
     let there = tree_here plan s h id k here in
-    goes_by plan k call.Next (λ n. n) told (λ n. k.period) tt tt (λ t some. tt) unlost (load_does plan call.Next refl) (λ some none. tt) (λ fill. absurd fill) tells
+    goes_by plan k call.Next (λ n. n) told (λ n. k.participant) tt tt (λ t some. tt) unlost (load_does plan call.Next refl) (λ some none. tt) (λ fill. absurd fill) tells
     (λ n word. nothing refl (λ some d flags. absurd flags)) id s h here small (λ v g. TellsAll plan (shown k.tree) k.sight g)
     (sees_all plan h.tree h.reached id k.tree there s.views k here refl h.seen h.made h.silent h.apart)
     (λ d may is. sighted_all plan h.tree h.reached id k.tree there s.views k here refl h.seen h.made h.silent h.apart d (next_calm plan k s h id here d is))
@@ -81,18 +81,18 @@ next_goes plan k told unlost tells id s h homes here small =
 -- what the load owes, by what its caller says of the table and the pass
 module _ (t u : TableModel) (p q : PassModel) (same_table : t ≡ u) (same_pass : p ≡ q) (own : q.table ≡ u.id) (size : t.id.words ≡ whole_size t.plan) (fit : SlotsFit t.plan t.plan.slots) where
   pub next_owed : (k : Known) → shown k.tree ≡ p.view → (seat : ℕ) (held : List (ℕ × Unit {0})) (told : ℕ → View → Type 0)
-      → k.period.lost ≡ None → t.id.slots ≡ 0 → held ≡ [] → MayTell u.plan call.Next q.view told
+      → k.participant.lost ≡ None → t.id.slots ≡ 0 → held ≡ [] → MayTell u.plan call.Next q.view told
       → (p.table ≡ t.id) × (0 < t.id.words)
-      × Allows (IsWhole t.plan) t.id.slots seat (k, held) 0 (λ n. n) (λ n x. told n (shown x.0.tree) × (x.0.period ≡ k.period) × (x.1 ≡ held) × TellsAll u.plan (shown k.tree) k.sight x.0.sight)
+      × Allows (IsWhole t.plan) t.id.slots seat (k, held) 0 (λ n. n) (λ n x. told n (shown x.0.tree) × (x.0.participant ≡ k.participant) × (x.1 ≡ held) × TellsAll u.plan (shown k.tree) k.sight x.0.sight)
   next_owed k shows seat held told unlost none empty tells =
       let is : q.view ≡ shown k.tree = sym (shows ∙ ap (λ (m : PassModel). m.view) same_pass) in
       let goes = next_goes u.plan k told (λ some. unlost) (subst (λ v. MayTell u.plan call.Next v told) is tells) in
-      let step = subst (λ (m : TableModel). (id : ℕ) → Allows (IsWhole m.plan) 0 id (k, []) 0 (λ n. n) (λ n x. told n (shown x.0.tree) × (x.0.period ≡ k.period) × (x.1 ≡ []) × TellsAll u.plan (shown k.tree) k.sight x.0.sight))
+      let step = subst (λ (m : TableModel). (id : ℕ) → Allows (IsWhole m.plan) 0 id (k, []) 0 (λ n. n) (λ n x. told n (shown x.0.tree) × (x.0.participant ≡ k.participant) × (x.1 ≡ []) × TellsAll u.plan (shown k.tree) k.sight x.0.sight))
       (sym same_table) goes in
       let some = size_some t.plan in (
         of_table t u p q same_table same_pass own size fit,
         omega arith,
-        allowed t.plan t.id.slots seat (k, held) 0 (λ n. n) (λ n x l. told n (shown x.0.tree) × (x.0.period ≡ k.period) × (x.1 ≡ l) × TellsAll u.plan (shown k.tree) k.sight x.0.sight) none empty step,
+        allowed t.plan t.id.slots seat (k, held) 0 (λ n. n) (λ n x l. told n (shown x.0.tree) × (x.0.participant ≡ k.participant) × (x.1 ≡ l) × TellsAll u.plan (shown k.tree) k.sight x.0.sight) none empty step,
       )
 
 -- what is told of the pass before it is so of the pass after it

@@ -9,7 +9,7 @@ pub mod Filling
 pub mod Frames
 -- The card that a claim for an insert fills is sound, and the claimer has it in hand: what its search saw gives each clause.
 pub mod InsertCard
--- Who may take a card, and the card that is laid aside then.
+-- Who may take a card, and the card that is discarded then.
 pub mod Taking
 -- The words after a claim are sound, if the claimed card is.
 pub mod Words

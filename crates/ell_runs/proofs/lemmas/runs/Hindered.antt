@@ -31,7 +31,7 @@ use Rattle.ell_core.specs.history.Later.{WordsLater, StagesLater}
 use Rattle.ell_core.specs.statements.StepLaws.{Reliance}
 use Rattle.ell_core.specs.statements.Since.{has_ended, SeenSince, SearchSince, CleansSince}
 use Rattle.ell_core.proofs.lemmas.outcomes.Decide.{some_not_none}
-use Rattle.ell_core.proofs.lemmas.keeping.claim.Taking.{laid_aside}
+use Rattle.ell_core.proofs.lemmas.keeping.claim.Taking.{hand_discarded}
 use Rattle.ell_core.proofs.lemmas.following.Reliance.{may_rely}
 use Rattle.ell_core.proofs.lemmas.following.Since.{word_unended}
 use Rattle.ell_core.proofs.lemmas.words.CleanWords.{clean_remainder}
@@ -323,13 +323,13 @@ module _ (plan : TablePlan) (m0 : Machine) (stage : Stages) (first : Invariant m
       one_met (after_claim false c q v) (Claim c) refl refl (hindered.next c may.0.read, omega arith) refl (λ seen h. h)
       (record {
         read = λ n read. (let same = same_Some c n (sym may.0.read ∙ read) in omega arith);
-        past = λ d has. (let past = later_than d has in inr ((laid_aside (flat_from plan) v.worker d may.0.ready has).0, omega arith));
+        past = λ d has. (let past = later_than d has in inr ((hand_discarded (flat_from plan) v.worker d may.0.ready has).0, omega arith));
       })
       (λ d has. (
         inr (later_than d has, omega arith),
         others_more v.next_at_least (c + 1) d (hindered.shows.read c may.0.read) hindered.met (hindered.own d has),
       ))
-      (λ k d busy has flagged. absurd (true≢false (sym flagged ∙ (laid_aside (flat_from plan) v.worker d may.0.ready has).1)))
+      (λ k d busy has flagged. absurd (true≢false (sym flagged ∙ (hand_discarded (flat_from plan) v.worker d may.0.ready has).1)))
     where
       -- a card that is in hand was given out before the one that the claim word tells to be the next
       later_than : (d : ℕ) → v.worker.card ≡ Some d → d < c

@@ -11,7 +11,7 @@ use Rattle.ell_core.specs.state.Machine.{Worker}
 use Rattle.ell_core.specs.history.Stages.{Stage, Stages, is_backed}
 use Rattle.ell_core.specs.history.Invariant.{Invariant}
 use Rattle.ell_core.specs.history.Later.{wins_of}
-use Rattle.ell_core.proofs.lemmas.keeping.claim.Taking.{laid_aside}
+use Rattle.ell_core.proofs.lemmas.keeping.claim.Taking.{hand_discarded}
 use Rattle.ell_core.proofs.lemmas.stages.Sums.{backs, child_changes, sum_by, sum_append, backed-sum, sum-backed}
 use Rattle.ell_runs.specs.Plans.{TablePlan, flat_from}
 use Rattle.ell_runs.specs.declared.call.Call.{Call}
@@ -71,7 +71,7 @@ held_by plan c call.Again n v keeps may fresh h = absurd (fresh (may.backed c h.
 held_by plan c call.Leave n v keeps may fresh h = absurd (fresh (may.backed c h.holds h.flagged))
 held_by plan c (call.Answer said took) n v keeps may fresh h = inl refl
 held_by plan c call.Rest n v keeps may fresh h = inl refl
-held_by plan c (call.Claim d q) n v keeps may fresh h = absurd (false≢true (sym (laid_aside (flat_from plan) v.worker c may.0.ready h.holds).1 ∙ h.flagged))
+held_by plan c (call.Claim d q) n v keeps may fresh h = absurd (false≢true (sym (hand_discarded (flat_from plan) v.worker c may.0.ready h.holds).1 ∙ h.flagged))
 held_by plan c (call.IFlag d p from) n v keeps may fresh h = absurd (false≢true (sym may.may.unflagged ∙ h.flagged))
 held_by plan c (call.DFlag d gp from) n v keeps may fresh h = absurd (false≢true (sym may.may.unflagged ∙ h.flagged))
 held_by plan c (call.Mark d p was) n v keeps may fresh h = inr (mark_held (n == was) d p (unpacked n) v (after (call.Mark d p was) n v) refl c h)

@@ -236,10 +236,10 @@ module _ (plan : TablePlan) (s : TableState) (h : IsReached plan s) (id : ℕ) (
       sym (get_or-set_same s.words (word_of c) left 0 (steps_stay_inside plan s h id v c here may))
       ∙ (ap (λ i. get_or T.words i 0) at ∙ listed_update plan T r x passed.inner born)
 
-  -- where it was laid aside, it is in nobody's hand
+  -- where it was discarded, it is in nobody's hand
   in_no_hand : (r : HasMachine plan T) → w.worker.card ≡ None → IsInHand (machine_of_table plan T r) d → ⊥
-  in_no_hand r aside held = elim (cases_eq held.worker id) [
-    | inl e ↦ some_not_none (sym (ap (λ i. (seat_worker (get_elem? T.views i)).card) e ∙ ap (λ (u : Worker). u.card) (ap seat_worker there)) ∙ held.holds) aside
+  in_no_hand r discarded held = elim (cases_eq held.worker id) [
+    | inl e ↦ some_not_none (sym (ap (λ i. (seat_worker (get_elem? T.views i)).card) e ∙ ap (λ (u : Worker). u.card) (ap seat_worker there)) ∙ held.holds) discarded
     | inr apart ↦ apart (sym (one_hand (machine_of_table plan s before) before.stages before.invariant id held.worker d
         (record { holds = ap (λ (u : Worker). u.card) (mine_is plan s before id v here) ∙ hand.holds; unflagged = ap (λ (u : Worker). u.flagged) (mine_is plan s before id v here) ∙ hand.unflagged })
         (ap (λ o. (seat_worker o).card) (sym (set_else s.views id held.worker w apart)) ∙ held.holds)))
@@ -385,9 +385,9 @@ module _ (plan : TablePlan) (s : TableState) (h : IsReached plan s) (id : ℕ) (
           false≢true (sym f ∙ eq-eqb found (marked c)
           (sym (ap (λ (b : Bool). if b then marked c else found) g) ∙ (stands (marked-delete (r.stages c) is) ∙ (ap r.words.update (sym parent) ∙ mark))))
 
-  flag_aside : (b : Bool) (new : Fact) (x : ℕ) (u : Update) → b ≡ false → (after_flag b new x u v).worker.card ≡ None
-  flag_aside true new x u e = absurd (true≢false e)
-  flag_aside false new x u e = refl
+  flag_discarded : (b : Bool) (new : Fact) (x : ℕ) (u : Update) → b ≡ false → (after_flag b new x u v).worker.card ≡ None
+  flag_discarded true new x u e = absurd (true≢false e)
+  flag_discarded false new x u e = refl
 
   flag_known : (b : Bool) (new : Fact) (x : ℕ) (u : Update) → b ≡ true → Knows (after_flag b new x u v) new
   flag_known true new x u e = knows_new new v.worker.knows
@@ -409,7 +409,7 @@ module _ (plan : TablePlan) (s : TableState) (h : IsReached plan s) (id : ℕ) (
       won_lost e g =
           let there = told_there plan s h id v here i may n on in
           let born = (r.views id (after i n v) there).entries (Met p) (after_told i refl n v (Met p) passed.met) in
-          in_no_hand plan s h id v here i may n on c may.may p passed refl refl r (flag_aside (n == packed from) (fact.IFlagged c) p (unpacked n) e)
+          in_no_hand plan s h id v here i may n on c may.may p passed refl refl r (flag_discarded (n == packed from) (fact.IFlagged c) p (unpacked n) e)
           (r.invariant.workers.insert_in_hand c ((r.invariant.words.updates p passed.inner born).iflagged c
           (sym (flag_listed plan s h id v here i may n on c may.may p passed refl refl r) ∙ ap (λ (b : Bool). if b then iflag c else found_by s i) g)).0)
 
@@ -452,7 +452,7 @@ module _ (plan : TablePlan) (s : TableState) (h : IsReached plan s) (id : ℕ) (
       won_lost e g =
           let there = told_there plan s h id v here i may n on in
           let born = (r.views id (after i n v) there).entries (Met gp) (after_told i refl n v (Met gp) passed.met) in
-          in_no_hand plan s h id v here i may n on c may.may gp passed refl refl r (flag_aside (n == packed from) (fact.DFlagged c) gp (unpacked n) e)
+          in_no_hand plan s h id v here i may n on c may.may gp passed refl refl r (flag_discarded (n == packed from) (fact.DFlagged c) gp (unpacked n) e)
           (r.invariant.workers.delete_in_hand c ((r.invariant.words.updates gp passed.inner born).dflagged c
           (sym (flag_listed plan s h id v here i may n on c may.may gp passed refl refl r) ∙ ap (λ (b : Bool). if b then dflag c else found_by s i) g)).0)
 

@@ -22,11 +22,11 @@ use Rattle.ell_runs.specs.Turns.{Turn, Makes, Splits, Joins, TableTurns, TableRu
 use Rattle.ell_runs.specs.Meanwhile.{KeepsOn, KeepOn}
 use Rattle.ell_runs.specs.Linearizing.{KeepsOnBetween, IsAnswered, ChangesAt}
 use Rattle.ell_runs.proofs.lemmas.runs.OwnSeat.{Only, turn_seat}
-use Rattle.ell_runs.proofs.lemmas.runs.LayingDown.{laid_down_calls_change_nothing}
+use Rattle.ell_runs.proofs.lemmas.runs.GivingUp.{given_up_calls_change_nothing}
 use Rattle.ell_runs.proofs.lemmas.runs.LinearizingStates.{at_end, turn_inside}
 use Rattle.ell_runs.proofs.lemmas.runs.LinearizingPoints.{after_turns, made, changed_of, more_on}
 
--- a call that neither answers the operation in hand nor lays it down leaves it in hand
+-- a call that neither answers the operation in hand nor gives it up leaves it in hand
 does_claim : (b : Bool) (c : ℕ) (q : NewNode) (v : View) → (after_claim b c q v).worker.operation ≡ v.worker.operation
 does_claim true c q v = refl
 does_claim false c q v = refl
@@ -125,7 +125,7 @@ module _ (plan : TablePlan) (opened : TableState) (starts : Starts plan opened) 
           took = says.1;
           answers = here ∙ ap (λ (x : Call). some (Makes seat x)) says.2;
         }))
-        by c (inr (inl is)) here = absurd (laid_down_calls_change_nothing plan opened starts turns s' run seat i q op (record {
+        by c (inr (inl is)) here = absurd (given_up_calls_change_nothing plan opened starts turns s' run seat i q op (record {
           begins = changes.begins;
           later = low;
           on = h.on;

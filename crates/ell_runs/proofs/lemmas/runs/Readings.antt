@@ -75,11 +75,11 @@ way_no_claim n (Some (Delete k)) (Some x) parent above =
 way_no_claim n _ _ parent above = tt
 
 -- what was in the way, once a try is given up
-abbrev given_up : View → List Hindrance
-given_up v = way_now v ++ v.hindrances
+abbrev after_try : View → List Hindrance
+after_try v = way_now v ++ v.hindrances
 
-past_given_up : (n : ℕ) (v : View) → IsPast n v → AreBelow n (given_up v)
-past_given_up n v h =
+past_after_try : (n : ℕ) (v : View) → IsPast n v → AreBelow n (after_try v)
+past_after_try n v h =
     below_both n (in_the_way v.worker.operation v.worker.search.node v.worker.search.parent v.worker.search.grandparent) v.hindrances
     (way_no_claim n v.worker.operation v.worker.search.node v.worker.search.parent v.worker.search.grandparent) h.claims
 
@@ -110,8 +110,8 @@ past_claim n m false c q v e low read h =
 -- so it stays after a call
 past_after : (plan : TablePlan) (n m : ℕ) (c : Call) (found : ℕ) (v : View) → n ≤ m → (word_of c ≡ 0 → found ≡ n) → May plan c v → IsPast n v → IsPast m (after c found v)
 past_after plan n m (call.Begin op) found v low is may h = record { next = tt; claims = below_rises n m v.hindrances low h.claims }
-past_after plan n m call.Again found v low is may h = record { next = tt; claims = below_rises n m (given_up v) low (past_given_up n v h) }
-past_after plan n m call.Leave found v low is may h = record { next = read_rises n m v.next low h.next; claims = below_rises n m (given_up v) low (past_given_up n v h) }
+past_after plan n m call.Again found v low is may h = record { next = tt; claims = below_rises n m (after_try v) low (past_after_try n v h) }
+past_after plan n m call.Leave found v low is may h = record { next = read_rises n m v.next low h.next; claims = below_rises n m (after_try v) low (past_after_try n v h) }
 past_after plan n m call.Next found v low is may h =
     let same = is refl in record { next = (omega arith); claims = below_rises n m v.hindrances low h.claims }
 past_after plan n m (call.Claim c q) found v low is may h =

@@ -328,7 +328,7 @@ look_asks =
 abbrev at_9 : TableState
 at_9 = run_leads at_8 look
 
--- it lays a find down, and both passes become one
+-- it gives a find up, and both passes become one
 ending_asks : RunAsks small_plan at_9 ending
 ending_asks =
     (refl, (refl, inl (some_not_none refl)))

@@ -16,7 +16,7 @@ use Rattle.ell_core.specs.declared.view.Seen.{Seen}
 use Rattle.ell_core.specs.history.Invariant.{WorkerIsSound}
 use Rattle.ell_layout.proofs.lemmas.Listed.{listed_next}
 use Rattle.ell_core.proofs.lemmas.outcomes.Decide.{some_not_none}
-use Rattle.ell_core.proofs.lemmas.keeping.claim.Taking.{laid_aside}
+use Rattle.ell_core.proofs.lemmas.keeping.claim.Taking.{hand_discarded}
 use Rattle.ell_core.specs.acts.Searching.{MayStop}
 use Rattle.ell_core.specs.state.Machine.{worker_of}
 use Rattle.ell_runs.specs.declared.call.Call.{Call}
@@ -148,11 +148,11 @@ module _ (plan : TablePlan) where
     keeps : KeepOn seat meanwhile
     first : Grows s0 v0 begun begins.view
     since : Grows begun begins.view s v
-    aside : (op : Op) → v.worker.operation ≡ Some op → (c : ℕ) → 0 < times exchange.Claim c v.won → v.worker.card ≢ Some c → (0 < ends c begun) ⊎ IsAbandoned s c
+    discarded : (op : Op) → v.worker.operation ≡ Some op → (c : ℕ) → 0 < times exchange.Claim c v.won → v.worker.card ≢ Some c → (0 < ends c begun) ⊎ IsAbandoned s c
     lost : AllUnclaimed v.won v.met
     counted : v.hindered ≤ v0.hindered + done_since s0 begun begins.view.won
 
-  -- the pass has laid its operation down, or answered it, or ended a look
+  -- the pass has given its operation up, or answered it, or ended a look
   record Stopped (s0 : TableState) (v0 : View) (s : TableState) (v : View) : Type 0 where
     reached : IsReached plan s
     free : v.worker.operation ≡ None
@@ -322,7 +322,7 @@ module _ (plan : TablePlan) where
 
         mine : 0 < times exchange.Claim c v.won → (b : Bool) → is_this v.worker.card c ≡ b → ⊥
         mine own true e = held (held_is v.worker.card c e) v.worker.flagged refl
-        mine own false e = elim (h.aside may.op may.busy c own (λ has. false≢true (sym e ∙ (ap (λ o. is_this o c) has ∙ eq-eqb c c refl)))) [
+        mine own false e = elim (h.discarded may.op may.busy c own (λ has. false≢true (sym e ∙ (ap (λ o. is_this o c) has ∙ eq-eqb c c refl)))) [
           | inl was ↦ (omega arith)
           | inr left ↦ (let none = left.unended in omega arith)
         ]
@@ -372,7 +372,7 @@ module _ (plan : TablePlan) where
   record Rests (s : TableState) (v : View) (s' : TableState) (w : View) : Type 0 where
     hindered : w.hindered ≡ v.hindered
     operation : (op : Op) → w.worker.operation ≡ Some op → v.worker.operation ≡ Some op
-    aside : (c : ℕ) → 0 < times exchange.Claim c w.won → w.worker.card ≢ Some c → ((0 < times exchange.Claim c v.won) × (v.worker.card ≢ Some c)) ⊎ IsAbandoned s' c
+    discarded : (c : ℕ) → 0 < times exchange.Claim c w.won → w.worker.card ≢ Some c → ((0 < times exchange.Claim c v.won) × (v.worker.card ≢ Some c)) ⊎ IsAbandoned s' c
     lost : AllUnclaimed w.won w.met
 
   module _ (s0 : TableState) (v0 : View) (seat : ℕ) (s : TableState) (v : View) (h : Searches s0 v0 seat s v) (there : get_elem? s.views seat ≡ some v)
@@ -396,8 +396,8 @@ module _ (plan : TablePlan) where
       keeps = keep_more seat h.meanwhile t h.keeps on;
       first = h.first;
       since = grows_on h.begun h.begins.view s v s' w h.since g;
-      aside = λ op busy c own no. elim (r.aside c own no) [
-        | inl was ↦ elim (h.aside op (r.operation op busy) c was.0 was.1) [
+      discarded = λ op busy c own no. elim (r.discarded c own no) [
+        | inl was ↦ elim (h.discarded op (r.operation op busy) c was.0 was.1) [
           | inl ended ↦ inl ended
           | inr left ↦ inr (turn_abandoned plan s here c left t s' turn)
         ]
@@ -425,7 +425,7 @@ module _ (plan : TablePlan) where
     alike w g hindered operation card claims lost = record {
       hindered = hindered;
       operation = λ op e. sym operation ∙ e;
-      aside = λ c own no. inl (subst (λ n. 0 < n) (claims c) own, λ has. no (card ∙ has));
+      discarded = λ c own no. inl (subst (λ n. 0 < n) (claims c) own, λ has. no (card ∙ has));
       lost = lost;
     }
 
@@ -436,19 +436,19 @@ module _ (plan : TablePlan) where
       claim_rests d q true e ends_none may there_now g = record {
         hindered = refl;
         operation = λ op busy. busy;
-        aside = λ x own no.
+        discarded = λ x own no.
             let other : x ≢ d = (λ same. no (ap Some (sym same))) in
             let before = subst (λ (b : Bool). 0 < (if b then 1 else 0) + times exchange.Claim x v.won → 0 < times exchange.Claim x v.won) (sym (ne_eqb x d other)) (λ m. omega arith) own in
             held x own no before (is_this v.worker.card x) refl;
         lost = lost_on (after_claim true d q v).won g.own;
       }
         where
-          -- a card that is in hand is laid aside
+          -- a card that is in hand is discarded
           held : (x : ℕ) → 0 < times exchange.Claim x (after_claim true d q v).won → (after_claim true d q v).worker.card ≢ Some x → 0 < times exchange.Claim x v.won
               → (b : Bool) → is_this v.worker.card x ≡ b → ((0 < times exchange.Claim x v.won) × (v.worker.card ≢ Some x)) ⊎ IsAbandoned s' x
           held x own else_where before true is =
               let has = held_is v.worker.card x is in
-              let was = hand_unended plan s here seat v there x has (laid_aside (flat_from plan) v.worker x may.0.ready has).1 in
+              let was = hand_unended plan s here seat v there x has (hand_discarded (flat_from plan) v.worker x may.0.ready has).1 in
               let rise = ends_rise x plan s t s' turn in
               let none = ends_none x in
               inr (own_abandoned plan s' next_here seat (after_claim true d q v) there_now x own else_where (omega arith))
@@ -461,8 +461,8 @@ module _ (plan : TablePlan) where
           → get_elem? s'.views seat ≡ some w → Grows s v s' w → (number k == 0) ≡ false → ((y : ℕ) → ends_in y (turn_won s t) ≡ 0) → v.worker.flagged ≡ false → Rests s v s' w
       flag_rests k d x new n b w is there_now g other ends_none unflagged = by b is
         where
-          laid : (y : ℕ) → v.worker.card ≡ Some y → 0 < times exchange.Claim y w.won → w.worker.card ≢ Some y → IsAbandoned s' y
-          laid y has own else_where =
+          discarded : (y : ℕ) → v.worker.card ≡ Some y → 0 < times exchange.Claim y w.won → w.worker.card ≢ Some y → IsAbandoned s' y
+          discarded y has own else_where =
               let was = hand_unended plan s here seat v there y has unflagged in
               let rise = ends_rise y plan s t s' turn in
               let none = ends_none y in
@@ -475,13 +475,13 @@ module _ (plan : TablePlan) where
           by false is = record {
             hindered = ap (λ u. u.hindered) is;
             operation = λ op busy. sym (ap (λ u. u.worker.operation) is) ∙ busy;
-            aside = λ y own else_where. held y own else_where (is_this v.worker.card y) refl;
+            discarded = λ y own else_where. held y own else_where (is_this v.worker.card y) refl;
             lost = subst (AllUnclaimed w.won) (sym (ap (λ (u : View). u.met) is)) (lost_on w.won g.own);
           }
             where
               held : (y : ℕ) → 0 < times exchange.Claim y w.won → w.worker.card ≢ Some y → (b : Bool) → is_this v.worker.card y ≡ b
                   → ((0 < times exchange.Claim y v.won) × (v.worker.card ≢ Some y)) ⊎ IsAbandoned s' y
-              held y own else_where true e = inr (laid y (held_is v.worker.card y e) own else_where)
+              held y own else_where true e = inr (discarded y (held_is v.worker.card y e) own else_where)
               held y own else_where false e = inl (
                 subst (λ n. 0 < n) (ap (λ (u : View). times exchange.Claim y u.won) is) own,
                 λ has. false≢true (sym e ∙ (ap (λ o. is_this o y) has ∙ eq-eqb y y refl)),
@@ -542,7 +542,7 @@ module _ (plan : TablePlan) where
         let same = claims_same c (found_by s c) v (λ d q e. (cc)) in
         alike (view_after s v c) g refl refl refl same (lost_on (view_after s v c).won (λ e low. same e))
 
-    -- an operation that was laid down, or answered, or a look that was ended
+    -- an operation that was given up, or answered, or a look that was ended
     stops : (w : View) → Grows s v s' w → w.worker.operation ≡ None → w.hindered ≤ v0.hindered + done_since s0 s' w.won → Stopped s0 v0 s' w
     stops w g free counted = record {
       reached = next_here;
@@ -572,7 +572,7 @@ module _ (plan : TablePlan) where
       keeps = tt;
       first = grows_on s0 v0 h.begun h.begins.view s' w h.first (grows_on h.begun h.begins.view s v s' w h.since g);
       since = grows_same s' w;
-      aside = λ op busy c own none. by c own none (ends c s') refl;
+      discarded = λ op busy c own none. by c own none (ends c s') refl;
       lost = subst (AllUnclaimed w.won) (sym (ap (λ (u : View). u.met) is)) tt;
       counted = subst (λ n. n ≤ v0.hindered + done_since s0 s' w.won) (sym (ap (λ (u : View). u.hindered) is))
           (more_hindered s0 v0 seat s v h there may s' w g);
@@ -718,7 +718,7 @@ module _ (plan : TablePlan) where
         keeps = tt;
         first = grows_same q.begun q.begins.view;
         since = grows_same q.begun q.begins.view;
-        aside = λ op busy c own none. by c own none (ends c q.begun) refl;
+        discarded = λ op busy c own none. by c own none (ends c q.begun) refl;
         lost = subst (AllUnclaimed q.begins.view.won) (sym q.begins.unmet) tt;
         counted = omega arith;
       });

@@ -10,17 +10,17 @@ use ell_test_gates::four_threads_meet;
 // The delete of 10 flags node 20 and marks node 10, the one of 5 flags node 10 and marks node 5, and so on down: each is in the way of
 // the mark above it. A delete of 20 flags node 20 too. Keys 4, 3 and 2 are not there at the start.
 //
-//                 20
-//                /  \
-//              10    .
-//             /  \  / \
-//            5   10 20 .
-//           / \
-//          4   5
-//         / \
-//        3   4
-//       / \
-//      2   3
+// 20
+// /  \
+// 10    .
+// /  \  / \
+// 5   10 20 .
+// / \
+// 4   5
+// / \
+// 3   4
+// / \
+// 2   3
 const START: [(u64, u64); 3] = [(5, 50), (10, 100), (20, 200)];
 
 // Workers make their first inserts, one after the other; then workers 0, 1 and so on are held, and worker 4 passes.

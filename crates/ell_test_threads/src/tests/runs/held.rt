@@ -91,11 +91,11 @@ fn a_stalled_neighbor_holds_up_nobody(rt: HostRuntime) {
 // Inserts of 4, 7 and 12 are to flag node 10. A delete of 5 is to flag node 20 and to mark node 10, and one of 20 to flag node 20
 // and to mark the node on its right.
 //
-//            20
-//          /    \
-//        10      .
-//       /  \    / \
-//      5   10  20  .
+// 20
+// /    \
+// 10      .
+// /  \    / \
+// 5   10  20  .
 const START: [(u64, u64); 3] = [(5, 50), (10, 100), (20, 200)];
 
 // Worker 0 is held with a delete of 5, and worker 1 makes an operation meanwhile.

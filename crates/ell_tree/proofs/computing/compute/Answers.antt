@@ -5,12 +5,12 @@ use Rattle.ell_core.specs.statements.Effects.{reply_of_change}
 use Rattle.ell_runs.proofs.lemmas.runs.Tries.{more_tries}
 use Rattle.ell_tree.specs.Called.{put_by, tries_in}
 use Rattle.ell_tree.specs.Computing.{IsUntouched, ReadsValue, round_steps_in}
-use Rattle.ell_tree.specs.Ends.{LaidDown, NoneIsLeft, find_steps}
+use Rattle.ell_tree.specs.Ends.{GivenUp, NoneIsLeft, find_steps}
 use Rattle.ell_tree.specs.Ledgers.{Owns, present_in}
 use Rattle.ell_tree.specs.Promises.{IsOthersDoing}
 use Rattle.ell_tree.specs.CardsTaken.{TakesByHindered}
 use Rattle.ell_core.proofs.lemmas.outcomes.Decide.{some_not_none}
-use Rattle.ell_tree.proofs.lemmas.Computing.{untouched_by, untouched_laid, untouched_self, untouched_trans, concludes, find_leaves, found_not_yes, reads_own, reads_after, reads_last, laid_last, may_still, put_on}
+use Rattle.ell_tree.proofs.lemmas.Computing.{untouched_by, untouched_given_up, untouched_self, untouched_trans, concludes, find_leaves, found_not_yes, reads_own, reads_after, reads_last, given_up_at_last, may_still, put_on}
 use Rattle.ell_tree.proofs.lemmas.Counts.{took_in, took_in_within, took_in_trans}
 use Rattle.ell_tree.proofs.lemmas.Milestones.{milestones_most}
 use Rattle.ell_tree.proofs.lemmas.Rounds.{rounds_within, one_round_more, spends_none, by_rounds, not_some}
@@ -95,9 +95,9 @@ loop-round-preserved g c = elim c.match-replace.branch [
       let i = l.invariant in
       let new = c.replace.new.pass in
       let op = put_by key c.in-Some.value l.was in
-      let laid : LaidDown t op l.pass new = search rules in
+      let given_up : GivenUp t op l.pass new = search rules in
       let others : IsOthersDoing t 1 l.pass new = c.replace.ensures.others (search rules) in
-      let kept = untouched_trans old l.pass new i.untouched (untouched_laid t op l.pass new laid) in
+      let kept = untouched_trans old l.pass new i.untouched (untouched_given_up t op l.pass new given_up) in
       let some : c.match-replace.made ≢ None = λ none. some_not_none w.made-is none in
       let spends = c.replace.ensures.cards in
       let counts = c.replace.ensures.counted in
@@ -109,14 +109,14 @@ loop-round-preserved g c = elim c.match-replace.branch [
         reads = λ none. absurd (some none);
         makes = rw (w.was-is, w.made-is, ← c.in-Some.is) i.makes;
         own = λ owns. i.own owns ∙ sym w.was-is;
-        last = λ more made. laid_last t key c.in-Some.value l.was l.pass new laid;
+        last = λ more made. given_up_at_last t key c.in-Some.value l.was l.pass new given_up;
         took = took_in_trans t.plan old l.pass new (find_steps (deepest t.plan) + l._round * round_steps_in t.plan) (round_steps_in t.plan) _ i.took c.replace.ensures.steps
             (one_round_more (find_steps (deepest t.plan)) (round_steps_in t.plan) l._round);
         counted = record { least = omega (arith, counts.least, i.counted.least); most = omega (arith, counts.most, i.counted.most) };
         hindered = λ owns. omega (arith, others.each, i.hindered owns);
         milestones = λ owns. omega (arith, others.milestones, i.milestones owns);
         tried = λ owns more. some;
-        made = let same = ap tries_in laid.sees.mine in omega (arith, same, others.each, i.made);
+        made = let same = ap tries_in given_up.sees.mine in omega (arith, same, others.each, i.made);
         cards = λ plain. let some = (spends plain).most in let all = i.cards plain in
             record { least = omega (arith, some.least, all.least); most = omega (arith, some.most, all.most) };
         few = λ plain. let one = each plain in let all = i.few plain in omega (arith, one, all);
@@ -186,9 +186,9 @@ returns-in-Err-Spent-clause-not_done g c =
     let l = c.loop-round in
     let new = c.replace.new.pass in
     let op = put_by key c.in-Some.value l.was in
-    let laid : LaidDown t op l.pass new × NoneIsLeft t.plan new = search rules in
+    let given_up : GivenUp t op l.pass new × NoneIsLeft t.plan new = search rules in
     record {
-      untouched = untouched_trans c.args.pass.now l.pass new l.invariant.untouched (untouched_laid t op l.pass new laid.0);
-      last = record { op = op; on = put_on key c.in-Some.value l.was; nothing = inl laid.0.nothing };
-      why = laid.1;
+      untouched = untouched_trans c.args.pass.now l.pass new l.invariant.untouched (untouched_given_up t op l.pass new given_up.0);
+      last = record { op = op; on = put_on key c.in-Some.value l.was; nothing = inl given_up.0.nothing };
+      why = given_up.1;
     }

@@ -24,7 +24,7 @@ use Rattle.ell_tree.proofs.lemmas.Meeting.{meets_trans, meets_more, above_way, p
 use Rattle.ell_tree.proofs.lemmas.Halting.{keeps_meets, said_meets, flag_lost}
 use Rattle.ell_tree.proofs.lemmas.Filling.{delete_card, delete_wants, told_grandparent, told_leaf, told_parent, told_was}
 use Rattle.ell_tree.proofs.lemmas.Milestones.{sees_end, gives_out}
-use Rattle.ell_tree.proofs.lemmas.Retiring.{keeps_but_met_noted}
+use Rattle.ell_tree.proofs.lemmas.Retiring.{keeps_but_met_retired}
 use Rattle.ell_tree.proofs.lemmas.Searches.{unknown_above, named_above, passed_above, searched_in_try}
 use Rattle.ell_tree.proofs.deleting.delete_at.Goals as goal
 
@@ -300,7 +300,7 @@ returns-clause-ends g c =
     let t = c.take_card.new.pass in
     let f = c.flag_delete.new.pass in
     let m = c.retire_deleted.new.pass in
-    let met : KeepsAllButMet f m (help_steps (deepest c.args.steps.table.now.plan) + 2) = keeps_but_met_noted f c.finish_own.new.pass m (help_steps (deepest c.args.steps.table.now.plan) + 2) c.finish_own.ensures.keeps_but_met c.retire_deleted.ensures.same in
+    let met : KeepsAllButMet f m (help_steps (deepest c.args.steps.table.now.plan) + 2) = keeps_but_met_retired f c.finish_own.new.pass m (help_steps (deepest c.args.steps.table.now.plan) + 2) c.finish_own.ensures.keeps_but_met c.retire_deleted.ensures.same in
     let said = c.answer in
     let op = Delete c.args.key in
     let taken = said_meets a.view t.view c.in-Card.ensures.claimed.hindrances c.take_card.ensures.asks.view.knows in
@@ -323,7 +323,7 @@ returns-clause-took g c =
     let t = c.take_card.new.pass in
     let f = c.flag_delete.new.pass in
     let m = c.retire_deleted.new.pass in
-    let met : KeepsAllButMet f m (help_steps (deepest c.args.steps.table.now.plan) + 2) = keeps_but_met_noted f c.finish_own.new.pass m (help_steps (deepest c.args.steps.table.now.plan) + 2) c.finish_own.ensures.keeps_but_met c.retire_deleted.ensures.same in
+    let met : KeepsAllButMet f m (help_steps (deepest c.args.steps.table.now.plan) + 2) = keeps_but_met_retired f c.finish_own.new.pass m (help_steps (deepest c.args.steps.table.now.plan) + 2) c.finish_own.ensures.keeps_but_met c.retire_deleted.ensures.same in
     let said = c.answer in
     let new = said.new.pass in
     let place = c.args.place in

@@ -15,8 +15,8 @@ delete_at-requires-clause-searched g c =
     searched c.args.steps.table.now.plan (Delete c.args.key) s.result c.args.pass.now s.new.pass _ s.ensures.keeps_but_search c.requires.root s.ensures.ends
 
 -- no card is in hand yet
-pub answer-requires-clause-noted : goal.answer-requires-clause-noted
-answer-requires-clause-noted g c =
+pub answer-requires-clause-retired : goal.answer-requires-clause-retired
+answer-requires-clause-retired g c =
     lets_none_go c.args.steps.table.now.plan c.search-place.new.pass (c.search-place.ensures.keeps_but_search.card ∙ c.requires.root.no_card)
 
 -- the key was not there

@@ -21,7 +21,7 @@ use Rattle.ell_tree.proofs.lemmas.Meeting.{meets_trans, meets_more, put_way, now
 use Rattle.ell_tree.proofs.lemmas.Halting.{keeps_meets, seek_meets, walk_meets, said_meets, flag_lost}
 use Rattle.ell_tree.proofs.lemmas.Hindrances.{root_in_try}
 use Rattle.ell_tree.proofs.lemmas.Putting.{put_wants, put_refused, put_done, refused_outer}
-use Rattle.ell_tree.proofs.lemmas.Retiring.{has_put, keeps_all_noted}
+use Rattle.ell_tree.proofs.lemmas.Retiring.{has_put, keeps_all_retired}
 use Rattle.ell_tree.proofs.lemmas.Milestones.{sees_end, gives_out}
 use Rattle.ell_runs.specs.Seeing.{SeesEnd}
 use Rattle.ell_tree.proofs.inserting.try_put.Goals as goal
@@ -44,8 +44,8 @@ answer-requires-clause-may g c =
     (refused.says ∙ ap Some (sym (c.found.ensures ∙ ap found c.told_of_put-found.ensures)))
 
 -- no card is in hand yet
-pub answer-requires-clause-noted : goal.answer-requires-clause-noted
-answer-requires-clause-noted g c =
+pub answer-requires-clause-retired : goal.answer-requires-clause-retired
+answer-requires-clause-retired g c =
     lets_none_go c.args.steps.table.now.plan c.search-place.new.pass (c.search-place.ensures.keeps_but_search.card ∙ c.requires.root.no_card)
 
 pub flag_insert-requires-clause-tag : goal.flag_insert-requires-clause-tag
@@ -222,7 +222,7 @@ returns-in-Ok-clause-ends g c =
     let t = c.take_card.new.pass in
     let f = c.flag_insert.new.pass in
     let m = c.retire_put.new.pass in
-    let kept : KeepsAll f m 3 = keeps_all_noted f c.finish_insert.new.pass m 3 c.finish_insert.ensures.keeps_all c.retire_put.ensures.same in
+    let kept : KeepsAll f m 3 = keeps_all_retired f c.finish_insert.new.pass m 3 c.finish_insert.ensures.keeps_all c.retire_put.ensures.same in
     let said = c.answer-in-Ok in
     let taken = meets_trans a.view s.new.pass.view t.view (seek_meets a s.new.pass _ s.ensures.keeps_but_search)
     (said_meets s.new.pass.view t.view c.in-Card.ensures.claimed.hindrances c.take_card.ensures.asks.view.knows) in

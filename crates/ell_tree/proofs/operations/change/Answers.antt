@@ -1,6 +1,6 @@
 use Rattle.std.proofs.Common.{◌≡◌, ◌+◌, ◌*◌, ◌∙◌, List, sym, subst, ap, length, arith, rules, eq-eqb, eqb-true}
 use Rattle.ell_runs.proofs.lemmas.runs.Tries.{more_tries}
-use Rattle.ell_cards.proofs.lemmas.shown.InRuns.{laid_down_last_changes_nothing}
+use Rattle.ell_cards.proofs.lemmas.shown.InRuns.{given_up_last_changes_nothing}
 use Rattle.ell_cards.proofs.lemmas.views.Steps.{own_trans}
 use Rattle.ell_runs.specs.declared.view.Act.{Act}
 use Rattle.ell_runs.specs.Seeing.{SeesBegin}
@@ -44,7 +44,7 @@ loop-round-preserved g c =
       share = share_trans c.args.pass.now.view c.restart.new.pass.view c.try_once.new.pass.view
           (share_trans c.args.pass.now.view l.pass.view c.restart.new.pass.view i.share begins.share) halts.share;
       stops = halts.stops;
-      noted = c.in-Hindered.ensures.ends.3;
+      retired = c.in-Hindered.ensures.ends.3;
       root = λ none. absurd (omega (arith, none));
       would = λ some. would_before op c.args.pass.now c.restart.new.pass (begins.ledger ∙ i.ledger) halts.would;
       meets = meets_trans c.args.pass.now.view c.restart.new.pass.view c.try_once.new.pass.view begun halts.meets;
@@ -73,7 +73,7 @@ loop-round-init g c =
       ledger = search rules;
       share = start.share;
       stops = search rules;
-      noted = lets_none_go c.args.steps.table.now.plan c.begin.new.pass start.root.no_card;
+      retired = lets_none_go c.args.steps.table.now.plan c.begin.new.pass start.root.no_card;
       root = λ none. start.root;
       would = λ some. absurd (omega (arith, some));
       meets = search rules;
@@ -124,18 +124,18 @@ returns-in-Spent-clause-steps g c =
     begins.took (λ none. c.restart.ensures.first (eq-eqb l.round 0 none)) c.try_once.ensures.steps c.try_once.ensures.made in
     let all = rounds_steps l.round c.args.tries most c.loop-round-test.true in
     let halts = c.in-Spent.ensures.ends.0 in
-    let lays = c.leave.ensures.lays op halts.stops.busy in
+    let gives_up = c.leave.ensures.gives_up op halts.stops.busy in
     let on = milestones_more cards l.pass.view tried.view
     (λ f h. halts.meets.knows f (begins.knows f h)) (omega (arith, begins.least, c.try_once.ensures.least)) in
-    let same = milestones_same cards tried.view left.view lays.facts lays.least in
+    let same = milestones_same cards tried.view left.view gives_up.facts gives_up.least in
     let one = one_hindered tried.view in
     record {
-      most = took_in_trans c.args.steps.table.now.plan start tried left ((l.round + 1) * most) 1 (c.args.tries * most + 1) few (took_in c.args.steps.table.now.plan tried left 1 lays.took) (omega (arith, all));
+      most = took_in_trans c.args.steps.table.now.plan start tried left ((l.round + 1) * most) 1 (c.args.tries * most + 1) few (took_in c.args.steps.table.now.plan tried left 1 gives_up.took) (omega (arith, all));
       amortized = amortized c.args.steps.table.now.plan l.round start left (omega (arith, on, same, i.milestones))
-          (took_in_trans c.args.steps.table.now.plan start tried left ((l.round + 1) * most) 1 ((l.round + 1) * most + 1) few (took_in c.args.steps.table.now.plan tried left 1 lays.took) (omega arith));
+          (took_in_trans c.args.steps.table.now.plan start tried left ((l.round + 1) * most) 1 ((l.round + 1) * most + 1) few (took_in c.args.steps.table.now.plan tried left 1 gives_up.took) (omega arith));
       counted = record {
-        least = omega (arith, one.0, lays.hindered, c.try_once.ensures.hindered, begins.hindered, i.hindered);
-        most = omega (arith, one.1, lays.hindered, c.try_once.ensures.hindered, begins.hindered, i.hindered, c.loop-round-test.true);
+        least = omega (arith, one.0, gives_up.hindered, c.try_once.ensures.hindered, begins.hindered, i.hindered);
+        most = omega (arith, one.1, gives_up.hindered, c.try_once.ensures.hindered, begins.hindered, i.hindered, c.loop-round-test.true);
       };
     }
 
@@ -150,13 +150,13 @@ returns-clause-steps g c =
     let few = i.rounds.later (omega (arith, c.requires.tries, c.loop-round-test.false, l.auto.round-end)) in
     let all : l.round ≡ c.args.tries = omega (arith, c.loop-round-test.false, l.auto.round-end) in
     let rounds = ap (λ n. n * most) all in
-    let lays = c.leave-2.ensures.lays c.args.op i.stops.busy in
-    let same = milestones_same cards l.pass.view left.view lays.facts lays.least in
+    let gives_up = c.leave-2.ensures.gives_up c.args.op i.stops.busy in
+    let same = milestones_same cards l.pass.view left.view gives_up.facts gives_up.least in
     record {
-      most = took_in_trans c.args.steps.table.now.plan start l.pass left (l.round * most) 1 (c.args.tries * most + 1) few (took_in c.args.steps.table.now.plan l.pass left 1 lays.took) (omega (arith, rounds));
+      most = took_in_trans c.args.steps.table.now.plan start l.pass left (l.round * most) 1 (c.args.tries * most + 1) few (took_in c.args.steps.table.now.plan l.pass left 1 gives_up.took) (omega (arith, rounds));
       amortized = amortized c.args.steps.table.now.plan l.round start left (omega (arith, same, i.milestones))
-          (took_in_trans c.args.steps.table.now.plan start l.pass left (l.round * most) 1 ((l.round + 1) * most + 1) few (took_in c.args.steps.table.now.plan l.pass left 1 lays.took) (omega arith));
-      counted = record { least = omega (arith, lays.hindered, i.hindered); most = omega (arith, lays.hindered, all, i.hindered) };
+          (took_in_trans c.args.steps.table.now.plan start l.pass left (l.round * most) 1 ((l.round + 1) * most + 1) few (took_in c.args.steps.table.now.plan l.pass left 1 gives_up.took) (omega arith));
+      counted = record { least = omega (arith, gives_up.hindered, i.hindered); most = omega (arith, gives_up.hindered, all, i.hindered) };
     }
 
 pub returns-clause-others : goal.returns-clause-others
@@ -164,10 +164,10 @@ returns-clause-others g c = λ not_done.
     let t = c.args.steps.table.now in
     let l = c.loop-round in
     let left = c.leave-2.new.pass.view in
-    let lays = c.leave-2.ensures.lays c.args.op l.invariant.stops.busy in
-    let same = milestones_same t.plan.last_card l.pass.view left lays.facts lays.least in
+    let gives_up = c.leave-2.ensures.gives_up c.args.op l.invariant.stops.busy in
+    let same = milestones_same t.plan.last_card l.pass.view left gives_up.facts gives_up.least in
     let all : l.round ≡ c.args.tries = omega (arith, c.loop-round-test.false, l.auto.round-end) in
-    let each : left.hindered ≡ c.args.pass.now.view.hindered + c.args.tries = omega (arith, lays.hindered, all, l.invariant.hindered) in
+    let each : left.hindered ≡ c.args.pass.now.view.hindered + c.args.tries = omega (arith, gives_up.hindered, all, l.invariant.hindered) in
     record {
       each = each;
       milestones = omega (arith, same, all, l.invariant.milestones);
@@ -203,25 +203,25 @@ returns-in-Spent-clause-ends g c =
     let begins = c.restart.ensures.begins op i.stops.busy (λ none. i.root (eqb-true l.round 0 none)) in
     let halts = c.in-Spent.ensures.ends.0 in
     let tried = c.try_once.new.pass.view in
-    let lays = c.leave.ensures.lays op halts.stops.busy in
+    let gives_up = c.leave.ensures.gives_up op halts.stops.busy in
     let begun = begun_meets (way_of op l.pass.view) a l.pass.view c.restart.new.pass.view i.meets i.way begins.hindrances begins.knows in
     let met = meets_trans a c.restart.new.pass.view tried begun halts.meets in
     let kept = share_trans a l.pass.view c.restart.new.pass.view i.share begins.share in
-    let sees = sees_none op c.args.pass.now.sight l.pass.sight c.leave.new.pass.sight i.sight (lays.sight ∙ (halts.sight ∙ c.restart.ensures.sight)) in (
+    let sees = sees_none op c.args.pass.now.sight l.pass.sight c.leave.new.pass.sight i.sight (gives_up.sight ∙ (halts.sight ∙ c.restart.ensures.sight)) in (
       record {
         own = search rules;
         ledger = search rules;
         answered = ap (λ (l : List Act). length l) sees.mine;
-        share = share_trans a tried c.leave.new.pass.view (share_trans a c.restart.new.pass.view tried kept halts.share) lays.share;
+        share = share_trans a tried c.leave.new.pass.view (share_trans a c.restart.new.pass.view tried kept halts.share) gives_up.share;
         would = would_before op c.args.pass.now c.restart.new.pass (begins.ledger ∙ i.ledger) halts.would;
-        nothing = laid_down_last_changes_nothing c.args.steps.table.now.plan c.leave.new.pass.view op lays.laid;
-        idle = lays.idle;
-        outside = lays.outside;
-        no_card = lays.no_card;
+        nothing = given_up_last_changes_nothing c.args.steps.table.now.plan c.leave.new.pass.view op gives_up.given_up;
+        idle = gives_up.idle;
+        unpinned = gives_up.unpinned;
+        no_card = gives_up.no_card;
         sees = sees;
       },
-      λ empty. lays.next ∙ c.in-Spent.ensures.ends.1 empty,
-      begun_meets (way_of op tried) a tried c.leave.new.pass.view met halts.way lays.hindrances lays.knows,
+      λ empty. gives_up.next ∙ c.in-Spent.ensures.ends.1 empty,
+      begun_meets (way_of op tried) a tried c.leave.new.pass.view met halts.way gives_up.hindrances gives_up.knows,
     )
 
 pub returns-clause-ends : goal.returns-clause-ends
@@ -230,24 +230,24 @@ returns-clause-ends g c =
     let l = c.loop-round in
     let i = l.invariant in
     let op = c.args.op in
-    let lays = c.leave-2.ensures.lays op i.stops.busy in
+    let gives_up = c.leave-2.ensures.gives_up op i.stops.busy in
     let all : l.round ≡ c.args.tries = omega (arith, c.loop-round-test.false, l.auto.round-end) in
-    let sees = sees_none op c.args.pass.now.sight l.pass.sight c.leave-2.new.pass.sight i.sight lays.sight in
-    let n = begun_count (way_of op l.pass.view) l.pass.view c.leave-2.new.pass.view lays.hindrances in (
+    let sees = sees_none op c.args.pass.now.sight l.pass.sight c.leave-2.new.pass.sight i.sight gives_up.sight in
+    let n = begun_count (way_of op l.pass.view) l.pass.view c.leave-2.new.pass.view gives_up.hindrances in (
       record {
         own = search rules;
         ledger = search rules;
         answered = ap (λ (l : List Act). length l) sees.mine;
-        share = share_trans a l.pass.view c.leave-2.new.pass.view i.share lays.share;
+        share = share_trans a l.pass.view c.leave-2.new.pass.view i.share gives_up.share;
         would = i.would (omega (arith, all, c.requires.tries));
-        nothing = laid_down_last_changes_nothing c.args.steps.table.now.plan c.leave-2.new.pass.view op lays.laid;
-        idle = lays.idle;
-        outside = lays.outside;
-        no_card = lays.no_card;
+        nothing = given_up_last_changes_nothing c.args.steps.table.now.plan c.leave-2.new.pass.view op gives_up.given_up;
+        idle = gives_up.idle;
+        unpinned = gives_up.unpinned;
+        no_card = gives_up.no_card;
         sees = sees;
       },
       omega (arith, all, n, i.hindrances),
-      begun_meets (way_of op l.pass.view) a l.pass.view c.leave-2.new.pass.view i.meets i.way lays.hindrances lays.knows,
+      begun_meets (way_of op l.pass.view) a l.pass.view c.leave-2.new.pass.view i.meets i.way gives_up.hindrances gives_up.knows,
     )
 
 -- the value that it took
@@ -289,16 +289,16 @@ returns-in-Spent-clause-cards g c = λ plain.
     let l = c.loop-round in
     let i = l.invariant in
     let begins = c.restart.ensures.begins c.args.op i.stops.busy (λ none. i.root (eqb-true l.round 0 none)) in
-    let lays = c.leave.ensures.lays c.args.op c.in-Spent.ensures.ends.0.stops.busy in
+    let gives_up = c.leave.ensures.gives_up c.args.op c.in-Spent.ensures.ends.0.stops.busy in
     let one = one_hindered c.try_once.new.pass.view in
     let few = i.taken plain in
     let none = c.in-Spent.ensures.taken plain in
     record {
       most = record {
-        least = omega (arith, lays.taken, none, begins.taken, few.least);
-        most = omega (arith, lays.taken, none, begins.taken, few.most, c.loop-round-test.true);
+        least = omega (arith, gives_up.taken, none, begins.taken, few.least);
+        most = omega (arith, gives_up.taken, none, begins.taken, few.most, c.loop-round-test.true);
       };
-      each = omega (arith, lays.taken, none, begins.taken, few.most, one.0, lays.hindered, c.try_once.ensures.hindered, begins.hindered, i.hindered);
+      each = omega (arith, gives_up.taken, none, begins.taken, few.most, one.0, gives_up.hindered, c.try_once.ensures.hindered, begins.hindered, i.hindered);
       unchanged = λ owns not_done. absurd cc;
     }
 
@@ -306,11 +306,11 @@ pub returns-clause-cards : goal.returns-clause-cards
 returns-clause-cards g c = λ plain.
     let l = c.loop-round in
     let i = l.invariant in
-    let lays = c.leave-2.ensures.lays c.args.op i.stops.busy in
+    let gives_up = c.leave-2.ensures.gives_up c.args.op i.stops.busy in
     let all : l.round ≡ c.args.tries = omega (arith, c.loop-round-test.false, l.auto.round-end) in
     let few = i.taken plain in
     record {
-      most = record { least = omega (arith, lays.taken, few.least); most = omega (arith, lays.taken, few.most, all) };
-      each = omega (arith, lays.taken, few.most, lays.hindered, i.hindered);
+      most = record { least = omega (arith, gives_up.taken, few.least); most = omega (arith, gives_up.taken, few.most, all) };
+      each = omega (arith, gives_up.taken, few.most, gives_up.hindered, i.hindered);
       unchanged = λ owns not_done. absurd cc;
     }

@@ -25,7 +25,7 @@ invariant-loop-round g l = record {
   ledger : l.pass.view.worker.ledger ≡ l.fn.pass.view.worker.ledger;
   share : SameShare l.fn.pass.view l.pass.view;
   stops : Stops l.op l.pass.view;
-  noted : LetsGo l.steps.table.now.plan l.pass;
+  retired : LetsGo l.steps.table.now.plan l.pass;
   root : l.round ≡ 0 → AtRoot l.op l.pass.view;
   would : 1 ≤ l.round → Owns l.fn.pass (key_of l.op) → reply_of l.op (present_in l.fn.pass) ≡ reply_of_change l.op;
   meets : Meets l.fn.pass.view l.pass.view;

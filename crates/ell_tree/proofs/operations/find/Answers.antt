@@ -9,8 +9,8 @@ use Rattle.ell_tree.proofs.lemmas.Milestones.{milestones_more, milestones_same}
 use Rattle.ell_tree.proofs.operations.find.Goals as goal
 
 -- a find has no card in hand
-pub answer-requires-clause-noted : goal.answer-requires-clause-noted
-answer-requires-clause-noted g c =
+pub answer-requires-clause-retired : goal.answer-requires-clause-retired
+answer-requires-clause-retired g c =
     lets_none_go c.args.steps.table.now.plan c.search-place.new.pass (c.search-place.ensures.keeps_but_search.card ∙ c.begin.ensures.begins.root.no_card)
 
 pub returns-clause-answers : goal.returns-clause-answers

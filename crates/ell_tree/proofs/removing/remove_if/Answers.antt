@@ -5,11 +5,11 @@ use Rattle.ell_ops.specs.Meaning.{found}
 use Rattle.ell_runs.proofs.lemmas.runs.Tries.{more_tries}
 use Rattle.ell_tree.specs.Called.{SeesTake}
 use Rattle.ell_tree.specs.Computing.{Concludes, IsUntouched, round_steps_in}
-use Rattle.ell_tree.specs.Ends.{Answers, LaidDown, NoneIsLeft, TakesValue, find_steps}
+use Rattle.ell_tree.specs.Ends.{Answers, GivenUp, NoneIsLeft, TakesValue, find_steps}
 use Rattle.ell_tree.specs.Ledgers.{Owns, present_in}
 use Rattle.ell_tree.specs.Promises.{IsOthersDoing}
 use Rattle.ell_tree.specs.CardsTaken.{TakesByHindered}
-use Rattle.ell_tree.proofs.lemmas.Computing.{untouched_by, untouched_laid, untouched_self, untouched_trans, concludes, concludes_after, find_leaves, found_last, found_not_yes, found_own, may_still}
+use Rattle.ell_tree.proofs.lemmas.Computing.{untouched_by, untouched_given_up, untouched_self, untouched_trans, concludes, concludes_after, find_leaves, found_last, found_not_yes, found_own, may_still}
 use Rattle.ell_tree.proofs.lemmas.Counts.{took_in, took_in_within, took_in_trans}
 use Rattle.ell_tree.proofs.lemmas.Milestones.{milestones_most}
 use Rattle.ell_tree.proofs.lemmas.Removing.{is_that, removes}
@@ -93,9 +93,9 @@ loop-round-preserved g c = elim c.match-remove_or_read.branch [
       let new = c.remove_or_read.new.pass in
       let that : l.there ≡ Some c.args.was = is_that c.args.was l.there (search rules) in
       let still : c.match-remove_or_read.there ≡ Some c.args.was = w.there-is ∙ that in
-      let laid : LaidDown t (Delete key) l.pass new = search rules in
+      let given_up : GivenUp t (Delete key) l.pass new = search rules in
       let others : IsOthersDoing t 1 l.pass new = c.remove_or_read.ensures.others (search rules) in
-      let kept = untouched_trans old l.pass new i.untouched (untouched_laid t (Delete key) l.pass new laid) in
+      let kept = untouched_trans old l.pass new i.untouched (untouched_given_up t (Delete key) l.pass new given_up) in
       let spends = c.remove_or_read.ensures.cards in
       let counts = c.remove_or_read.ensures.counted in
       let each : t.plan.slots ≡ None → TakesByHindered l.pass new = λ plain. (let one = (spends plain).each in search (rules, one)) in
@@ -105,14 +105,14 @@ loop-round-preserved g c = elim c.match-remove_or_read.branch [
         untouched = kept;
         reads = λ other. absurd (other still);
         own = λ owns. i.own owns ∙ sym w.there-is;
-        last = λ more is. record { op = Delete key; on = refl; nothing = inl laid.nothing };
+        last = λ more is. record { op = Delete key; on = refl; nothing = inl given_up.nothing };
         took = took_in_trans t.plan old l.pass new (find_steps (deepest t.plan) + l._round * round_steps_in t.plan) (round_steps_in t.plan) _ i.took c.remove_or_read.ensures.steps
             (one_round_more (find_steps (deepest t.plan)) (round_steps_in t.plan) l._round);
         counted = record { least = omega (arith, counts.least, i.counted.least); most = omega (arith, counts.most, i.counted.most) };
         hindered = λ owns. omega (arith, others.each, i.hindered owns);
         milestones = λ owns. omega (arith, others.milestones, i.milestones owns);
         tried = λ owns more. still;
-        made = omega (arith, laid.answered, others.each, i.made);
+        made = omega (arith, given_up.answered, others.each, i.made);
         cards = λ plain. let some = (spends plain).most in let all = i.cards plain in
             record { least = omega (arith, some.least, all.least); most = omega (arith, some.most, all.most) };
         few = λ plain. let one = each plain in let all = i.few plain in omega (arith, one, all);
@@ -138,11 +138,11 @@ returns-in-Err-Spent-clause-not_done g c =
     let op = Delete c.args.key in
     let l = c.loop-round in
     let new = c.remove_or_read.new.pass in
-    let laid : LaidDown t op l.pass new × NoneIsLeft t.plan new = search rules in
+    let given_up : GivenUp t op l.pass new × NoneIsLeft t.plan new = search rules in
     record {
-      untouched = untouched_trans c.args.pass.now l.pass new l.invariant.untouched (untouched_laid t op l.pass new laid.0);
-      last = record { op = op; on = refl; nothing = inl laid.0.nothing };
-      why = laid.1;
+      untouched = untouched_trans c.args.pass.now l.pass new l.invariant.untouched (untouched_given_up t op l.pass new given_up.0);
+      last = record { op = op; on = refl; nothing = inl given_up.0.nothing };
+      why = given_up.1;
     }
 
 -- all tries were hindered

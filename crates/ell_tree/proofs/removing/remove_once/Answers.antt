@@ -13,7 +13,7 @@ use Rattle.ell_tree.proofs.lemmas.Keeping.{share_trans}
 use Rattle.ell_tree.proofs.lemmas.LettingGo.{lets_none_go}
 use Rattle.ell_tree.proofs.lemmas.Milestones.{milestones_one, milestones_same}
 use Rattle.ell_tree.proofs.lemmas.Owning.{answers_begun, keeps_answers, takes_before}
-use Rattle.ell_tree.proofs.lemmas.Removing.{at_that, halts_laid, not_at}
+use Rattle.ell_tree.proofs.lemmas.Removing.{at_that, halts_given_up, not_at}
 use Rattle.ell_tree.proofs.lemmas.Trying.{searched, ends_after}
 use Rattle.ell_runs.specs.Seeing.{SeesEnd}
 use Rattle.ell_tree.proofs.lemmas.Sights.{sees_call, sees_none}
@@ -25,17 +25,17 @@ delete_at-requires-clause-searched g c =
     searched c.args.steps.table.now.plan (Delete c.args.key) s.result c.begin.new.pass s.new.pass _ s.ensures.keeps_but_search c.begin.ensures.begins.root s.ensures.ends
 
 -- no card is in hand, or the pass may let it go
-pub leave-requires-clause-noted : goal.leave-requires-clause-noted
-leave-requires-clause-noted g c =
+pub leave-requires-clause-retired : goal.leave-requires-clause-retired
+leave-requires-clause-retired g c =
     lets_none_go c.args.steps.table.now.plan c.search-place.new.pass (c.search-place.ensures.keeps_but_search.card ∙ c.begin.ensures.begins.root.no_card)
 
-pub leave-requires-in-Spent-clause-noted : goal.leave-requires-in-Spent-clause-noted
-leave-requires-in-Spent-clause-noted g c = c.in-Spent.ensures.ends.2
+pub leave-requires-in-Spent-clause-retired : goal.leave-requires-in-Spent-clause-retired
+leave-requires-in-Spent-clause-retired g c = c.in-Spent.ensures.ends.2
 
-pub leave-requires-in-Hindered-clause-noted : goal.leave-requires-in-Hindered-clause-noted
-leave-requires-in-Hindered-clause-noted g c = c.in-Hindered.ensures.ends.3
+pub leave-requires-in-Hindered-clause-retired : goal.leave-requires-in-Hindered-clause-retired
+leave-requires-in-Hindered-clause-retired g c = c.in-Hindered.ensures.ends.3
 
--- another value was there, or none: the delete was laid down
+-- another value was there, or none: the delete was given up
 pub returns-then-not-is_value-clause-removes : goal.returns-then-not-is_value-clause-removes
 returns-then-not-is_value-clause-removes g c =
     let a = c.args.pass.now in
@@ -43,44 +43,44 @@ returns-then-not-is_value-clause-removes g c =
     let s = c.search-place in
     let keeps = s.ensures.keeps_but_search.keeps in
     let new = c.leave.new.pass in
-    let lays = c.leave.ensures.lays (Delete c.args.key) (keeps.view.operation ∙ begins.root.busy) in
+    let gives_up = c.leave.ensures.gives_up (Delete c.args.key) (keeps.view.operation ∙ begins.root.busy) in
     let other : is_value c.args.was (there_at s.result c.args.key) ≡ false = search rules in (
-      untouched_still a new (own_trans a s.new.pass new (own_trans a c.begin.new.pass s.new.pass begins.own keeps.own) lays.own)
-          (lays.ledger ∙ (keeps.view.ledger ∙ begins.ledger))
-          (share_trans a.view s.new.pass.view new.view (share_trans a.view c.begin.new.pass.view s.new.pass.view begins.share keeps.view.share) lays.share) lays.idle lays.outside
-          (sees_none (Delete c.args.key) a.sight c.begin.new.pass.sight new.sight c.begin.ensures.sees (lays.sight ∙ keeps.sight)),
+      untouched_still a new (own_trans a s.new.pass new (own_trans a c.begin.new.pass s.new.pass begins.own keeps.own) gives_up.own)
+          (gives_up.ledger ∙ (keeps.view.ledger ∙ begins.ledger))
+          (share_trans a.view s.new.pass.view new.view (share_trans a.view c.begin.new.pass.view s.new.pass.view begins.share keeps.view.share) gives_up.share) gives_up.idle gives_up.unpinned
+          (sees_none (Delete c.args.key) a.sight c.begin.new.pass.sight new.sight c.begin.ensures.sees (gives_up.sight ∙ keeps.sight)),
       not_at c.args.steps.table.now.plan a s.new.pass s.result c.args.key c.args.was (keeps.view.ledger ∙ begins.ledger) s.ensures.ends other,
     )
 
 pub returns-then-not-is_value-clause-steps : goal.returns-then-not-is_value-clause-steps
 returns-then-not-is_value-clause-steps g c =
     let keeps = c.search-place.ensures.keeps_but_search.keeps in
-    let lays = c.leave.ensures.lays (Delete c.args.key) (keeps.view.operation ∙ c.begin.ensures.begins.root.busy) in
+    let gives_up = c.leave.ensures.gives_up (Delete c.args.key) (keeps.view.operation ∙ c.begin.ensures.begins.root.busy) in
     let start = c.begin.ensures.begins.took in
     record {
-      steps = omega (arith, start.steps, keeps.took.steps, lays.took.steps);
-      made = λ plain. omega (arith, start.made, keeps.took.made, lays.took.made);
+      steps = omega (arith, start.steps, keeps.took.steps, gives_up.took.steps);
+      made = λ plain. omega (arith, start.made, keeps.took.made, gives_up.took.made);
     }
 
 pub returns-then-not-is_value-clause-counted : goal.returns-then-not-is_value-clause-counted
 returns-then-not-is_value-clause-counted g c =
     let keeps = c.search-place.ensures.keeps_but_search.keeps in
-    let lays = c.leave.ensures.lays (Delete c.args.key) (keeps.view.operation ∙ c.begin.ensures.begins.root.busy) in
+    let gives_up = c.leave.ensures.gives_up (Delete c.args.key) (keeps.view.operation ∙ c.begin.ensures.begins.root.busy) in
     let one = one_hindered c.search-place.new.pass.view in
     record {
-      least = omega (arith, one.0, lays.hindered, keeps.view.hindered, c.begin.ensures.begins.hindered);
-      most = omega (arith, one.1, lays.hindered, keeps.view.hindered, c.begin.ensures.begins.hindered);
+      least = omega (arith, one.0, gives_up.hindered, keeps.view.hindered, c.begin.ensures.begins.hindered);
+      most = omega (arith, one.1, gives_up.hindered, keeps.view.hindered, c.begin.ensures.begins.hindered);
     }
 
 pub returns-then-not-is_value-clause-cards : goal.returns-then-not-is_value-clause-cards
 returns-then-not-is_value-clause-cards g c = λ plain.
     let kept = c.search-place.ensures.keeps_but_search in
-    let lays = c.leave.ensures.lays (Delete c.args.key) (kept.keeps.view.operation ∙ c.begin.ensures.begins.root.busy) in
+    let gives_up = c.leave.ensures.gives_up (Delete c.args.key) (kept.keeps.view.operation ∙ c.begin.ensures.begins.root.busy) in
     let one = one_hindered c.search-place.new.pass.view in
-    let none = lays.taken ∙ (kept.taken ∙ c.begin.ensures.begins.taken) in
+    let none = gives_up.taken ∙ (kept.taken ∙ c.begin.ensures.begins.taken) in
     record {
       most = record { least = omega (arith, none); most = omega (arith, none) };
-      each = omega (arith, none, one.0, lays.hindered, kept.keeps.view.hindered, c.begin.ensures.begins.hindered);
+      each = omega (arith, none, one.0, gives_up.hindered, kept.keeps.view.hindered, c.begin.ensures.begins.hindered);
       unchanged = λ owns same. none;
     }
 
@@ -115,8 +115,8 @@ returns-in-Spent-clause-removes g c =
     let s = c.search-place in
     let d = c.delete_at.new.pass in
     let ended = ends_after b s.new.pass d _ s.ensures.keeps_but_search t op Spent c.in-Spent.ensures.ends in
-    let lays = c.leave-in-Spent.ensures.lays op ended.0.stops.busy in
-    (halts_laid t op c.args.pass.now b d c.leave-in-Spent.new.pass _ c.begin.ensures.begins c.begin.ensures.sees ended.0 lays, λ empty. lays.next ∙ ended.1 empty)
+    let gives_up = c.leave-in-Spent.ensures.gives_up op ended.0.stops.busy in
+    (halts_given_up t op c.args.pass.now b d c.leave-in-Spent.new.pass _ c.begin.ensures.begins c.begin.ensures.sees ended.0 gives_up, λ empty. gives_up.next ∙ ended.1 empty)
 
 pub returns-in-Hindered-clause-removes : goal.returns-in-Hindered-clause-removes
 returns-in-Hindered-clause-removes g c =
@@ -126,8 +126,8 @@ returns-in-Hindered-clause-removes g c =
     let s = c.search-place in
     let d = c.delete_at.new.pass in
     let ended = ends_after b s.new.pass d _ s.ensures.keeps_but_search t op Hindered c.in-Hindered.ensures.ends in
-    let lays = c.leave-in-Hindered.ensures.lays op ended.0.stops.busy in
-    (halts_laid t op c.args.pass.now b d c.leave-in-Hindered.new.pass _ c.begin.ensures.begins c.begin.ensures.sees ended.0 lays, tt)
+    let gives_up = c.leave-in-Hindered.ensures.gives_up op ended.0.stops.busy in
+    (halts_given_up t op c.args.pass.now b d c.leave-in-Hindered.new.pass _ c.begin.ensures.begins c.begin.ensures.sees ended.0 gives_up, tt)
 
 -- and that is others' doing
 pub returns-in-Hindered-clause-others : goal.returns-in-Hindered-clause-others
@@ -141,12 +141,12 @@ returns-in-Hindered-clause-others g c = λ not_done.
     let d = c.delete_at.new.pass in
     let new = c.leave-in-Hindered.new.pass in
     let ended = ends_after b s.new.pass d _ s.ensures.keeps_but_search t op Hindered c.in-Hindered.ensures.ends in
-    let lays = c.leave-in-Hindered.ensures.lays op ended.0.stops.busy in
+    let gives_up = c.leave-in-Hindered.ensures.gives_up op ended.0.stops.busy in
     let counts = halts_hindered op b d ended.0 ended.1 in
     let each : new.view.hindered ≡ a.view.hindered + 1 =
-    omega (arith, lays.hindered, counts, c.delete_at.ensures.hindered, s.ensures.keeps_but_search.keeps.view.hindered, begins.hindered) in
+    omega (arith, gives_up.hindered, counts, c.delete_at.ensures.hindered, s.ensures.keeps_but_search.keeps.view.hindered, begins.hindered) in
     let one = milestones_one t.plan.last_card a.view b.view d.view begins.before begins.least (λ f h. ended.0.meets.knows f (begins.knows f h)) ended.2 in
-    let same = milestones_same t.plan.last_card d.view new.view lays.facts lays.least in
+    let same = milestones_same t.plan.last_card d.view new.view gives_up.facts gives_up.least in
     record {
       each = each;
       milestones = omega (arith, one, same);
@@ -156,52 +156,52 @@ returns-in-Hindered-clause-others g c = λ not_done.
 pub returns-in-Spent-clause-steps : goal.returns-in-Spent-clause-steps
 returns-in-Spent-clause-steps g c =
     let keeps = c.search-place.ensures.keeps_but_search.keeps in
-    let lays = c.leave-in-Spent.ensures.lays (Delete c.args.key) c.in-Spent.ensures.ends.0.stops.busy in
+    let gives_up = c.leave-in-Spent.ensures.gives_up (Delete c.args.key) c.in-Spent.ensures.ends.0.stops.busy in
     let start = c.begin.ensures.begins.took in
     record {
-      steps = omega (arith, start.steps, keeps.took.steps, c.delete_at.ensures.steps, lays.took.steps);
-      made = λ plain. let rest = c.delete_at.ensures.made plain in omega (arith, start.made, keeps.took.made, rest, lays.took.made);
+      steps = omega (arith, start.steps, keeps.took.steps, c.delete_at.ensures.steps, gives_up.took.steps);
+      made = λ plain. let rest = c.delete_at.ensures.made plain in omega (arith, start.made, keeps.took.made, rest, gives_up.took.made);
     }
 
 pub returns-in-Hindered-clause-steps : goal.returns-in-Hindered-clause-steps
 returns-in-Hindered-clause-steps g c =
     let keeps = c.search-place.ensures.keeps_but_search.keeps in
-    let lays = c.leave-in-Hindered.ensures.lays (Delete c.args.key) c.in-Hindered.ensures.ends.0.stops.busy in
+    let gives_up = c.leave-in-Hindered.ensures.gives_up (Delete c.args.key) c.in-Hindered.ensures.ends.0.stops.busy in
     let start = c.begin.ensures.begins.took in
     record {
-      steps = omega (arith, start.steps, keeps.took.steps, c.delete_at.ensures.steps, lays.took.steps);
-      made = λ plain. let rest = c.delete_at.ensures.made plain in omega (arith, start.made, keeps.took.made, rest, lays.took.made);
+      steps = omega (arith, start.steps, keeps.took.steps, c.delete_at.ensures.steps, gives_up.took.steps);
+      made = λ plain. let rest = c.delete_at.ensures.made plain in omega (arith, start.made, keeps.took.made, rest, gives_up.took.made);
     }
 
 pub returns-in-Spent-clause-counted : goal.returns-in-Spent-clause-counted
 returns-in-Spent-clause-counted g c =
     let keeps = c.search-place.ensures.keeps_but_search.keeps in
-    let lays = c.leave-in-Spent.ensures.lays (Delete c.args.key) c.in-Spent.ensures.ends.0.stops.busy in
+    let gives_up = c.leave-in-Spent.ensures.gives_up (Delete c.args.key) c.in-Spent.ensures.ends.0.stops.busy in
     let one = one_hindered c.delete_at.new.pass.view in
     record {
-      least = omega (arith, one.0, lays.hindered, c.delete_at.ensures.hindered, keeps.view.hindered, c.begin.ensures.begins.hindered);
-      most = omega (arith, one.1, lays.hindered, c.delete_at.ensures.hindered, keeps.view.hindered, c.begin.ensures.begins.hindered);
+      least = omega (arith, one.0, gives_up.hindered, c.delete_at.ensures.hindered, keeps.view.hindered, c.begin.ensures.begins.hindered);
+      most = omega (arith, one.1, gives_up.hindered, c.delete_at.ensures.hindered, keeps.view.hindered, c.begin.ensures.begins.hindered);
     }
 
 pub returns-in-Hindered-clause-counted : goal.returns-in-Hindered-clause-counted
 returns-in-Hindered-clause-counted g c =
     let keeps = c.search-place.ensures.keeps_but_search.keeps in
-    let lays = c.leave-in-Hindered.ensures.lays (Delete c.args.key) c.in-Hindered.ensures.ends.0.stops.busy in
+    let gives_up = c.leave-in-Hindered.ensures.gives_up (Delete c.args.key) c.in-Hindered.ensures.ends.0.stops.busy in
     let one = one_hindered c.delete_at.new.pass.view in
     record {
-      least = omega (arith, one.0, lays.hindered, c.delete_at.ensures.hindered, keeps.view.hindered, c.begin.ensures.begins.hindered);
-      most = omega (arith, one.1, lays.hindered, c.delete_at.ensures.hindered, keeps.view.hindered, c.begin.ensures.begins.hindered);
+      least = omega (arith, one.0, gives_up.hindered, c.delete_at.ensures.hindered, keeps.view.hindered, c.begin.ensures.begins.hindered);
+      most = omega (arith, one.1, gives_up.hindered, c.delete_at.ensures.hindered, keeps.view.hindered, c.begin.ensures.begins.hindered);
     }
 
 pub returns-in-Spent-clause-cards : goal.returns-in-Spent-clause-cards
 returns-in-Spent-clause-cards g c = λ plain.
     let kept = c.search-place.ensures.keeps_but_search in
-    let lays = c.leave-in-Spent.ensures.lays (Delete c.args.key) c.in-Spent.ensures.ends.0.stops.busy in
+    let gives_up = c.leave-in-Spent.ensures.gives_up (Delete c.args.key) c.in-Spent.ensures.ends.0.stops.busy in
     let one = one_hindered c.delete_at.new.pass.view in
-    let none = lays.taken ∙ (c.in-Spent.ensures.taken plain ∙ (kept.taken ∙ c.begin.ensures.begins.taken)) in
+    let none = gives_up.taken ∙ (c.in-Spent.ensures.taken plain ∙ (kept.taken ∙ c.begin.ensures.begins.taken)) in
     record {
       most = record { least = omega (arith, none); most = omega (arith, none) };
-      each = omega (arith, none, one.0, lays.hindered, c.delete_at.ensures.hindered, kept.keeps.view.hindered, c.begin.ensures.begins.hindered);
+      each = omega (arith, none, one.0, gives_up.hindered, c.delete_at.ensures.hindered, kept.keeps.view.hindered, c.begin.ensures.begins.hindered);
       unchanged = λ owns same. none;
     }
 
@@ -213,12 +213,12 @@ returns-in-Hindered-clause-cards g c = λ plain.
     let d = c.delete_at.new.pass in
     let kept = s.ensures.keeps_but_search in
     let ended = ends_after b s.new.pass d _ kept c.args.steps.table.now op Hindered c.in-Hindered.ensures.ends in
-    let lays = c.leave-in-Hindered.ensures.lays op ended.0.stops.busy in
+    let gives_up = c.leave-in-Hindered.ensures.gives_up op ended.0.stops.busy in
     let counts = halts_hindered op b d ended.0 ended.1 in
     let few = c.in-Hindered.ensures.taken plain in
     let none = kept.taken ∙ c.begin.ensures.begins.taken in
     record {
-      most = record { least = omega (arith, lays.taken, few.least, none); most = omega (arith, lays.taken, few.most, none) };
-      each = omega (arith, lays.taken, few.most, none, lays.hindered, counts, c.delete_at.ensures.hindered, kept.keeps.view.hindered, c.begin.ensures.begins.hindered);
+      most = record { least = omega (arith, gives_up.taken, few.least, none); most = omega (arith, gives_up.taken, few.most, none) };
+      each = omega (arith, gives_up.taken, few.most, none, gives_up.hindered, counts, c.delete_at.ensures.hindered, kept.keeps.view.hindered, c.begin.ensures.begins.hindered);
       unchanged = λ owns same. absurd cc;
     }

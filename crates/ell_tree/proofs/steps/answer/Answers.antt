@@ -40,6 +40,6 @@ returns-clause-answers g c op busy =
       owned = λ key. (λ has none. has ((a.owned key).1 none), λ has none. has ((a.owned key).0 none));
       answered = let more = ap (λ (l : List Act). length l) ends.mine in omega arith;
       idle = search rules;
-      outside = search rules;
+      unpinned = search rules;
       sees = of_taken old.view op c.args.said c.args.took (λ took. SeesEnd op c.args.said took old.sight new.sight) takes ends;
     }

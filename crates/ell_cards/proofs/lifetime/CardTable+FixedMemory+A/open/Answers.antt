@@ -9,12 +9,12 @@ use Rattle.ell_cards.specs.declared.view.Known.{Known}
 use Rattle.ell_runs.specs.Plans.{TablePlan, flat_from}
 use Rattle.ell_runs.specs.Views.{whole_share}
 use Rattle.ell_runs.specs.Changes.{first_of}
-use Rattle.ell_cards.specs.Inside.{PassFits, PlaceFits}
-use Rattle.ell_cards.specs.Periods.{first_period, period_by, whole_size}
+use Rattle.ell_cards.specs.Inside.{PassFits, StandingFits}
+use Rattle.ell_cards.specs.Epochs.{first_participant, participant_by, whole_size}
 use Rattle.ell_cards.specs.Shown.{shown}
 use Rattle.ell_runs.specs.Starts.{SlotsFit}
 use Rattle.ell_cards.proofs.lemmas.lifetimes.Fits.{first_fits}
-use Rattle.ell_cards.proofs.lemmas.whole.Places.{first_place_fits, size_some}
+use Rattle.ell_cards.proofs.lemmas.whole.Standings.{first_standing_fits, size_some}
 use Rattle.ell_cards.proofs.lifetime.CardTable+FixedMemory+A.open.Goals as goal
 
 pub invariant_of-pass : goal.invariant_of-pass
@@ -26,13 +26,13 @@ invariant_of-pass g c =
     let knows = table.knows in
     let size = ap (λ i. i.words) table.own ∙ table.words in
     let enough = size_some c.args.plan in
-    let stands = c.first.ensures ∙ ap (λ (p : TablePlan). record { place = (period_by p.slots).place; announces = false; found = 0; safe = 0; numbers = 0 }) c.plan.view_is in record {
+    let stands = c.first.ensures ∙ ap (λ (p : TablePlan). record { announcement = (participant_by p.slots).announcement; announces = false; found = 0; safe_epoch = 0; numbers = 0 }) c.plan.view_is in record {
       fits = subst (λ (m : Me (Unit {0}) Known). PassFits keys share words (shown m.0.tree)) (sym knows)
           (subst (λ (p : TablePlan). PassFits p.keys (record { units = whole_share; counts = p.shared }) words (first_of c.args.plan)) (sym c.plan.view_is)
           (first_fits c.args.plan words (omega arith) c.requires.may.ascending));
       bare = ap (λ (m : Me (Unit {0}) Known). m.1) knows;
-      stands = subst (λ (m : Me (Unit {0}) Known). PlaceFits c.first.result words m.0.period) (sym knows)
-          (subst (λ (s : Standing). PlaceFits s words (first_period c.args.plan)) (sym stands) (first_place_fits c.args.plan.slots c.args.plan.last_card words size));
+      stands = subst (λ (m : Me (Unit {0}) Known). StandingFits c.first.result words m.0.participant) (sym knows)
+          (subst (λ (s : Standing). StandingFits s words (first_participant c.args.plan)) (sym stands) (first_standing_fits c.args.plan.slots c.args.plan.last_card words size));
     }
 
 pub invariant_of-table : goal.invariant_of-table

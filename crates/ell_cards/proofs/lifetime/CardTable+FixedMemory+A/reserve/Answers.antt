@@ -33,13 +33,13 @@ numbers_fit Shared room start few most = (few, omega arith)
 numbers_fit Flat room start few most = (few, omega arith)
 numbers_fit (Reusing passes) room start few most = (omega arith, omega arith)
 
--- and its slots and places fit a plan that has them
-places_fit : (kind : TreeKind) (plan : TablePlan) (room : ℕ) → plan.last_card ≡ last_number kind room → plan.flat ≡ is_flat kind
+-- and its slots and announcements fit a plan that has them
+announcements_fit : (kind : TreeKind) (plan : TablePlan) (room : ℕ) → plan.last_card ≡ last_number kind room → plan.flat ≡ is_flat kind
     → HasRoomForPasses kind → length plan.start ≤ room → room ≤ greatest_card → SlotsFit plan (slots_of kind room)
-places_fit Owned plan room number flat passes few most = omega (arith, number)
-places_fit Shared plan room number flat passes few most = omega (arith, number)
-places_fit Flat plan room number flat passes few most = omega (arith, number)
-places_fit (Reusing n) plan room number flat passes enough most = record {
+announcements_fit Owned plan room number flat passes few most = omega (arith, number)
+announcements_fit Shared plan room number flat passes few most = omega (arith, number)
+announcements_fit Flat plan room number flat passes few most = omega (arith, number)
+announcements_fit (Reusing n) plan room number flat passes enough most = record {
   some = passes.0;
   few = passes.1;
   numbers = number;
@@ -65,7 +65,7 @@ may_start kind plan keys start room copied started number shares flat slots asce
       few = subst (λ pairs. length pairs < greatest_card) (sym started) least;
       limit = subst (λ n. n ≤ greatest_number) (sym number) fit.1;
       slots = subst (SlotsFit plan) (sym slots)
-          (places_fit kind plan room number flat passes (subst (λ pairs. length pairs ≤ room) (sym started) few) most);
+          (announcements_fit kind plan room number flat passes (subst (λ pairs. length pairs ≤ room) (sym started) few) most);
     }
 
 pub open-requires-clause-may : goal.open-requires-clause-may

@@ -11,7 +11,7 @@ exchange_claim-requires-clause-rule g c =
     let p = c.args.pass.now in
     let plan = c.args.self.table.now.plan in
     subst (λ last. MayStepOn plan p 0 (λ n. either (n == c.args.first) (c.args.last + 1) n) (RowTells plan c.args.first last (new_node c.args.self.table.now.plan c.args.node_key) p)) (sym (one_back c.args.last))
-    (row_goes_any plan c.places_are_in_flat_trees.ensures p c.args.first c.args.last (new_node c.args.self.table.now.plan c.args.node_key) c.requires.row (omega (arith, c.requires.row.order, c.requires.row.room, c.names.ensures.room)) c.requires.may c.requires.kept)
+    (row_goes_any plan c.reusing_trees_are_flat.ensures p c.args.first c.args.last (new_node c.args.self.table.now.plan c.args.node_key) c.requires.row (omega (arith, c.requires.row.order, c.requires.row.room, c.names.ensures.room)) c.requires.may c.requires.kept)
 
 pub exchange_claim-requires-clause-keeps : goal.exchange_claim-requires-clause-keeps
 exchange_claim-requires-clause-keeps g c = row_keeps_pass c.args.self.table.now.plan c.args.pass.now c.args.first (c.args.last + 1 - 1) (new_node c.args.self.table.now.plan c.args.node_key)

@@ -1,5 +1,5 @@
 use Rattle.std.specs.Prelude.{◌==◌}
-use Rattle.ell_cards.specs.Periods.{after_flagging}
+use Rattle.ell_cards.specs.Epochs.{after_flagging}
 use Rattle.ell_cards.specs.Stepping.{IsTaken}
 use Rattle.ell_cards.proofs.steps.TableSteps.flag.Given as goal
 

@@ -1,6 +1,6 @@
 use Rattle.std.specs.Prelude.{◌≡◌}
-use Rattle.ell_cards.specs.Periods.{after_give}
+use Rattle.ell_cards.specs.Epochs.{after_give}
 use Rattle.ell_cards.proofs.table.CardTable.give_back.Given as goal
 
-abbrev pub ghosts-period_store : goal.ghosts-period_store
-ghosts-period_store g a = record { then = λ n p. p ≡ after_give a.seat.now.me.0.period }
+abbrev pub ghosts-epoch_store : goal.ghosts-epoch_store
+ghosts-epoch_store g a = record { then = λ n p. p ≡ after_give a.seat.now.me.0.participant }

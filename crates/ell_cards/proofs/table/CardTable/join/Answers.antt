@@ -6,11 +6,11 @@ use Rattle.ell_runs.specs.Views.{IsFree}
 use Rattle.ell_cards.specs.Inside.{PassFits}
 use Rattle.ell_runs.specs.Changes.{joined_view}
 use Rattle.ell_cards.specs.Shown.{shown}
-use Rattle.ell_cards.specs.Periods.{after_give}
+use Rattle.ell_cards.specs.Epochs.{after_give}
 use Rattle.ell_cards.proofs.lemmas.lifetimes.Fits.{joined_fits}
 use Rattle.ell_cards.proofs.lemmas.seats.Opened.{of_table, own_size}
 use Rattle.ell_cards.proofs.lemmas.whole.Parting.{whole_joins}
-use Rattle.ell_cards.proofs.lemmas.whole.Places.{joined_place_fits, size_some}
+use Rattle.ell_cards.proofs.lemmas.whole.Standings.{joined_standing_fits, size_some}
 use Rattle.ell_cards.proofs.table.CardTable.join.Goals as goal
 
 pub join_seat-requires : goal.join_seat-requires
@@ -45,6 +45,6 @@ invariant_of-result g c =
           (joined_fits _ _ _ _ _ _ _ _ _ _ _ _ c.left.invariant.fits c.right.invariant.fits left_words (left_words ∙ right_words)
           c.as_slice.ensures.value c.as_slice-2.ensures.value c.in-Ok.ensures));
       bare = back.leaves.empty;
-      stands = joined_place_fits _ _ _ c.right.inside.standing.place c.left.inside.seat.me.0.period c.right.inside.seat.me.0.period _ left_words c.right.invariant.stands.place
-          (back.given ∙ ap (λ (m : Me (Unit {0}) Known). if is_some c.right.inside.standing.place then after_give m.0.period else m.0.period) now.2) c.left.invariant.stands;
+      stands = joined_standing_fits _ _ _ c.right.inside.standing.announcement c.left.inside.seat.me.0.participant c.right.inside.seat.me.0.participant _ left_words c.right.invariant.stands.announcement
+          (back.given ∙ ap (λ (m : Me (Unit {0}) Known). if is_some c.right.inside.standing.announcement then after_give m.0.participant else m.0.participant) now.2) c.left.invariant.stands;
     }

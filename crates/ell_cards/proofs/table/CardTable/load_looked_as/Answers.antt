@@ -4,7 +4,7 @@ use Rattle.ell_runs.specs.Plans.{TablePlan}
 use Rattle.ell_cards.specs.Shown.{shown}
 use Rattle.ell_cards.proofs.lemmas.seats.Opened.{stepped}
 use Rattle.ell_cards.proofs.lemmas.whole.LookTelling.{owed_looked}
-use Rattle.ell_cards.proofs.lemmas.whole.Places.{same_place}
+use Rattle.ell_cards.proofs.lemmas.whole.Standings.{same_standing}
 use Rattle.ell_cards.proofs.table.CardTable.load_looked_as.Goals as goal
 
 pub load-requires : goal.load-requires
@@ -23,5 +23,5 @@ invariant_of-pass g c =
       fits = stepped _ _ _ _ c.self.view_is c.pass.view_is c.requires.own c.self.invariant.words c.self.invariant.fit c.pass.inside.keys.items c.pass.inside.share _ _ _ g.J.TellingAll.then
           c.self.invariant.limit c.pass.invariant.fits (ap (λ i. i.words) now.0) c.requires.keeps now.2.0;
       bare = now.2.2 ∙ c.pass.invariant.bare;
-      stands = same_place _ _ _ _ _ (ap (λ i. i.words) now.0) now.2.1 c.pass.invariant.stands;
+      stands = same_standing _ _ _ _ _ (ap (λ i. i.words) now.0) now.2.1 c.pass.invariant.stands;
     }

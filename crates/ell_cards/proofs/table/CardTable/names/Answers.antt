@@ -18,7 +18,7 @@ returns-clause-short g c = subst (λ (m : PassModel). NamesLowBits m.view) c.pas
 
 pub returns-clause-slot : goal.returns-clause-slot
 returns-clause-slot g c =
-    slot_there _ _ _ _ c.self.view_is c.pass.view_is c.requires.own c.self.invariant.words c.self.invariant.fit c.pass.inside.standing c.pass.inside.seat.me.0.period refl c.pass.invariant.stands
+    slot_there _ _ _ _ c.self.view_is c.pass.view_is c.requires.own c.self.invariant.words c.self.invariant.fit c.pass.inside.standing c.pass.inside.seat.me.0.participant refl c.pass.invariant.stands
 
 pub returns-clause-tags : goal.returns-clause-tags
 returns-clause-tags g c =

@@ -1,7 +1,7 @@
 use Rattle.std.proofs.Common.{sym, subst}
 use Rattle.ell_word.specs.Node.{card}
 use Rattle.ell_cards.specs.declared.card_nodes.CardNodes.{CardNodes}
-use Rattle.ell_cards.specs.Noting.{AreTakenOut}
+use Rattle.ell_cards.specs.RetiringInSlots.{AreTakenOut}
 use Rattle.ell_runs.specs.Dead.{HasTakenOut}
 use Rattle.ell_cards.proofs.lemmas.views.DeadNodes.{so_alone}
 use Rattle.ell_cards.proofs.table.CardTable.retire_taken_out.Goals as goal

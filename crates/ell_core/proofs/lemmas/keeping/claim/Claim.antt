@@ -21,7 +21,7 @@ use Rattle.ell_core.proofs.lemmas.keeping.claim.Filling.{claimed_claims, others_
 use Rattle.ell_core.proofs.lemmas.keeping.claim.Frames.{IsJustClaimed, just_claimed, Claiming, unclaimed, before, leads_kept, leads_before, claim_stages, claim_wins, claim_words}
 use Rattle.ell_core.proofs.lemmas.keeping.claim.Words.{words_kept}
 use Rattle.ell_core.proofs.lemmas.keeping.going_on.InHand.{same_place, stands_same, unflagged_claimed}
-use Rattle.ell_core.proofs.lemmas.keeping.claim.Taking.{laid_aside}
+use Rattle.ell_core.proofs.lemmas.keeping.claim.Taking.{hand_discarded}
 use Rattle.ell_core.proofs.lemmas.keeping.claim.Workers.{worker_kept}
 use Rattle.ell_core.proofs.lemmas.keeping.claim.InsertCard.{InsertSeen, insert_claimed, insert_in_hand}
 use Rattle.ell_core.proofs.lemmas.keeping.claim.DeleteCard.{DeleteSeen, delete_claimed, delete_in_hand}
@@ -143,7 +143,7 @@ module _ (m : Machine) (stage : Stages) (i tag : ℕ) (filling : List (Field × 
           omega arith
 
       none : (c : ℕ) → (m.worker i).card ≡ Some c → ¬ ((m.worker i).flagged ≡ true)
-      none c holds flagged = false≢true (sym (laid_aside m.words.flat_from (m.worker i) c h.ready holds).1 ∙ flagged)
+      none c holds flagged = false≢true (sym (hand_discarded m.words.flat_from (m.worker i) c h.ready holds).1 ∙ flagged)
 
   -- the claimed card is an insert's or a delete's
   claimed_kind : HasKind stages m.words.next

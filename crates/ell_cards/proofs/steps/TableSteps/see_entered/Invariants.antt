@@ -1,8 +1,0 @@
-use Rattle.ell_cards.specs.Stepping.{IsTaken}
-use Rattle.ell_cards.proofs.steps.TableSteps.see_entered.Given as goal
-
-abbrev pub ghosts-load_entered_as : goal.ghosts-load_entered_as
-ghosts-load_entered_as g a = record {
-  then = λ n w. IsTaken a.self.now.plan a.call a.pass.now.view n w;
-  call = a.call;
-}

@@ -1,9 +1,0 @@
-use Rattle.std.proofs.Common.{◌∙◌, sym, ap, subst}
-use Rattle.ell_cards.specs.Periods.{slot_word}
-use Rattle.ell_cards.specs.Stepping.{MayGoOn}
-use Rattle.ell_cards.proofs.table.CardTable.load_noted.Goals as goal
-
-pub period_load-requires-clause-rule : goal.period_load-requires-clause-rule
-period_load-requires-clause-rule g c =
-    subst (λ i. MayGoOn c.args.self.now.plan c.args.seat.now.me.0 i (λ n. n) g.J.PeriodTelling.then)
-    (sym (c.slot_address.ensures.word ∙ ap (slot_word c.args.slots) c.slot_of.ensures)) c.requires.rule

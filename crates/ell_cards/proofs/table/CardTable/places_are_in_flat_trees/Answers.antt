@@ -1,5 +1,0 @@
-use Rattle.ell_cards.proofs.lemmas.whole.Words.{flat_there}
-use Rattle.ell_cards.proofs.table.CardTable.places_are_in_flat_trees.Goals as goal
-
-pub returns : goal.returns
-returns g c = flat_there _ _ c.self.view_is c.self.invariant.fit
