@@ -12,3 +12,5 @@ pub mod lifetimes
 pub mod whole
 -- what the memory of a table whose cards come back has of its tree
 pub mod refinement
+-- the same, by names of cards
+pub mod named

@@ -69,6 +69,8 @@ pub use Rattle.ell_core.specs.statements.Readers
 pub mod RefinementLaws
 pub mod LettingGo
 pub mod Refinement
+-- what the memory of a tree that grows has of it, by names of cards
+pub mod NamedRefinement
 -- that no slot stays in use for nothing
 pub mod Leaks
 -- what passes know, and what runs are, in the words of the crate below

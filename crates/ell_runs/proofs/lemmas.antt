@@ -4,6 +4,8 @@ pub mod Ranks
 pub mod words
 -- what a pass knows and was told, after what it knew and was told
 pub mod views
+-- what a pass knows, by names of cards
+pub mod named
 -- passes in their seats, and what a step owes the rule
 pub mod seats
 -- each step call as an event of the machine

@@ -17,6 +17,14 @@ pub mod Guards
 -- the step calls as one table: the word that each touches, what it does to it, its event, the change, the guard, what
 -- it tells
 pub mod Calls
+-- what a pass knows, by names of cards
+pub mod Named
+-- passes all of whose cards have names
+pub mod NamedBelow
+-- cards that are taken by name
+pub mod NamedTakings
+-- names that cards get one after the other
+pub mod Names
 -- states of a table
 pub mod States
 -- turns of its passes, and runs of a table, one turn after the other
