@@ -12,3 +12,13 @@ pub mod NamedAges
 pub mod NamedApart
 -- numbers for cards that get names
 pub mod NamedRoom
+-- words of cards that have won their flags, which stay by names
+pub mod NamedKept
+-- turns before a flag
+pub mod NamedLeads
+-- turns of a flag
+pub mod NamedFlagTurns
+-- words of a slot in hand
+pub mod NamedStores
+-- memory after the turns of a flag
+pub mod NamedFlagged
